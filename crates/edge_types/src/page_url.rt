@@ -32,7 +32,7 @@ impl Model for PageUrl {
 }
 
 impl PageUrl {
-    ghost use Rattle.edge_types.specs.Asked.{asked, resolve};
+    ghost use Rattle.edge_types.specs.Asked.{asked, resolve, authority_of};
 
     /// The URL that a text stands for by itself.
     pub fn parse(alloc: Global, text: &[u8]) -> Result<Option<PageUrl>, NoMemory>
@@ -60,6 +60,13 @@ impl PageUrl {
         ensures { result.now ≡ self.now }
     {
         self.url.as_str().as_bytes()
+    }
+
+    /// The host, with `:port` where that isn't 80. Takes no memory.
+    pub fn authority(&self) -> &[u8]
+        ensures { result.now ≡ authority_of self.now }
+    {
+        self.url.authority().as_bytes()
     }
 
     /// A second owner of the URL.

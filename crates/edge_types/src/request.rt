@@ -38,3 +38,44 @@ impl Request {
         })
     }
 }
+
+ghost use Rattle.edge_types.specs.Query.{query_of};
+
+/// The byte before a query string.
+pub const QUERY_MARK: u8 = b'?';
+/// The byte before a fragment identifier.
+pub const FRAGMENT_MARK: u8 = b'#';
+
+/// The query string of a target or URL: of the text before its first `#`, what follows the first
+/// `?`; empty without one. Takes no memory.
+pub fn query_of(text: &[u8]) -> &[u8]
+    ensures { result.now ≡ query_of text.now }
+{
+    let before = &text[..place_of(FRAGMENT_MARK, text)];
+    let mark = place_of(QUERY_MARK, before);
+    if mark < before.len() {
+        &before[mark + 1..]
+    } else {
+        &[]
+    }
+}
+
+ghost use Rattle.std.specs.Prelude.{◌==◌, ◌≤◌, length, position};
+ghost use Rattle.std.specs.List.{position_or_len};
+
+// The place of the first such byte, or the length where there is none.
+fn place_of(byte: u8, text: &[u8]) -> usize
+    ensures first { result ≡ position_or_len (λ b. b == byte) text.now }
+    ensures within { result ≤ length text.now }
+{
+    match position_of(byte, text) {
+        Some(at) => at,
+        None => text.len(),
+    }
+}
+
+fn position_of(byte: u8, text: &[u8]) -> Option<usize>
+    ensures { result ≡ position (λ b. b == byte) text.now }
+{
+    text.iter().position(|b| *b == byte)
+}

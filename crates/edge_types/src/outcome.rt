@@ -1,0 +1,63 @@
+//! What a page comes to.
+
+ghost use Rattle.std.specs.Prelude.{◌≡◌};
+
+use crate::octets::Octets;
+use crate::page_body::PageBody;
+
+/// A finished page, or the one fault that keeps it from being one.
+#[derive(Drop)]
+pub enum Outcome {
+    /// The page.
+    Page {
+        /// The HTTP status.
+        status: u16,
+        /// The `Content-Type` field; empty for an absent one.
+        content_type: Octets,
+        /// The body.
+        body: PageBody,
+    },
+    /// The fault.
+    Fault(PageFault),
+}
+
+/// Why a page can't be assembled.
+#[derive(Clone, Copy, Debug, Drop, PartialEq, Eq)]
+pub enum PageFault {
+    /// The page itself could not be had.
+    PageFetch,
+    /// The page is no template; the place, in bytes, at which it stops beginning one.
+    BadTemplate(usize),
+    /// An include without an alternative failed.
+    IncludeFailed,
+    /// The page tries more includes than the edge allows.
+    TooManyLegs,
+}
+
+impl PageFault {
+    ghost use Rattle.edge_types.specs.Outcome.{number_of, name_of};
+
+    /// The fault's number, from 1. Takes no memory.
+    pub fn number(&self) -> u8
+        ensures { result ≡ number_of self.now }
+    {
+        match self {
+            PageFault::PageFetch => 1,
+            PageFault::BadTemplate(_) => 2,
+            PageFault::IncludeFailed => 3,
+            PageFault::TooManyLegs => 4,
+        }
+    }
+
+    /// The fault's name. Takes no memory.
+    pub fn name(&self) -> &'static str
+        ensures { result.now ≡ name_of self.now }
+    {
+        match self {
+            PageFault::PageFetch => "PageFetch",
+            PageFault::BadTemplate(_) => "BadTemplate",
+            PageFault::IncludeFailed => "IncludeFailed",
+            PageFault::TooManyLegs => "TooManyLegs",
+        }
+    }
+}

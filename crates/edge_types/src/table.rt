@@ -1,0 +1,119 @@
+//! What origins answer, as a whole. Clauses see the list of the answers, in the order in which
+//! they were put in; no URL is answered twice.
+
+ghost use Rattle.std.specs.Prelude.{◌≡◌, ◌++◌, ◌∷◌, [], IsSome, IsErrAnd, OnOk, OnErr, ◌↔◌, IfErr, IfSome, IfNone, None};
+ghost use Rattle.std.specs.Arc.{arc_value};
+
+use crate::answer::Answer;
+use crate::no_memory::NoMemory;
+use crate::page_url::PageUrl;
+use crate::shared_answer::SharedAnswer;
+use std::alloc::Global;
+use std::collections::BTreeMap;
+use std::marker::Model;
+use std::sync::Arc;
+
+/// Answers by their URLs.
+#[derive(Drop)]
+pub struct Table {
+    answers: Vec<SharedAnswer>,
+    // The place of each URL's answer.
+    places: BTreeMap<PageUrl, usize>,
+}
+
+impl Model for Table {
+    ghost use Rattle.std.specs.Prelude.{List};
+    ghost use Rattle.edge_types.specs.Answered.{Answered};
+    ghost use Rattle.edge_types.specs.Places.{Places};
+
+    ghost Value = { List Answered };
+
+    ghost view = { λ t. t.answers.items };
+
+    ghost invariant = { λ t. Places t.places t.answers.items };
+}
+
+/// Why a table doesn't take an answer.
+#[derive(Clone, Copy, Debug, Drop, PartialEq, Eq)]
+pub enum InsertFault {
+    /// The table has an answer of that URL.
+    Twice,
+    /// A growth was refused.
+    NoMemory,
+}
+
+impl Table {
+    ghost use Rattle.edge_types.specs.Table.{answer_of, IsTable};
+    ghost use Rattle.std.specs.Option.{option_copied};
+
+    /// A table of no answers. Takes no memory.
+    pub fn new(alloc: Global) -> Table
+        ensures { result ≡ [] }
+    {
+        Table {
+            answers: Vec::new(alloc),
+            places: BTreeMap::new(alloc),
+        }
+    }
+
+    // The place of a URL's answer.
+    fn place(&self, url: &PageUrl) -> Option<usize>
+        ensures value { result ≡ position (is_of url.now) self.now }
+        ensures once { IsTable self.now }
+    {
+        self.places.get(url).copied()
+    }
+
+    /// The answer of a URL; none where the table has none. Takes no memory.
+    pub fn get(&self, url: &PageUrl) -> Option<&Arc<Answer>>
+        ensures none { IfNone result (answer_of self.now url.now ≡ None) }
+        ensures some { IfSome result (λ answer. answer_of self.now url.now ≡ Some (arc_value answer.now)) }
+        ensures once { IsTable self.now }
+    {
+        match self.place(url) {
+            Some(at) => Some(self.answers[at].as_arc()),
+            None => None,
+        }
+    }
+
+    fn has(&self, url: &PageUrl) -> bool
+        ensures { result ≡ is_some (answer_of self.now url.now) }
+    {
+        self.get(url).is_some()
+    }
+
+    /// Takes an answer in.
+    ///
+    /// `Twice` where the table has an answer of that URL, else `NoMemory` where a growth is
+    /// refused. A refusal hands the answer back and leaves the table as it was.
+    pub fn insert(&mut self, answer: Arc<Answer>) -> Result<(), (InsertFault, Arc<Answer>)>
+        ensures ok { OnOk result (self.new ≡ self.old ++ arc_value answer ∷ []) }
+        ensures twice { IsErrAnd result (λ (fault, back). fault ≡ InsertFault.Twice) ↔ IsSome (answer_of self.old (arc_value answer).url) }
+        ensures err { IfErr result (λ (fault, back). (self.new ≡ self.old) × (back ≡ answer)) }
+    {
+        if self.has(answer.url()) {
+            return Err((InsertFault::Twice, answer));
+        }
+        match self.add(&answer) {
+            Ok(()) => Ok(()),
+            Err(NoMemory) => Err((InsertFault::NoMemory, answer)),
+        }
+    }
+
+    // Takes in an answer of a URL that has none.
+    fn add(&mut self, answer: &Arc<Answer>) -> Result<(), NoMemory>
+        requires { answer_of self.old (arc_value answer.now).url ≡ None }
+        ensures ok { OnOk result (self.new ≡ self.old ++ arc_value answer.now ∷ []) }
+        ensures err { OnErr result (self.new ≡ self.old) }
+    {
+        let kept = SharedAnswer::of(Arc::try_clone(answer)?);
+        let url = answer.url().share()?;
+        self.answers.reserve(1)?;
+        self.places.insert(url, self.answers.len())?;
+        self.answers.push(kept).unwrap();
+        Ok(())
+    }
+}
+
+ghost use Rattle.edge_types.specs.Table.{is_of};
+ghost use Rattle.std.specs.Prelude.{position, Some, is_some};
