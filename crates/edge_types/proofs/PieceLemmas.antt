@@ -3,7 +3,7 @@ use Rattle.std.proofs.Common.{◌≡◌, ℕ, ◌+◌, ◌<◌, ◌≤◌, List,
 use Rattle.std.proofs.lemmas.List.{take-append-drop, take_more, take_all, length-drop}
 use Rattle.std.proofs.lemmas.List.Folds.{concat-append}
 use Rattle.std.specs.List.{concat}
-use Rattle.edge_types.specs.Pieces.{joined, with_piece}
+use Rattle.edge_types.specs.Pieces.{joined}
 
 pub joined-append : (ps qs : List (List ℕ)) → length (joined (ps ++ qs)) ≡ length (joined ps) + length (joined qs)
 joined-append ps qs = ap length (concat-append ps qs) ∙ length-append (concat ps) (concat qs)

@@ -1,5 +1,5 @@
 -- Where answers stand in a table.
-use Rattle.std.proofs.Common.{◌≡◌, ◌≢◌, ℕ, ◌+◌, ◌<◌, ◌≤◌, Bool, true, false, List, [], ◌∷◌, ◌++◌, length, Option, Some, None, find, position, get_or, slice_get, refl, sym, ◌∙◌, ap, arith, nat_lt, cond, eqb, bytes_eq, length-append, subst}
+use Rattle.std.proofs.Common.{◌≡◌, ◌≢◌, ℕ, ◌+◌, ◌<◌, ◌≤◌, Bool, true, false, List, [], ◌∷◌, ◌++◌, length, Option, Some, None, find, position, get_or, slice_get, refl, sym, ◌∙◌, ap, arith, nat_lt, cond, eqb, length-append, subst}
 use Rattle.std.proofs.lemmas.Grind.{common_steps}
 use Rattle.std.proofs.lemmas.List.Folds.{find_at, position_or_len_push}
 use Rattle.std.proofs.lemmas.List.Sums.{prefix_len-le-length, fails_before_first}
@@ -13,7 +13,7 @@ use Rattle.std.specs.List.{position_or_len}
 use Rattle.std.specs.Ordering.{nat_cmp}
 use Rattle.edge_types.specs.Answered.{Answered}
 use Rattle.edge_types.specs.Places.{Places}
-use Rattle.edge_types.specs.Table.{answer_of, is_of, IsTable}
+use Rattle.edge_types.specs.Table.{is_of, IsTable}
 
 some : (b : Bool) (m n : ℕ) → cond b (Some n) None ≡ Some m → n ≡ m
 some true m n e = cc
@@ -57,8 +57,8 @@ past n len h = grind (arith, common_steps)
 pub position-push_found : {X : Type 0} (p : X → Bool) (xs : List X) (y : X) → position p xs ≡ None → p y ≡ true → position p (xs ++ y ∷ []) ≡ Some (length xs)
 position-push_found p xs y e h =
     below (position_or_len p (xs ++ y ∷ [])) (length xs) (length (xs ++ y ∷ []))
-        (position_or_len_push p xs y ∙ here (position_or_len p xs) (length xs) (p y) (position_or_len-none p xs e) h)
-        (omega (arith, length-append xs (y ∷ [])))
+    (position_or_len_push p xs y ∙ here (position_or_len p xs) (length xs) (p y) (position_or_len-none p xs e) h)
+    (omega (arith, length-append xs (y ∷ [])))
   where
     here : (n len : ℕ) (b : Bool) → n ≡ len → b ≡ true → cond (eqb n len) (len + cond b 0 1) n ≡ len
     here n len true same is = grind (arith, common_steps)
@@ -77,8 +77,10 @@ position-push_other {X} p xs y h = by_place (position p xs) refl
     absent : (n len : ℕ) (b : Bool) → n ≡ len → b ≡ false → cond (eqb n len) (len + cond b 0 1) n ≡ len + 1
     absent n len true same is = absurd (cc)
     absent n len false same is = grind (arith, common_steps)
+
     present : (n len m : ℕ) → n < len → cond (eqb n len) m n ≡ n
     present n len m below = grind (arith, common_steps)
+
     by_place : (at : Option ℕ) → position p xs ≡ at → position p (xs ++ y ∷ []) ≡ position p xs
     by_place None is =
         let end : position_or_len p (xs ++ y ∷ []) ≡ length xs + 1 = position_or_len_push p xs y ∙ absent (position_or_len p xs) (length xs) (p y) (position_or_len-none p xs is) h in
@@ -97,8 +99,8 @@ fails p xs e k d h = fails_before_first p xs k d (let end : position_or_len p xs
 pub IsTable-push : (answers : List Answered) (answer : Answered) → position (is_of answer.url) answers ≡ None → IsTable answers → IsTable (answers ++ answer ∷ [])
 IsTable-push answers answer e once =
     all_pairs_push (λ earlier later. earlier.url ≢ later.url) answers answer once (λ k d h same.
-        let differs : is_of answer.url (get_or answers k d) ≡ false = fails (is_of answer.url) answers e k d h in
-        true_is_not_false (sym ((bytes_eq-Decides (get_or answers k d).url answer.url).1 same) ∙ differs))
+    let differs : is_of answer.url (get_or answers k d) ≡ false = fails (is_of answer.url) answers e k d h in
+    true_is_not_false (sym ((bytes_eq-Decides (get_or answers k d).url answer.url).1 same) ∙ differs))
   where
     true_is_not_false : true ≡ false → ⊥
     true_is_not_false e = cc
@@ -108,12 +110,13 @@ pub Places-push : (before after : BTreeMap (List ℕ) ℕ) (answers : List Answe
     → ((url : List ℕ) → get (slice_cmp nat_cmp) after url ≡ cond (is_at (slice_cmp nat_cmp answer.url) url) (Some (length answers)) (get (slice_cmp nat_cmp) before url))
     → Places after (answers ++ answer ∷ [])
 Places-push before after answers answer old e updates = record {
-    found = λ url. updates url ∙ by_test url (is_at (slice_cmp nat_cmp answer.url) url) refl;
-    once = IsTable-push answers answer none_yet old.once;
-  }
+  found = λ url. updates url ∙ by_test url (is_at (slice_cmp nat_cmp answer.url) url) refl;
+  once = IsTable-push answers answer none_yet old.once;
+}
   where
     none_yet : position (is_of answer.url) answers ≡ None
     none_yet = position-none (is_of answer.url) answers e
+
     by_test : (url : List ℕ) (b : Bool) → is_at (slice_cmp nat_cmp answer.url) url ≡ b → cond b (Some (length answers)) (get (slice_cmp nat_cmp) before url) ≡ position (is_of url) (answers ++ answer ∷ [])
     by_test url true is =
         let matches : is_of url answer ≡ true = sym (is_eq-slice_cmp answer.url url) ∙ is in

@@ -1,5 +1,5 @@
 -- The index of a table.
-use Rattle.std.specs.Prelude.{◌≡◌, ℕ, ◌<◌, List, length, position, slice_index_or}
+use Rattle.std.specs.Prelude.{◌≡◌, ℕ, List, position}
 use Rattle.std.specs.Ordering.{nat_cmp}
 use Rattle.std.specs.Cmp.Lexicographic.{slice_cmp}
 use Rattle.std.specs.BTreeMap.{BTreeMap, get}

@@ -126,7 +126,9 @@ impl Answer {
         match &self.reply {
             Reply::Failed => false,
             Reply::Got {
-                status, control, ..
+                status,
+                control,
+                ..
             } => is_success(*status) && control.esi,
         }
     }

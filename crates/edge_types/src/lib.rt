@@ -23,3 +23,6 @@ pub use page_url::PageUrl;
 pub use request::{Request, query_of};
 pub use shared_answer::SharedAnswer;
 pub use table::{InsertFault, Table};
+
+#[cfg(test)]
+mod tests;

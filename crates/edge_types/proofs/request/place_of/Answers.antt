@@ -1,4 +1,4 @@
-use Rattle.std.proofs.Common.{sym, ◌==◌, ◌∙◌}
+use Rattle.std.proofs.Common.{sym, ◌==◌}
 use Rattle.edge_types.proofs.QueryLemmas.{position_or_len-some, position_or_len-none}
 use Rattle.edge_types.proofs.request.place_of.Goals as goal
 

@@ -1,6 +1,6 @@
-use Rattle.std.proofs.Common.{◌≡◌, ◌≢◌, ◌+◌, length, rules, [], ap, ◌∙◌}
+use Rattle.std.proofs.Common.{◌≢◌, length, rules, [], ap, ◌∙◌}
 use Rattle.std.proofs.lemmas.List.Elements.{All-push}
-use Rattle.edge_types.specs.Pieces.{joined, IsPiece}
+use Rattle.edge_types.specs.Pieces.{IsPiece}
 use Rattle.edge_types.proofs.PieceLemmas.{joined-pushed}
 use Rattle.edge_types.proofs.page_body.PageBody.push.Goals as goal
 

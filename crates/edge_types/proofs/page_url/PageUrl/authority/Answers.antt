@@ -1,4 +1,4 @@
-use Rattle.std.proofs.Common.{sym, ◌∙◌, ap, ◌≡◌}
+use Rattle.std.proofs.Common.{sym, ◌∙◌, ap}
 use Rattle.url.specs.Parts.{Parts, text_between}
 use Rattle.url.specs.declared.slicing.Position.TheVariants.{BeforeUsername, AfterPort}
 use Rattle.edge_types.proofs.AskedLemmas.{authority-host_and_port, authority-of, base-known}

@@ -1,0 +1,302 @@
+// Worked examples: expected values come from the URL Standard and from the edge's own rules.
+use crate::{
+    Answer, Control, InsertFault, NoMemory, Octets, PageBody, PageFault, PageUrl, Reply, Request,
+    SharedAnswer, Table, query_of,
+};
+use std::alloc::Global;
+use std::process::Abort;
+use std::sync::Arc;
+use std::test::Fail;
+
+const PLAIN: Control = Control {
+    no_store: false,
+    max_age: None,
+    extension: 0,
+    esi: false,
+};
+
+fn octets(alloc: Global, text: &str) -> Result<Octets, NoMemory> {
+    Ok(Octets::of(text.as_bytes().to_vec(alloc)?))
+}
+
+fn url(rt: &impl Abort, alloc: Global, text: &str) -> Result<PageUrl, NoMemory> {
+    Ok(PageUrl::parse(alloc, text.as_bytes())?.expect(rt, "a URL"))
+}
+
+fn answer(
+    rt: &impl Abort,
+    alloc: Global,
+    at: &str,
+    status: u16,
+    control: Control,
+    body: &str,
+) -> Result<Arc<Answer>, NoMemory> {
+    let got = Answer::got(
+        url(rt, alloc, at)?,
+        status,
+        octets(alloc, "text/html")?,
+        control,
+        octets(alloc, body)?,
+    );
+    Ok(Arc::new(alloc, got.expect(rt, "an answer"))?)
+}
+
+#[test]
+fn urls_are_parsed_and_resolved(rt: HostRuntime) -> Result<(), Fail> {
+    let alloc = rt.alloc();
+    let parsed: [(&str, Option<&str>); 9] = [
+        ("http://A.test:80/a/../p#f", Some("http://a.test/p")),
+        ("http://a.test", Some("http://a.test/")),
+        (" http://a.test/p\n", Some("http://a.test/p")),
+        ("http://@a.test/", Some("http://a.test/")),
+        ("http://:@a.test/", Some("http://a.test/")),
+        ("http://:p@a.test/", None),
+        ("http://u@a.test/", None),
+        ("https://a.test/", None),
+        ("/p", None),
+    ];
+    for (text, want) in parsed {
+        let found = PageUrl::parse(alloc, text.as_bytes())?;
+        let bytes = found.as_ref().map(|u| u.as_bytes());
+        assert_eq!(rt; bytes, want.map(|w| w.as_bytes()), "parse {text:?}");
+    }
+    let base = url(&rt, alloc, "http://a.test/d/p")?;
+    let resolved: [(&str, Option<&str>); 6] = [
+        ("x?y", Some("http://a.test/d/x?y")),
+        ("", Some("http://a.test/d/p")),
+        ("//b.test/q", Some("http://b.test/q")),
+        ("/x#f", Some("http://a.test/x")),
+        ("https://b.test/", None),
+        ("http://u:p@b.test/", None),
+    ];
+    for (text, want) in resolved {
+        let found = base.resolve(alloc, text.as_bytes())?;
+        let bytes = found.as_ref().map(|u| u.as_bytes());
+        assert_eq!(rt; bytes, want.map(|w| w.as_bytes()), "resolve {text:?}");
+    }
+    Ok(())
+}
+
+// The text with this byte after it, up to this length.
+fn filled(alloc: Global, text: &str, byte: u8, len: usize) -> Result<Vec<u8>, NoMemory> {
+    let mut long = text.as_bytes().to_vec(alloc)?;
+    let missing = len.saturating_sub(long.len());
+    for _ in 0..missing {
+        long.push(byte)?;
+    }
+    Ok(long)
+}
+
+#[test]
+fn urls_have_limits(rt: HostRuntime) -> Result<(), Fail> {
+    let alloc = rt.alloc();
+    for (byte, len, want) in [
+        (b'p', 2048, true),
+        (b'p', 2049, false),
+        (b' ', 8192, true),
+        (b' ', 8193, false),
+        (0xff, 30, false),
+    ] {
+        let text = filled(alloc, "http://a.test/", byte, len)?;
+        let found = PageUrl::parse(alloc, text.as_slice())?;
+        assert_eq!(rt; found.is_some(), want, "{byte} up to {len}");
+    }
+    Ok(())
+}
+
+#[test]
+fn authorities_leave_out_the_usual_port(rt: HostRuntime) -> Result<(), Fail> {
+    let alloc = rt.alloc();
+    for (text, want) in [
+        ("http://a.test:80/p", "a.test"),
+        ("http://a.test:8080/p?q", "a.test:8080"),
+        ("http://[::1]:8080/", "[::1]:8080"),
+        ("http://[0:0::1]/", "[::1]"),
+    ] {
+        let found = url(&rt, alloc, text)?;
+        assert_eq!(rt; found.authority(), want.as_bytes(), "{text}");
+    }
+    Ok(())
+}
+
+#[test]
+fn urls_compare_by_their_bytes(rt: HostRuntime) -> Result<(), Fail> {
+    let alloc = rt.alloc();
+    let first = url(&rt, alloc, "http://a.test/1")?;
+    let second = url(&rt, alloc, "http://a.test/2")?;
+    assert!(rt; first == first.share()?);
+    assert!(rt; first != second);
+    assert!(rt; first < second);
+    Ok(())
+}
+
+#[test]
+fn queries_stand_between_two_marks(rt: HostRuntime) -> Result<(), Fail> {
+    for (text, want) in [
+        ("/p?q=1", "q=1"),
+        ("/p?a?b#c?d", "a?b"),
+        ("/p#f?q", ""),
+        ("/p", ""),
+        ("/p?", ""),
+        ("", ""),
+    ] {
+        assert_eq!(rt; query_of(text.as_bytes()), want.as_bytes(), "{text}");
+    }
+    Ok(())
+}
+
+#[test]
+fn answers_have_limits(rt: HostRuntime) -> Result<(), Fail> {
+    let alloc = rt.alloc();
+    for (status, byte, type_len, body_len, want) in [
+        (200, b't', 256, 262_144, true),
+        (599, b'~', 0, 0, true),
+        (199, b't', 0, 0, false),
+        (600, b't', 0, 0, false),
+        (200, b't', 257, 0, false),
+        (200, b't', 0, 262_145, false),
+        (200, b' ', 1, 0, true),
+        (200, 0x1f, 1, 0, false),
+        (200, 0x7f, 1, 0, false),
+    ] {
+        let found = Answer::got(
+            url(&rt, alloc, "http://a.test/")?,
+            status,
+            Octets::of(filled(alloc, "", byte, type_len)?),
+            PLAIN,
+            Octets::of(filled(alloc, "", b'b', body_len)?),
+        );
+        assert_eq!(rt;
+            found.is_some(),
+            want,
+            "{status} {byte} {type_len} {body_len}"
+        );
+    }
+    Ok(())
+}
+
+#[test]
+fn answers_tell_what_came(rt: HostRuntime) -> Result<(), Fail> {
+    let alloc = rt.alloc();
+    let esi = Control { esi: true, ..PLAIN };
+    for (status, control, succeeded, processed) in [
+        (200, PLAIN, true, false),
+        (299, esi, true, true),
+        (300, esi, false, false),
+        (404, PLAIN, false, false),
+    ] {
+        let found = answer(&rt, alloc, "http://a.test/x", status, control, "1")?;
+        assert_eq!(rt; found.succeeded(), succeeded, "{status}");
+        assert_eq!(rt; found.processed(), processed, "{status}");
+        assert_eq!(rt; found.url().as_bytes(), b"http://a.test/x".as_slice());
+    }
+    let failed = Answer::failed(url(&rt, alloc, "http://a.test/x")?);
+    assert!(rt; !failed.succeeded() && !failed.processed());
+    assert!(rt; matches!(failed.reply(), Reply::Failed));
+    Ok(())
+}
+
+#[test]
+fn a_table_takes_each_url_once(rt: HostRuntime) -> Result<(), Fail> {
+    let alloc = rt.alloc();
+    let mut table = Table::new(alloc);
+    for (at, want) in [
+        ("http://a.test/2", None),
+        ("http://a.test/1", None),
+        ("http://A.test/2#f", Some(InsertFault::Twice)),
+        ("http://a.test/3", None),
+    ] {
+        let fault = match table.insert(answer(&rt, alloc, at, 200, PLAIN, at)?) {
+            Ok(()) => None,
+            Err((fault, _back)) => Some(fault),
+        };
+        assert_eq!(rt; fault, want, "{at}");
+    }
+    for (at, want) in [
+        ("http://a.test/1", Some("http://a.test/1")),
+        ("http://a.test/2", Some("http://a.test/2")),
+        ("http://a.test/4", None),
+    ] {
+        let asked = url(&rt, alloc, at)?;
+        let body = match table.get(&asked).map(|a| a.reply()) {
+            Some(Reply::Got { body, .. }) => Some(body.as_bytes()),
+            _ => None,
+        };
+        assert_eq!(rt; body, want.map(|w| w.as_bytes()), "{at}");
+    }
+    Ok(())
+}
+
+#[test]
+fn a_body_is_cut_back_to_its_mark(rt: HostRuntime) -> Result<(), Fail> {
+    let alloc = rt.alloc();
+    let shared = answer(&rt, alloc, "http://a.test/x", 200, PLAIN, "fragment")?;
+    let Reply::Got { body: bytes, .. } = shared.reply() else {
+        return Ok(());
+    };
+    let end = bytes.as_bytes().len();
+    let mut body = PageBody::new(alloc);
+    assert!(rt; body.is_empty());
+    body.push_own(octets(alloc, "A")?)?;
+    body.push_own(octets(alloc, "")?)?;
+    body.push_part(&shared, 0, end)?;
+    body.push_part(&shared, end, end)?;
+    let mark = body.mark();
+    body.push_own(octets(alloc, "lost")?)?;
+    body.push_part(&shared, 0, end)?;
+    body.cut(mark);
+    body.push_own(octets(alloc, "B")?)?;
+    assert_eq!(rt; body.len(), 10);
+    for (i, want) in [
+        (0, Some("A")),
+        (1, Some("fragment")),
+        (2, Some("B")),
+        (3, None),
+    ] {
+        assert_eq!(rt; body.piece(i), want.map(|w| w.as_bytes()), "piece {i}");
+    }
+    Ok(())
+}
+
+#[test]
+fn copies_and_second_owners_are_equal(rt: HostRuntime) -> Result<(), Fail> {
+    let alloc = rt.alloc();
+    let request = Request {
+        host: octets(alloc, "a.test")?,
+        cookie: octets(alloc, "a=1")?,
+        referer: octets(alloc, "http://b.test/")?,
+        user_agent: octets(alloc, "Mozilla/4.0")?,
+        accept_language: octets(alloc, "en")?,
+        query: octets(alloc, "q=1")?,
+    };
+    let copy = request.copy(alloc)?;
+    for (found, want) in [
+        (&copy.host, "a.test"),
+        (&copy.cookie, "a=1"),
+        (&copy.referer, "http://b.test/"),
+        (&copy.user_agent, "Mozilla/4.0"),
+        (&copy.accept_language, "en"),
+        (&copy.query, "q=1"),
+    ] {
+        assert_eq!(rt; found.as_bytes(), want.as_bytes());
+    }
+    let owner = SharedAnswer::of(answer(&rt, alloc, "http://a.test/x", 204, PLAIN, "")?);
+    let second = owner.share()?;
+    assert!(rt; second.get().succeeded() && second.as_arc().succeeded());
+    assert!(rt; owner.into_arc().succeeded());
+    Ok(())
+}
+
+#[test]
+fn faults_have_numbers_and_names(rt: HostRuntime) -> Result<(), Fail> {
+    for (fault, number, name) in [
+        (PageFault::PageFetch, 1, "PageFetch"),
+        (PageFault::BadTemplate(13), 2, "BadTemplate"),
+        (PageFault::IncludeFailed, 3, "IncludeFailed"),
+        (PageFault::TooManyLegs, 4, "TooManyLegs"),
+    ] {
+        assert_eq!(rt; fault.number(), number);
+        assert_eq!(rt; fault.name(), name);
+    }
+    Ok(())
+}
