@@ -210,7 +210,7 @@ impl PageBody {
     pub fn cut(&mut self, mark: usize)
         ensures { self.new ≡ take mark self.old }
     {
-        if mark < self.pieces.len() {
+        if mark < self.mark() {
             let dropped = bytes_in(&self.pieces[mark..]);
             self.pieces.truncate(mark);
             self.len -= dropped;

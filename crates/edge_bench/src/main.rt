@@ -1,0 +1,36 @@
+//! Benchmarks of the layers. Without an argument the program lists their names; with names, or
+//! with `all`, it runs them. Each prints ratios of times taken in one run.
+#![tactic(auto)]
+
+use std::{env, io};
+
+mod tables;
+mod timing;
+
+const NAMES: [&str; 1] = ["tables"];
+
+fn main(rt: HostRuntime) -> io::Result<()> {
+    let mut named = false;
+    for word in env::args(&rt)?.skip(1) {
+        named = true;
+        let word = word.as_str();
+        for name in NAMES {
+            if word == name || word == "all" {
+                run(&rt, name)?;
+            }
+        }
+    }
+    if !named {
+        for name in NAMES {
+            println!(rt; "{name}")?;
+        }
+    }
+    Ok(())
+}
+
+fn run(rt: &HostRuntime, name: &str) -> io::Result<()> {
+    match name {
+        "tables" => tables::run(rt),
+        _ => Ok(()),
+    }
+}
