@@ -4,10 +4,14 @@
 
 use std::{env, io};
 
+mod headers;
+mod inputs;
+mod references;
+mod scanning;
 mod tables;
 mod timing;
 
-const NAMES: [&str; 1] = ["tables"];
+const NAMES: [&str; 4] = ["tables", "headers", "scanning", "references"];
 
 fn main(rt: HostRuntime) -> io::Result<()> {
     let mut named = false;
@@ -31,6 +35,9 @@ fn main(rt: HostRuntime) -> io::Result<()> {
 fn run(rt: &HostRuntime, name: &str) -> io::Result<()> {
     match name {
         "tables" => tables::run(rt),
+        "headers" => headers::run(rt),
+        "scanning" => scanning::run(rt),
+        "references" => references::run(rt),
         _ => Ok(()),
     }
 }

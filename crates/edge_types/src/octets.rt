@@ -40,7 +40,7 @@ impl Octets {
         ensures { IfOk result (λ copy. copy ≡ self.now) }
     {
         Ok(Octets {
-            bytes: self.bytes.as_slice().to_vec(alloc)?,
+            bytes: self.as_bytes().to_vec(alloc)?,
         })
     }
 }

@@ -1,0 +1,11 @@
+pub mod AcceptableLemmas
+pub mod Steps
+pub mod Lines
+pub mod Numbers
+pub mod Headings
+pub mod Entries
+pub mod AnswersLemmas
+pub mod CaseLemmas
+pub mod Writes
+pub mod Takes
+pub mod Runs

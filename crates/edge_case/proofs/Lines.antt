@@ -1,0 +1,118 @@
+-- Lines: what is read is written so, and what is written so is read.
+use Rattle.std.proofs.Common.{◌≡◌, ◌≢◌, ℕ, suc, ◌+◌, ◌<◌, true, cond, nat_lt, eqb, List, [], ◌∷◌, ◌++◌, length, take, drop, get_or, refl, sym, ◌∙◌, ap, subst, Option, Some, None, arith, position, bytes_eq, length-append, take-append-drop, add-one}
+use Rattle.std.proofs.Math.Seq.{drop-cons, take-append_seam, drop-append_seam, get_or-append_seam}
+use Rattle.std.proofs.lemmas.List.{length-take, get_or-take, get_or_append_left}
+use Rattle.std.proofs.lemmas.List.Elements.{All-from_get_or, All-get_or}
+use Rattle.std.proofs.lemmas.List.Quantifiers.{position-Some}
+use Rattle.std.proofs.lemmas.List.Sums.{position_or_len_is}
+use Rattle.std.proofs.lemmas.Bool.{eqb-true, eqb-false, eq-eqb, ne_eqb, cond-true}
+use Rattle.std.proofs.lemmas.Slice.Eq.{bytes_eq-Decides}
+use Rattle.std.proofs.lemmas.Grind.{common_steps}
+use Rattle.std.specs.List.{All, position_or_len}
+use Rattle.std.specs.Option.{option_map}
+use Rattle.edge_case.specs.declared.line.TheConstants.{LINE_FEED}
+use Rattle.edge_case.specs.Document.{line, field, IsValue, IsField}
+use Rattle.edge_case.specs.Reading.{◌>>=◌, around, after_word, line_at, some_field, field_from, field_at}
+use Rattle.edge_case.proofs.Steps.{bound, mapped, guarded, same_value}
+
+around_parts : (mark : ℕ) (text v rest : List ℕ) (i : ℕ) → i < length text → get_or text i 0 ≡ mark → ((k : ℕ) → k < i → get_or text k 0 ≡ mark → ⊥)
+    → take i text ≡ v → drop (i + 1) text ≡ rest → (text ≡ v ++ mark ∷ rest) × All (λ b. b ≢ mark) v
+around_parts mark text v rest i h at before front back =
+    let cut : drop i text ≡ get_or text i 0 ∷ drop (i + 1) text = rw (add-one, drop-cons text i 0) refl in
+    let joined : take i text ++ drop i text ≡ text = take-append-drop i text in
+    let whole : text ≡ v ++ mark ∷ rest = cc in
+    let none : All (λ b. b ≢ mark) (take i text) =
+    All-from_get_or (λ b. b ≢ mark) (take i text) 0 (λ k l e.
+    let below : k < i = omega (arith, length-take i text) in
+    before k below (sym (get_or-take i text k 0 below) ∙ e)) in
+    (whole, subst (λ (u : List ℕ). All (λ b. b ≢ mark) u) front none)
+
+pub around_sound : (mark : ℕ) (text v rest : List ℕ) → around mark text ≡ Some (v, rest) → (text ≡ v ++ mark ∷ rest) × All (λ b. b ≢ mark) v
+unfolding around
+around_sound mark text v rest h =
+    let (i, at, made) = mapped (position (λ b. eqb b mark) text) (λ n. (take n text, drop (n + 1) text)) (v, rest) h in
+    let found = position-Some (λ b. eqb b mark) text i 0 at in
+    around_parts mark text v rest i found.0 (eqb-true _ _ found.1) (λ k l. eqb-false _ _ (found.2 k l))
+    (ap (λ (p : List ℕ × List ℕ). p.0) made) (ap (λ (p : List ℕ × List ℕ). p.1) made)
+
+at_place : (n i len : ℕ) → n ≡ i → i < len → cond (nat_lt n len) (Some n) None ≡ Some i
+at_place n i len e h = grind (arith, common_steps)
+
+after_seam : (v : List ℕ) (mark : ℕ) (rest : List ℕ) → drop (length v + 1) (v ++ mark ∷ rest) ≡ rest
+after_seam [] mark rest = refl
+after_seam (b ∷ v) mark rest = let e : suc (length v) + 1 ≡ suc (length v + 1) = omega arith in rw e (after_seam v mark rest)
+
+same_pair : (a b c d : List ℕ) → a ≡ c → b ≡ d → ◌≡◌ {A = Option (List ℕ × List ℕ)} (Some (a, b)) (Some (c, d))
+same_pair a b c d e f = rw (e, f) refl
+
+pub around_complete : (mark : ℕ) (v rest : List ℕ) → All (λ b. b ≢ mark) v → around mark (v ++ mark ∷ rest) ≡ Some (v, rest)
+unfolding around
+around_complete mark v rest none =
+    let text : List ℕ = v ++ mark ∷ rest in
+    let long : length v < length (v ++ mark ∷ rest) = omega (arith, length-append v (mark ∷ rest)) in
+    let place : position_or_len (λ b. eqb b mark) (v ++ mark ∷ rest) ≡ length v =
+    position_or_len_is (λ b. eqb b mark) (v ++ mark ∷ rest) (length v) 0 (omega arith)
+    (λ k h. ne_eqb _ _ (λ e. All-get_or (λ b. b ≢ mark) v k 0 h none (sym (get_or_append_left v (mark ∷ rest) 0 k h) ∙ e)))
+    (λ h. eq-eqb _ _ (get_or-append_seam v mark rest 0)) in
+    let at : position (λ b. eqb b mark) (v ++ mark ∷ rest) ≡ Some (length v) =
+    at_place (position_or_len (λ b. eqb b mark) (v ++ mark ∷ rest)) (length v) (length (v ++ mark ∷ rest)) place long in
+    ap (option_map (λ n. (take n (v ++ mark ∷ rest), drop (n + 1) (v ++ mark ∷ rest)))) at
+    ∙ same_pair _ _ v rest (take-append_seam v (mark ∷ rest)) (after_seam v mark rest)
+
+pub after_word_sound : (word text rest : List ℕ) → after_word word text ≡ Some rest → text ≡ word ++ rest
+unfolding after_word
+after_word_sound word text rest h =
+    let (same, back) = guarded (bytes_eq (take (length word) text) word) (drop (length word) text) rest h in
+    after_parts word text rest ((bytes_eq-Decides (take (length word) text) word).0 same) back
+  where
+    after_parts : (word text rest : List ℕ) → take (length word) text ≡ word → drop (length word) text ≡ rest → text ≡ word ++ rest
+    after_parts word text rest front back =
+        let joined : take (length word) text ++ drop (length word) text ≡ text = take-append-drop (length word) text in
+        sym joined ∙ ap (λ (l : List ℕ). l ++ drop (length word) text) front ∙ ap (λ (l : List ℕ). word ++ l) back
+
+pub after_word_complete : (word rest : List ℕ) → after_word word (word ++ rest) ≡ Some rest
+unfolding after_word
+after_word_complete word rest =
+    let same : bytes_eq (take (length word) (word ++ rest)) word ≡ true = (bytes_eq-Decides (take (length word) (word ++ rest)) word).1 (take-append_seam word rest) in
+    cond-true _ _ None same ∙ ap Some (drop-append_seam word rest)
+
+pub line_at_sound : (word text v rest : List ℕ) → line_at word text ≡ Some (v, rest) → (text ≡ line word v rest) × IsValue v
+unfolding line_at
+line_at_sound word text v rest h =
+    let (after, is, found) = bound (after_word word text) (λ value. around LINE_FEED value) (v, rest) h in
+    let parts = around_sound LINE_FEED after v rest found in
+    (after_word_sound word text after is ∙ ap (λ (t : List ℕ). word ++ t) parts.0, parts.1)
+
+pub line_at_complete : (word v rest : List ℕ) → IsValue v → line_at word (line word v rest) ≡ Some (v, rest)
+unfolding line_at
+line_at_complete word v rest value =
+    ap (λ o. o >>= (λ value. around LINE_FEED value)) (after_word_complete word (v ++ LINE_FEED ∷ rest)) ∙ around_complete LINE_FEED v rest value
+
+field_cases : (word text : List ℕ) (o : Option (List ℕ)) → after_word word text ≡ o → (f : Option (List ℕ)) (rest : List ℕ) → field_from text o ≡ Some (f, rest) → (text ≡ field word f rest) × IsField f
+field_cases word text None is f rest h =
+    let both : ◌≡◌ {A = Option (List ℕ) × List ℕ} (None, text) (f, rest) = same_value _ _ h in
+    let none : None ≡ f = ap (λ (p : Option (List ℕ) × List ℕ). p.0) both in
+    let same : text ≡ rest = ap (λ (p : Option (List ℕ) × List ℕ). p.1) both in
+    subst (λ (g : Option (List ℕ)). (text ≡ field word g rest) × IsField g) none (same, tt)
+field_cases word text (Some value) is f rest h =
+    let (l, found, made) = mapped (around LINE_FEED value) some_field (f, rest) h in
+    let parts = around_sound LINE_FEED value l.0 l.1 found in
+    let some : Some l.0 ≡ f = ap (λ (p : Option (List ℕ) × List ℕ). p.0) made in
+    let same : l.1 ≡ rest = ap (λ (p : Option (List ℕ) × List ℕ). p.1) made in
+    let whole : text ≡ line word l.0 l.1 = after_word_sound word text value is ∙ ap (λ (t : List ℕ). word ++ t) parts.0 in
+    subst (λ (g : Option (List ℕ)). (text ≡ field word g rest) × IsField g) some (whole ∙ ap (λ (t : List ℕ). line word l.0 t) same, parts.1)
+
+pub field_at_sound : (word text : List ℕ) (f : Option (List ℕ)) (rest : List ℕ) → field_at word text ≡ Some (f, rest) → (text ≡ field word f rest) × IsField f
+unfolding field_at
+field_at_sound word text f rest h = field_cases word text (after_word word text) refl f rest h
+
+pub field_at_complete : (word : List ℕ) (f : Option (List ℕ)) (rest : List ℕ) → IsField f → after_word word rest ≡ None → field_at word (field word f rest) ≡ Some (f, rest)
+unfolding field_at
+field_at_complete word None rest is lacks = ap (field_from rest) lacks
+field_at_complete word (Some v) rest is lacks =
+    ap (field_from (line word v rest)) (after_word_complete word (v ++ LINE_FEED ∷ rest)) ∙ ap (option_map some_field) (around_complete LINE_FEED v rest is)
+
+-- a text that begins with other words lacks a word
+pub lacks_field : (word other : List ℕ) (f : Option (List ℕ)) (rest : List ℕ) → ((t : List ℕ) → after_word word (other ++ t) ≡ None) → after_word word rest ≡ None → after_word word (field other f rest) ≡ None
+lacks_field word other None rest differs lacks = lacks
+lacks_field word other (Some v) rest differs lacks = differs (v ++ LINE_FEED ∷ rest)

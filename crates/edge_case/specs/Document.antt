@@ -1,0 +1,88 @@
+-- A case text by its parts, as they are written.
+use Rattle.std.specs.Prelude.{◌≢◌, ℕ, List, [], ◌∷◌, ◌++◌, length, decimal, codes, Option, Some, None}
+use Rattle.std.specs.List.{All, AllByRecursion}
+use Rattle.edge_case.specs.declared.line.TheConstants.{LINE_FEED, SPACE}
+
+-- the lines before the answers; an absent line says nothing
+pub record Heading : Type 0 where
+  pub page : List ℕ
+  pub host : Option (List ℕ)
+  pub cookie : Option (List ℕ)
+  pub referer : Option (List ℕ)
+  pub agent : Option (List ℕ)
+  pub language : Option (List ℕ)
+
+-- an answer as it is written: a failure, or what was got
+pub data Entry : Type 0 where
+  Failed : (url : List ℕ) → Entry
+  Got : (status : ℕ) (url : List ℕ) (content_type control : Option (List ℕ)) (body : List ℕ) → Entry
+
+-- the whole text
+pub record Document : Type 0 where
+  pub heading : Heading
+  pub entries : List Entry
+
+-- a word and the rest of its line, and the text that follows
+abbrev pub line : List ℕ → List ℕ → List ℕ → List ℕ
+line word value text = word ++ (value ++ LINE_FEED ∷ text)
+
+-- such a line where there is one
+abbrev pub field : List ℕ → Option (List ℕ) → List ℕ → List ℕ
+field word None text = text
+field word (Some value) text = line word value text
+
+-- the first line of what was got: status, length and URL
+abbrev pub got_line : ℕ → ℕ → List ℕ → List ℕ
+got_line status len url = decimal status ++ SPACE ∷ (decimal len ++ SPACE ∷ url)
+
+-- an answer, and the text that follows
+abbrev pub entry : Entry → List ℕ → List ℕ
+entry (Failed url) text = line (codes "failed ") url text
+entry (Got status url content_type control body) text =
+    line (codes "answer ") (got_line status (length body) url)
+    (field (codes "type ") content_type
+    (field (codes "control ") control
+    (codes "body\n" ++ (body ++ LINE_FEED ∷ text))))
+
+abbrev pub entries : List Entry → List ℕ → List ℕ
+entries [] text = text
+entries (e ∷ es) text = entry e (entries es text)
+
+-- the lines before the answers, and the text that follows
+abbrev pub heading : Heading → List ℕ → List ℕ
+heading h text =
+    line (codes "page ") h.page
+    (field (codes "host ") h.host
+    (field (codes "cookie ") h.cookie
+    (field (codes "referer ") h.referer
+    (field (codes "agent ") h.agent
+    (field (codes "language ") h.language text)))))
+
+-- the text that a document is written as
+abbrev pub spelling : Document → List ℕ
+spelling d = heading d.heading (entries d.entries (codes "end\n"))
+
+-- what a line may say: any bytes but a line feed
+abbrev pub IsValue : List ℕ → Type 0
+IsValue value = All (λ b. b ≢ LINE_FEED) value
+
+abbrev pub IsField : Option (List ℕ) → Type 0
+IsField None = Unit {0}
+IsField (Some value) = IsValue value
+
+pub record IsHeading (h : Heading) : Type 0 where
+  pub page : IsValue h.page
+  pub host : IsField h.host
+  pub cookie : IsField h.cookie
+  pub referer : IsField h.referer
+  pub agent : IsField h.agent
+  pub language : IsField h.language
+
+abbrev pub IsEntry : Entry → Type 0
+IsEntry (Failed url) = IsValue url
+IsEntry (Got status url content_type control body) = IsValue url × IsField content_type × IsField control
+
+-- each line says what a line may say
+pub record IsDocument (d : Document) : Type 0 where
+  pub heading : IsHeading d.heading
+  pub entries : AllByRecursion IsEntry d.entries

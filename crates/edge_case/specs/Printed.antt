@@ -1,0 +1,33 @@
+-- The printed form of what a page comes to.
+use Rattle.std.specs.Prelude.{ℕ, List, [], ◌∷◌, ◌++◌, length, decimal, codes}
+use Rattle.edge_types.specs.declared.outcome.PageFault.{PageFault}
+use Rattle.edge_types.specs.declared.outcome.PageFault.TheVariants.{PageFetch, BadTemplate, IncludeFailed, TooManyLegs}
+use Rattle.edge_types.specs.Outcome.{Shown, Page, Fault, number_of, name_of}
+use Rattle.edge_case.specs.declared.line.TheConstants.{LINE_FEED, SPACE}
+use Rattle.edge_case.specs.declared.ending.CaseEnd.{CaseEnd}
+use Rattle.edge_case.specs.declared.ending.CaseEnd.TheVariants.{PagePrinted, FaultPrinted}
+
+-- status, length of the body and content type, on a line
+abbrev pub page_line : ℕ → ℕ → List ℕ → List ℕ
+page_line status len content_type = decimal status ++ SPACE ∷ (decimal len ++ SPACE ∷ (content_type ++ LINE_FEED ∷ []))
+
+-- the place of a fault that has one
+abbrev pub place_of : PageFault → List ℕ
+place_of PageFetch = []
+place_of (BadTemplate at) = SPACE ∷ decimal at
+place_of IncludeFailed = []
+place_of TooManyLegs = []
+
+-- the fault's number, name and place, on a line
+abbrev pub fault_line : PageFault → List ℕ
+fault_line fault = codes "fault " ++ (decimal (number_of fault) ++ SPACE ∷ (name_of fault ++ (place_of fault ++ LINE_FEED ∷ [])))
+
+-- a page as its line and its body, or a fault as its line
+abbrev pub printed : Shown → List ℕ
+printed (Page status content_type body) = page_line status (length body) content_type ++ body
+printed (Fault fault) = fault_line fault
+
+-- how a run ends that printed this
+abbrev pub end_of : Shown → CaseEnd
+end_of (Page status content_type body) = PagePrinted
+end_of (Fault fault) = FaultPrinted

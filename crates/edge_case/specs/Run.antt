@@ -1,0 +1,37 @@
+-- Running a case: what is read, and what is written for it.
+use Rattle.std.specs.Prelude.{◌≡◌, ℕ, List, Option, IfSome}
+use Rattle.std.specs.Io.KnownBytes.{Appends}
+use Rattle.edge_types.specs.Outcome.{Shown}
+use Rattle.esi_meaning.specs.Meaning.{outcome}
+use Rattle.edge_case.specs.declared.case_text.Case.{Case}
+use Rattle.edge_case.specs.declared.ending.CaseEnd.{CaseEnd}
+use Rattle.edge_case.specs.Case.{IsCaseText}
+use Rattle.edge_case.specs.Bytes.{IsInput, AppendsPart}
+use Rattle.edge_case.specs.Printed.{printed, end_of}
+
+-- what a case comes to
+abbrev pub outcome_of : Case → ℕ → Shown
+outcome_of case levels = outcome case.request case.table levels case.url
+
+-- the whole input is a text of this case
+pub record Reads (known : Option (List ℕ)) (case : Case) : Type 0 where
+  pub input : List ℕ
+  pub whole : IsInput known input
+  pub text : IsCaseText input case
+
+-- the input, where the reader tells it, is no case text
+abbrev pub IsNoCase : Option (List ℕ) → Type 0
+IsNoCase known = IfSome known (λ input. (case : Case) → IsCaseText input case → ⊥)
+
+-- the printed form of what the input's case comes to was written, and nothing else
+pub record Prints (levels : ℕ) (known before after : Option (List ℕ)) (end : CaseEnd) : Type 0 where
+  pub case : Case
+  pub read : Reads known case
+  pub ended : end ≡ end_of (outcome_of case levels)
+  pub written : Appends before after (printed (outcome_of case levels))
+
+-- a first part of it was written
+pub record PrintsPart (levels : ℕ) (known before after : Option (List ℕ)) : Type 0 where
+  pub case : Case
+  pub read : Reads known case
+  pub written : AppendsPart before after (printed (outcome_of case levels))

@@ -1,0 +1,20 @@
+//! Case texts: a page's URL, a reader's request and the answers of origins in one text, which is
+//! read, evaluated and printed.
+#![tactic(auto)]
+
+mod answers;
+mod bytes;
+pub mod case_text;
+pub mod ending;
+mod entry;
+mod heading;
+mod input;
+mod line;
+mod number;
+mod printer;
+pub mod runner;
+mod writing;
+
+pub use case_text::Case;
+pub use ending::{CaseEnd, CaseFault};
+pub use runner::run_case;

@@ -1,0 +1,30 @@
+-- How a run of the code ends, beside the run that it stands for.
+use Rattle.std.specs.Prelude.{◌≡◌, ℕ, ◌+◌, ◌<◌, ◌≤◌, List, ◌++◌, length, Some, None}
+use Rattle.edge_types.specs.Pieces.{joined}
+use Rattle.esi_meaning.specs.declared.limits.TheConstants.{MAX_LEGS}
+use Rattle.esi_meaning.specs.declared.plain.Ending.{Ending}
+use Rattle.esi_meaning.specs.declared.plain.Ending.TheVariants.{Complete, Failed, TooManyLegs}
+use Rattle.esi_meaning.specs.declared.plain.Progress.{Progress}
+use Rattle.esi_meaning.specs.Run.{Run}
+
+-- the count of legs grows by those of the run, within the limit
+pub record Counts (run : Run) (old new : ℕ) : Type 0 where
+  pub sum : new ≡ old + length run.legs
+  pub few : new ≤ MAX_LEGS
+
+-- pieces of this text stand after those that were there
+pub record Adds (text : List ℕ) (old new : List (List ℕ)) : Type 0 where
+  pub pieces : List (List ℕ)
+  pub behind : new ≡ old ++ pieces
+  pub spell : joined pieces ≡ text
+
+-- the run's text stands after what was there
+pub record Gives (run : Run) (old new : List (List ℕ)) : Type 0 where
+  pub text : List ℕ
+  pub gave : run.text ≡ Some text
+  pub added : Adds text old new
+
+abbrev pub Ends : Run → Progress → Progress → Ending → Type 0
+Ends run old new Complete = Gives run old.body new.body × Counts run old.legs new.legs
+Ends run old new Failed = (run.text ≡ None) × (new.body ≡ old.body) × Counts run old.legs new.legs
+Ends run old new TooManyLegs = MAX_LEGS < old.legs + length run.legs

@@ -1,0 +1,117 @@
+-- The sequential meaning of a page: what each element gives, which legs it tries, and the outcome.
+use Rattle.std.specs.Prelude.{ℕ, zero, suc, ◌≤◌, Bool, true, false, nat_lt, List, [], ◌∷◌, length, take, Option, Some, None, Result, Ok, Err, if◌then◌else◌}
+use Rattle.edge_types.specs.declared.request.Request.{Request}
+use Rattle.edge_types.specs.declared.answer.Reply.{Reply}
+use Rattle.edge_types.specs.declared.answer.Reply.TheVariants.{Failed, Got}
+use Rattle.edge_types.specs.declared.outcome.PageFault.TheVariants.{PageFetch, BadTemplate, IncludeFailed, TooManyLegs}
+use Rattle.edge_types.specs.Answered.{Answered, succeeded, processed, body_of}
+use Rattle.edge_types.specs.Asked.{resolve}
+use Rattle.edge_types.specs.Table.{reply_of}
+use Rattle.edge_types.specs.Outcome.{Shown, Page, Fault}
+use Rattle.esi_tree.specs.Tree.{Element, Text, Include, Elements, End, Then}
+use Rattle.esi_tree.specs.Reading.{tree_of}
+use Rattle.esi_meaning.specs.declared.limits.TheConstants.{MAX_LEGS, MIN_LEVELS, MAX_LEVELS}
+use Rattle.esi_meaning.specs.Run.{Leg, Run, gives, tries, joined, or_else}
+
+-- What the elements give, where `leg` says what a `src` or an `alt` comes to.
+
+-- an alt, where it is given
+abbrev pub alt_run : (List ℕ → Run) → Option (List ℕ) → Run
+alt_run leg None = gives None
+alt_run leg (Some alt) = leg alt
+
+-- an include that can't be had
+abbrev pub on_error : Bool → Run
+on_error true = gives (Some [])
+on_error false = gives None
+
+-- one element
+abbrev pub element_run : Request → (List ℕ → Run) → Element → Run
+element_run r leg (Text text) = gives (Some text)
+element_run r leg (Include src alt continues) = or_else (leg src) (or_else (alt_run leg alt) (on_error continues))
+
+-- elements one after another
+abbrev pub elements_run : Request → (List ℕ → Run) → Elements → Run
+elements_run r leg End = gives (Some [])
+elements_run r leg (Then first rest) = joined (element_run r leg first) (elements_run r leg rest)
+
+-- an answer that isn't processed: its body as it stands, where the fetch succeeded
+abbrev pub plain_run : Reply → Run
+plain_run reply = gives (if succeeded reply then Some (body_of reply) else None)
+
+-- A leg, one level down: `below` says what the legs of a template of the URL and the tree come to.
+module _ (r : Request) (below : List ℕ → Elements → List ℕ → Run) where
+  -- a template's text, processed
+  abbrev pub template_run : List ℕ → Result Elements ℕ → Run
+  template_run w (Ok t) = elements_run r (below w t) t
+  template_run w (Err place) = gives None
+
+  -- what an origin's reply comes to
+  abbrev pub reply_run : List ℕ → Reply → Run
+  reply_run w reply = if processed reply then template_run w (tree_of (body_of reply)) else plain_run reply
+
+  -- a leg of this URL, or of none
+  abbrev pub resolved_run : List Answered → Option (List ℕ) → Run
+  resolved_run T None = tries None (gives None)
+  resolved_run T (Some w) = tries (Some w) (reply_run w (reply_of T w))
+
+-- the leg s at level n, in the template of the URL u with the tree t
+abbrev pub leg_run : Request → List Answered → ℕ → List ℕ → Elements → List ℕ → Run
+leg_run r T zero u t s = tries None (gives None)
+leg_run r T (suc n) u t s = resolved_run r (leg_run r T n) T (resolve u s)
+
+-- the page's tree, at level n
+abbrev pub page_run : Request → List Answered → ℕ → List ℕ → Elements → Run
+page_run r T n u t = elements_run r (leg_run r T n u t) t
+
+-- the page's text under its status and content type
+abbrev pub text_outcome : ℕ → List ℕ → Option (List ℕ) → Shown
+text_outcome status content_type None = Fault IncludeFailed
+text_outcome status content_type (Some text) = Page status content_type text
+
+-- too many legs are told before a failure
+abbrev pub run_outcome : ℕ → ℕ → List ℕ → Run → Shown
+run_outcome limit status content_type run =
+    if nat_lt limit (length run.legs) then Fault TooManyLegs else text_outcome status content_type run.text
+
+-- the most legs that a page may try
+unfoldable pub most_legs : ℕ
+most_legs = MAX_LEGS
+
+-- the URLs of legs that have one
+abbrev pub urls : List Leg → List (List ℕ)
+urls [] = []
+urls (None ∷ legs) = urls legs
+urls (Some w ∷ legs) = w ∷ urls legs
+
+module _ (r : Request) (T : List Answered) (L : ℕ) (u : List ℕ) where
+  -- The legs of a page, where it is processed and a template.
+  abbrev pub tree_legs : Result Elements ℕ → List Leg
+  tree_legs (Ok t) = (page_run r T L u t).legs
+  tree_legs (Err place) = []
+
+  abbrev pub reply_legs : Reply → List Leg
+  reply_legs reply = if processed reply then tree_legs (tree_of (body_of reply)) else []
+
+  abbrev pub tree_outcome : ℕ → List ℕ → Result Elements ℕ → Shown
+  tree_outcome status content_type (Ok t) = run_outcome most_legs status content_type (page_run r T L u t)
+  tree_outcome status content_type (Err place) = Fault (BadTemplate place)
+
+  abbrev pub reply_outcome : Reply → Shown
+  reply_outcome Failed = Fault PageFetch
+  reply_outcome (Got status content_type control body) =
+      if processed (Got status content_type control body) then tree_outcome status content_type (tree_of body)
+      else Page status content_type body
+
+  -- the outcome of the page at the URL u, for the request r over the table T, at L levels
+  unfoldable pub outcome : Shown
+  outcome = reply_outcome (reply_of T u)
+
+  -- the URLs that the outcome rests on: the page's, and those among the legs that a page may try
+  unfoldable pub asked : List (List ℕ)
+  asked = u ∷ urls (take most_legs (reply_legs (reply_of T u)))
+
+-- a number of levels under a page
+pub record AreLevels (levels : ℕ) : Type 0 where
+  pub some : MIN_LEVELS ≤ levels
+  pub few : levels ≤ MAX_LEVELS

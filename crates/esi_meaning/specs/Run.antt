@@ -1,0 +1,44 @@
+-- What processing a piece of a template comes to: the legs that it tries, in order, and its text, or none where it
+-- fails. A leg is one `src` or one `alt` that is tried.
+use Rattle.std.specs.Prelude.{ℕ, List, [], ◌∷◌, ◌++◌, Option, Some, None}
+
+-- a leg's URL, or none where it asks nobody
+abbrev pub Leg : Type 0
+Leg = Option (List ℕ)
+
+pub record Run : Type 0 where
+  pub legs : List Leg
+  pub text : Option (List ℕ)
+
+-- a text, or a failure, for which no leg was tried
+abbrev pub gives : Option (List ℕ) → Run
+gives text = record { legs = []; text = text }
+
+-- a leg, and then what it comes to
+abbrev pub tries : Leg → Run → Run
+tries leg after = record { legs = leg ∷ after.legs; text = after.text }
+
+-- a run, and then one that depends on what the first gave
+abbrev pub followed : Run → (Option (List ℕ) → Run) → Run
+followed a next = record { legs = a.legs ++ (next a.text).legs; text = (next a.text).text }
+
+-- the text of the front before that of the back
+abbrev pub with_front : List ℕ → Option (List ℕ) → Option (List ℕ)
+with_front front None = None
+with_front front (Some back) = Some (front ++ back)
+
+abbrev pub behind : Run → Option (List ℕ) → Run
+behind b None = gives None
+behind b (Some front) = record { legs = b.legs; text = with_front front b.text }
+
+-- a and then b: nothing of b is tried where a fails
+abbrev pub joined : Run → Run → Run
+joined a b = followed a (behind b)
+
+abbrev pub instead : Run → Option (List ℕ) → Run
+instead b None = b
+instead b (Some text) = gives (Some text)
+
+-- a, or b where a fails: nothing of b is tried where a has a text
+abbrev pub or_else : Run → Run → Run
+or_else a b = followed a (instead b)

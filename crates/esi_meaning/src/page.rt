@@ -1,0 +1,121 @@
+//! The plain evaluator of pages.
+ghost use Rattle.std.specs.Prelude.{◌≡◌, IfOk};
+ghost use Rattle.std.specs.Arc.{arc_value};
+ghost use Rattle.edge_types.specs.Answered.{body_of};
+ghost use Rattle.edge_types.specs.Outcome.{shown};
+ghost use Rattle.edge_types.specs.Pieces.{joined};
+ghost use Rattle.esi_meaning.specs.Meaning.{outcome, AreLevels};
+ghost use Rattle.esi_meaning.specs.Plain.{answered_page, processed_page};
+
+use crate::plain::{Ending, Place, Progress, Setting, elements, push_whole};
+use edge_types::{
+    Answer, NoMemory, Octets, Outcome, PageBody, PageFault, PageUrl, Reply, Request, Table,
+};
+use esi_tree::{TreeFault, template};
+use std::alloc::Global;
+use std::sync::Arc;
+
+/// The outcome of the page at this URL, where a table has what the origins answer.
+///
+/// It is the slow evaluator, for reference: a fragment's body is read as a template anew each
+/// time that a leg reaches it. `NoMemory` where a growth was refused, which leaves nothing behind.
+///
+/// Source: ESI Language Specification 1.0, "include"; the order of the faults and the limits of
+/// legs and levels are our profile.
+#[tactic(auto, unfolding(crate::specs::Meaning::outcome))]
+pub fn plain_page(
+    alloc: Global,
+    url: &PageUrl,
+    request: &Request,
+    table: &Table,
+    levels: u8,
+) -> Result<Outcome, NoMemory>
+    requires { AreLevels levels }
+    ensures { IfOk result (λ o. shown o ≡ outcome request.now table.now levels url.now) }
+{
+    let setting = Setting {
+        alloc,
+        request,
+        table,
+    };
+    match table.get(url) {
+        Some(answer) => answered(&setting, url, levels, answer),
+        None => Ok(Outcome::Fault(PageFault::PageFetch)),
+    }
+}
+
+// The outcome of a page of this answer.
+fn answered(
+    setting: &Setting<'_>,
+    url: &PageUrl,
+    levels: u8,
+    answer: &Arc<Answer>,
+) -> Result<Outcome, NoMemory>
+    ensures { IfOk result (λ o. shown o ≡
+        answered_page setting.now levels url.now (arc_value answer.now).reply) }
+{
+    let Reply::Got {
+        status,
+        content_type,
+        body,
+        ..
+    } = answer.reply()
+    else {
+        return Ok(Outcome::Fault(PageFault::PageFetch));
+    };
+    if answer.processed() {
+        return processed(setting, url, levels, *status, content_type, body.as_bytes());
+    }
+    Ok(Outcome::Page {
+        status: *status,
+        content_type: content_type.copy(setting.alloc)?,
+        body: whole(setting.alloc, answer)?,
+    })
+}
+
+// The body of an answer as it stands.
+fn whole(alloc: Global, answer: &Arc<Answer>) -> Result<PageBody, NoMemory>
+    ensures { IfOk result (λ pieces. joined pieces ≡ body_of (arc_value answer.now).reply) }
+{
+    let mut pieces = PageBody::new(alloc);
+    push_whole(answer, &mut pieces)?;
+    Ok(pieces)
+}
+
+// The outcome of a page whose body is to be processed.
+#[tactic(auto, unfolding(crate::specs::Meaning::most_legs))]
+fn processed(
+    setting: &Setting<'_>,
+    url: &PageUrl,
+    levels: u8,
+    status: u16,
+    content_type: &Octets,
+    body: &[u8],
+) -> Result<Outcome, NoMemory>
+    ensures { IfOk result (λ o. shown o ≡
+        processed_page setting.now levels url.now status content_type.now body.now) }
+{
+    let template = match template(setting.alloc, body) {
+        Ok(template) => template,
+        Err(TreeFault::Bad(at)) => return Ok(Outcome::Fault(PageFault::BadTemplate(at))),
+        Err(TreeFault::NoMemory) => return Err(NoMemory),
+    };
+    let place = Place {
+        level: levels,
+        url,
+        tree: &template,
+    };
+    let mut progress = Progress {
+        legs: 0,
+        body: PageBody::new(setting.alloc),
+    };
+    match elements(setting, place, template.nodes(), &mut progress)? {
+        Ending::Complete => Ok(Outcome::Page {
+            status,
+            content_type: content_type.copy(setting.alloc)?,
+            body: progress.body,
+        }),
+        Ending::Failed => Ok(Outcome::Fault(PageFault::IncludeFailed)),
+        Ending::TooManyLegs => Ok(Outcome::Fault(PageFault::TooManyLegs)),
+    }
+}

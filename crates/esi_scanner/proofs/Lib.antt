@@ -1,0 +1,13 @@
+pub mod ByteLemmas
+pub mod EntityLemmas
+pub mod Finds
+pub mod AttributeLemmas
+pub mod DistinctLemmas
+pub mod Places
+pub mod ScanLemmas
+pub mod RunLemmas
+pub mod ValueLemmas
+pub mod AttributeSpelling
+pub mod TagSpelling
+pub mod TokenSpelling
+pub mod Theorems

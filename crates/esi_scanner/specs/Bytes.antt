@@ -1,0 +1,70 @@
+-- Which bytes a tag is made of.
+use Rattle.std.specs.Prelude.{ℕ, Bool, false, not, ◌||◌, ◌==◌, nat_eq, List, [], ◌∷◌, drop, ◌+◌, length, Option, Some, None, if◌then◌else◌, option_and_then}
+use Rattle.std.specs.List.{starts_with, prefix_len}
+use Rattle.std.specs.Char.{is_ascii_alphanumeric}
+use Rattle.std.specs.Borrow.{Bor}
+
+-- the bytes space, tab, carriage return and line feed
+abbrev pub is_ws : ℕ → Bool
+is_ws b = b == 32 || b == 9 || b == 13 || b == 10
+
+-- any byte but white space, `/` and `>`
+abbrev pub is_element_byte : ℕ → Bool
+is_element_byte b = not (is_ws b || b == 47 || b == 62)
+
+-- a letter, a digit, `-`, `_`, `:` or `.`
+abbrev pub is_attribute_byte : ℕ → Bool
+is_attribute_byte b = is_ascii_alphanumeric b || b == 45 || b == 95 || b == 58 || b == 46
+
+-- `"` or `'`
+abbrev pub is_quote : ℕ → Bool
+is_quote b = b == 34 || b == 39
+
+-- the first byte is white space
+abbrev pub begins_ws : List ℕ → Bool
+begins_ws [] = false
+begins_ws (b ∷ bs) = is_ws b
+
+-- how many bytes of white space stand at the front
+abbrev pub ws_len : List ℕ → ℕ
+ws_len text = prefix_len is_ws text
+
+-- how many bytes of an element's name stand there
+abbrev pub element_len : List ℕ → ℕ
+element_len text = prefix_len is_element_byte text
+
+-- how many bytes of an attribute's name stand there
+abbrev pub attribute_len : List ℕ → ℕ
+attribute_len text = prefix_len is_attribute_byte text
+
+-- what follows the white space at the front
+abbrev pub after_ws : List ℕ → List ℕ
+after_ws text = drop (ws_len text) text
+
+-- whether the text begins with these bytes
+abbrev pub begins_with : List ℕ → List ℕ → Bool
+begins_with text bytes = starts_with nat_eq text bytes
+
+-- what follows these bytes, where the text begins with them
+abbrev pub after_bytes : List ℕ → List ℕ → Option (List ℕ)
+after_bytes text bytes = if begins_with text bytes then Some (drop (length bytes) text) else None
+
+-- how many bytes stand before the first place from which the text passes the test
+abbrev pub bytes_before : (List ℕ → Bool) → List ℕ → ℕ
+bytes_before test [] = 0
+bytes_before test (b ∷ bs) = if test (b ∷ bs) then 0 else bytes_before test bs + 1
+
+-- one reader after another: the second reads on where the first found something
+infixl 10 ◌>>=◌
+abbrev pub ◌>>=◌ : {A B : Type 0} → Option A → (A → Option B) → Option B
+o >>= f = option_and_then f o
+
+-- what a reader of the code returns, without where its bytes lie in memory
+abbrev pub shown : {A : Type 0} → Option (A × Bor (List ℕ)) → Option (A × List ℕ)
+shown None = None
+shown (Some found) = Some (found.0, found.1.now)
+
+-- the same of a reader that finds bytes
+abbrev pub shown_pair : Option (Bor (List ℕ) × Bor (List ℕ)) → Option (List ℕ × List ℕ)
+shown_pair None = None
+shown_pair (Some found) = Some (found.0.now, found.1.now)

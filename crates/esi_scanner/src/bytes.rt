@@ -1,0 +1,83 @@
+//! Runs of bytes at the front of a text.
+
+ghost use Rattle.std.specs.Prelude.{◌≡◌, ◌≤◌, length};
+ghost use Rattle.esi_scanner.specs.Bytes as spec;
+
+/// Whether the byte is a space, a tab, a carriage return or a line feed.
+pub fn is_ws(byte: u8) -> bool
+    ensures { result ≡ spec.is_ws byte }
+{
+    matches!(byte, b' ' | b'\t' | b'\r' | b'\n')
+}
+
+// Whether the byte can stand in an element's name.
+fn is_element_byte(byte: u8) -> bool
+    ensures { result ≡ spec.is_element_byte byte }
+{
+    !(is_ws(byte) || byte == b'/' || byte == b'>')
+}
+
+// Whether the byte can stand in an attribute's name.
+fn is_attribute_byte(byte: u8) -> bool
+    ensures { result ≡ spec.is_attribute_byte byte }
+{
+    byte.is_ascii_alphanumeric() || matches!(byte, b'-' | b'_' | b':' | b'.')
+}
+
+// How many bytes of white space stand at the front.
+pub fn ws_len(text: &[u8]) -> usize
+    ensures value { result ≡ spec.ws_len text.now }
+    ensures within { result ≤ length text.now }
+{
+    for (i, byte) in text.iter().enumerate() {
+        if !is_ws(*byte) {
+            return i;
+        }
+    }
+    text.len()
+}
+
+// How many bytes of an element's name stand at the front.
+pub fn element_len(text: &[u8]) -> usize
+    ensures value { result ≡ spec.element_len text.now }
+    ensures within { result ≤ length text.now }
+{
+    for (i, byte) in text.iter().enumerate() {
+        if !is_element_byte(*byte) {
+            return i;
+        }
+    }
+    text.len()
+}
+
+// How many bytes of an attribute's name stand at the front.
+pub fn attribute_len(text: &[u8]) -> usize
+    ensures value { result ≡ spec.attribute_len text.now }
+    ensures within { result ≤ length text.now }
+{
+    for (i, byte) in text.iter().enumerate() {
+        if !is_attribute_byte(*byte) {
+            return i;
+        }
+    }
+    text.len()
+}
+
+// What follows the white space at the front.
+pub fn after_ws(text: &[u8]) -> &[u8]
+    ensures value { result.now ≡ spec.after_ws text.now }
+    ensures within { length result.now ≤ length text.now }
+{
+    let (_, after) = text.split_at(ws_len(text));
+    after
+}
+
+/// Whether the first byte is white space. Takes no memory.
+pub fn begins_ws(text: &[u8]) -> bool
+    ensures { result ≡ spec.begins_ws text.now }
+{
+    match text {
+        [byte, ..] => is_ws(*byte),
+        [] => false,
+    }
+}

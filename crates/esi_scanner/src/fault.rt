@@ -1,0 +1,35 @@
+//! Why a text has no tokens.
+
+use edge_types::NoMemory;
+use std::alloc::AllocFailed;
+
+/// Why a text could not be cut into tokens.
+#[derive(Clone, Copy, Debug, Drop, PartialEq, Eq)]
+pub enum ScanFault {
+    /// No token begins at the opener at this place, or the block that begins there has no end.
+    Malformed(usize),
+    /// Memory ran out.
+    NoMemory,
+}
+
+impl From<NoMemory> for ScanFault {
+    ghost use Rattle.std.specs.Prelude.{◌≡◌};
+    ghost use Rattle.esi_scanner.specs.declared.fault.ScanFault.TheVariants as fault;
+
+    ghost from_gives = { λ _ e. e ≡ fault.NoMemory };
+
+    fn from(_: NoMemory) -> ScanFault {
+        ScanFault::NoMemory
+    }
+}
+
+impl<T: Drop> From<AllocFailed<T>> for ScanFault {
+    ghost use Rattle.std.specs.Prelude.{◌≡◌};
+    ghost use Rattle.esi_scanner.specs.declared.fault.ScanFault.TheVariants as fault;
+
+    ghost from_gives = { λ _ e. e ≡ fault.NoMemory };
+
+    fn from(_: AllocFailed<T>) -> ScanFault {
+        ScanFault::NoMemory
+    }
+}

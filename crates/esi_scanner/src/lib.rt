@@ -1,0 +1,31 @@
+//! The tokens of a text: which of its bytes are text, and which are tags of the ESI language.
+//!
+//! `scan` is the one way in. Clauses see tokens as plain data: an attribute list is a list of names with their decoded
+//! values, and a byte string is a list of bytes. `specs/Spelling.antt` says which tokens spell a text and where a text
+//! has its fault, `specs/Scan.antt` how both are computed, and `laws` that the two agree.
+#![tactic(auto)]
+
+mod attribute;
+mod attributes;
+mod bytes;
+mod element_name;
+mod entity;
+mod fault;
+pub mod laws;
+mod opener;
+mod remove;
+mod scanner;
+mod tag;
+mod token;
+
+pub use attribute::{Attribute, AttributeName, KnownAttribute};
+pub use attributes::Attributes;
+pub use bytes::is_ws;
+pub use element_name::ElementName;
+pub use fault::ScanFault;
+pub use scanner::scan;
+pub use tag::Tag;
+pub use token::{Kind, Span, Token};
+
+#[cfg(test)]
+mod tests;

@@ -1,0 +1,35 @@
+-- A stack that is kept as a list whose last item is the top.
+use Rattle.std.proofs.Common.{◌≡◌, ◌-◌, ◌<◌, true, false, IsSome, List, [], ◌∷◌, ◌++◌, length, map, reverse, slice_get, Option, Some, None, option_map, option_to_list, MatchOption, refl, sym, ◌∙◌, ap, arith}
+use Rattle.std.proofs.lemmas.List.{reverse-append, reverse-reverse, length-append, length-map, map-append}
+use Rattle.std.proofs.lemmas.Option.{slice_get-map}
+
+slice_get-push : {X : Type 0} (front : List X) (top : X) → slice_get (front ++ top ∷ []) (length front) ≡ Some top
+slice_get-push [] top = refl
+slice_get-push (x ∷ front) top = slice_get-push front top
+
+top-reverse : {X : Type 0} (xs turned : List X) → reverse xs ≡ turned → slice_get xs (length xs - 1) ≡ slice_get turned 0
+top-reverse xs [] e =
+    let is : xs ≡ [] = sym (reverse-reverse xs) ∙ ap reverse e in
+    rw is refl
+top-reverse xs (top ∷ rest) e =
+    let is : xs ≡ reverse rest ++ top ∷ [] = sym (reverse-reverse xs) ∙ ap reverse e ∙ reverse-append (top ∷ []) rest in
+    let place : length xs - 1 ≡ length (reverse rest) = omega (arith, ap length is, length-append (reverse rest) (top ∷ [])) in
+    rw place (rw is (slice_get-push (reverse rest) top))
+
+-- the top
+pub top-is : {X Y : Type 0} (f : X → Y) (xs : List X) → option_map f (slice_get xs (length xs - 1)) ≡ slice_get (reverse (map f xs)) 0
+top-is f xs =
+    sym (slice_get-map f xs (length xs - 1))
+    ∙ ap (λ n. slice_get (map f xs) (n - 1)) (sym (length-map xs f))
+    ∙ top-reverse (map f xs) (reverse (map f xs)) refl
+
+-- one more on top
+pub pushed-is : {X Y : Type 0} (f : X → Y) (xs : List X) (x : X) → reverse (map f (xs ++ x ∷ [])) ≡ f x ∷ reverse (map f xs)
+pushed-is f xs x = ap reverse (map-append f xs (x ∷ [])) ∙ reverse-append (map f xs) (f x ∷ [])
+
+-- the top taken off
+pub popped-is : {X Y : Type 0} (f : X → Y) (r : Option X) (old new : List X) → old ≡ new ++ option_to_list r → (0 < length old → IsSome r)
+    → MatchOption r (reverse (map f old) ≡ []) (λ x. reverse (map f old) ≡ f x ∷ reverse (map f new))
+popped-is f None [] new is some = refl
+popped-is f None (x ∷ old) new is some = let none : false ≡ true = some (omega arith) in absurd (cc)
+popped-is f (Some x) old new is some = ap (λ xs. reverse (map f xs)) is ∙ pushed-is f new x

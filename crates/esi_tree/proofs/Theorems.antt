@@ -1,0 +1,185 @@
+-- The laws of templates and of their reading.
+use Rattle.std.proofs.Common.{◌≡◌, ◌⊎◌, inl, inr, ℕ, false, List, [], ◌∷◌, ◌++◌, length, Option, Some, None, Result, Ok, Err, unwrap_or, refl, sym, ◌∙◌, ap, subst, arith}
+use Rattle.std.proofs.lemmas.List.{map-append}
+use Rattle.std.proofs.lemmas.Option.{option_and_then_some}
+use Rattle.esi_scanner.specs.declared.token.Token.{Token}
+use Rattle.esi_scanner.specs.Bytes.{◌>>=◌}
+use Rattle.esi_scanner.specs.Scan.{scan_of}
+use Rattle.esi_tree.specs.Tree.{Element, Elements}
+use Rattle.esi_tree.specs.Shown.{row}
+use Rattle.esi_tree.specs.Items.{Item, item_of, items_of}
+use Rattle.esi_tree.specs.Template.{struck, IsRun, IsTemplate, Begins}
+use Rattle.esi_tree.specs.Reading.{Frame, State, start, after, ended, then_read, read_from, tree_of_tokens, of_tokens, tree_of}
+use Rattle.esi_tree.specs.Laws.{IsFirstBad, EndsEarly, IsText, IsNoTemplate}
+use Rattle.esi_tree.proofs.Runs.{run, steps, run-append, struck-append}
+use Rattle.esi_tree.proofs.Depths.{steps-from_run, run-from_steps, shallow-from_steps}
+use Rattle.esi_tree.proofs.Complete.{listed, row-listed, template-run}
+use Rattle.esi_tree.proofs.Sound.{reads-run, closing}
+
+-- all items are read, and no element is open
+pub record IsWhole (items : List Item) (state : State) (t : Elements) : Type 0 where
+  pub content : List Element
+  pub read : steps items state ≡ Some (record { frames = []; content = content })
+  pub tree_is : row content ≡ t
+
+-- no template goes on with a token, or elements are open at the end
+pub data Stops (text : List ℕ) (tokens : List Token) (state : State) (at : ℕ) : Type 0 where
+  AtToken : (front : List Token) (token : Token) (back : List Token) (before : State) → tokens ≡ front ++ token ∷ back → at ≡ token.span.start → steps (items_of text front) state ≡ Some before → after (item_of text token) before ≡ None → Stops text tokens state at
+  AtEnd : (final : State) (frame : Frame) (outer : List Frame) → steps (items_of text tokens) state ≡ Some final → final.frames ≡ frame ∷ outer → at ≡ length text → Stops text tokens state at
+
+ended-ok : (frames : List Frame) (content : List Element) (end : ℕ) (t : Elements) → ended frames content end ≡ Ok t → (frames ≡ []) × (row content ≡ t)
+ended-ok [] content end t e = (refl, cc)
+ended-ok (frame ∷ outer) content end t e = absurd (cc)
+
+ended-err : (frames : List Frame) (content : List Element) (end at : ℕ) → ended frames content end ≡ Err at → (frame : Frame) × (outer : List Frame) × (frames ≡ frame ∷ outer) × (at ≡ end)
+ended-err [] content end at e = absurd (cc)
+ended-err (frame ∷ outer) content end at e = (frame, outer, refl, cc)
+
+step-on : (text : List ℕ) (token : Token) (tokens : List Token) (state next : State) → after (item_of text token) state ≡ Some next → steps (items_of text (token ∷ tokens)) state ≡ steps (items_of text tokens) next
+step-on text token tokens state next e = ap (λ o. o >>= λ s. steps (items_of text tokens) s) e
+
+whole-on : (text : List ℕ) (token : Token) (tokens : List Token) (state next : State) (t : Elements) → after (item_of text token) state ≡ Some next → IsWhole (items_of text tokens) next t → IsWhole (items_of text (token ∷ tokens)) state t
+whole-on text token tokens state next t e rest = record { content = rest.content; read = step-on text token tokens state next e ∙ rest.read; tree_is = rest.tree_is }
+
+pub read-ok : (text : List ℕ) (tokens : List Token) (state : State) (t : Elements) → read_from text tokens state ≡ Ok t → IsWhole (items_of text tokens) state t
+unfolding read_from
+read-ok text [] state t e =
+    let parts = ended-ok state.frames state.content (length text) t e in
+    record { content = state.content; read = ap (λ frames. Some (record { frames = frames; content = state.content })) parts.0; tree_is = parts.1 }
+read-ok text (token ∷ tokens) state t e = by_next (λ s h. read-ok text tokens s t h) (after (item_of text token) state) refl e
+  where
+    by_next : ((s : State) → read_from text tokens s ≡ Ok t → IsWhole (items_of text tokens) s t) → (next : Option State) → after (item_of text token) state ≡ next → then_read (λ s. read_from text tokens s) token.span.start next ≡ Ok t → IsWhole (items_of text (token ∷ tokens)) state t
+    by_next rest None is e' = absurd (cc)
+    by_next rest (Some next) is e' = whole-on text token tokens state next t is (rest next e')
+
+stops-on : (text : List ℕ) (token : Token) (tokens : List Token) (state next : State) (at : ℕ) → after (item_of text token) state ≡ Some next → Stops text tokens next at → Stops text (token ∷ tokens) state at
+stops-on text token tokens state next at e (AtToken front bad back before joined place read none) =
+    AtToken (token ∷ front) bad back before (ap (λ ts. token ∷ ts) joined) place (step-on text token front state next e ∙ read) none
+stops-on text token tokens state next at e (AtEnd final frame outer read is place) =
+    AtEnd final frame outer (step-on text token tokens state next e ∙ read) is place
+
+pub read-err : (text : List ℕ) (tokens : List Token) (state : State) (at : ℕ) → read_from text tokens state ≡ Err at → Stops text tokens state at
+unfolding read_from
+read-err text [] state at e =
+    let (frame, outer, is, place) = ended-err state.frames state.content (length text) at e in
+    AtEnd state frame outer refl is place
+read-err text (token ∷ tokens) state at e = by_next (λ s h. read-err text tokens s at h) (after (item_of text token) state) refl e
+  where
+    by_next : ((s : State) → read_from text tokens s ≡ Err at → Stops text tokens s at) → (next : Option State) → after (item_of text token) state ≡ next → then_read (λ s. read_from text tokens s) token.span.start next ≡ Err at → Stops text (token ∷ tokens) state at
+    by_next rest None is e' = AtToken [] token tokens state refl (cc) refl is
+    by_next rest (Some next) is e' = stops-on text token tokens state next at is (rest next e')
+
+read-again : (text : List ℕ) (tokens : List Token) (state : State) (content : List Element) → steps (items_of text tokens) state ≡ Some (record { frames = []; content = content }) → read_from text tokens state ≡ Ok (row content)
+unfolding read_from
+read-again text [] state content e =
+    let empty : State = record { frames = []; content = content } in
+    let same : state ≡ empty = ap (λ o. unwrap_or o empty) e in
+    ap (λ (s : State). ended s.frames s.content (length text)) same
+read-again text (token ∷ tokens) state content e =
+    option_and_then_some (λ s. steps (items_of text tokens) s) (after (item_of text token) state) (record { frames = []; content = content }) e (λ next first rest.
+    ap (then_read (λ s. read_from text tokens s) token.span.start) first ∙ read-again text tokens next content rest)
+
+-- what is read is the template
+pub template-from_read : (text : List ℕ) (tokens : List Token) (t : Elements) → tree_of_tokens text tokens ≡ Ok t → IsTemplate t (items_of text tokens)
+unfolding tree_of_tokens
+template-from_read text tokens t e =
+    let items = items_of text tokens in
+    let whole = read-ok text tokens start t e in
+    let final : State = record { frames = []; content = whole.content } in
+    let P : Elements → Type 0 = λ u. IsRun false u (struck items) in
+    record {
+      shape = subst P whole.tree_is (reads-run items start final [] (run-from_steps items start final whole.read) refl);
+      shallow = shallow-from_steps items start final whole.read (omega arith);
+    }
+
+-- the template is read
+pub read-from_template : (text : List ℕ) (tokens : List Token) (t : Elements) → IsTemplate t (items_of text tokens) → tree_of_tokens text tokens ≡ Ok t
+unfolding tree_of_tokens
+read-from_template text tokens t is =
+    let items = items_of text tokens in
+    let final : State = record { frames = []; content = listed t } in
+    read-again text tokens start (listed t) (steps-from_run items start final (template-run t items is.shape) is.shallow) ∙ ap Ok (row-listed t)
+
+-- what has been read begins a template
+begins-from_steps : (items : List Item) (final : State) → steps items start ≡ Some final → Begins items
+begins-from_steps items final e =
+    let read = reads-run items start final [] (run-from_steps items start final e) refl in
+    let rest = closing final.frames final.content (struck items) read in
+    let P : List Item → Type 0 = λ us. IsRun false rest.t us in
+    let same : struck items ++ rest.more ≡ struck (items ++ rest.more) = sym (struck-append items rest.more ∙ ap (λ us. struck items ++ us) rest.plain) in
+    record { more = rest.more; t = rest.t; shape = subst P same rest.shape; shallow = shallow-from_steps items start final e (omega arith) }
+
+-- what begins a template is read
+steps-from_begins : (items : List Item) → Begins items → (final : State) × (steps items start ≡ Some final)
+steps-from_begins items is =
+    let whole = template-run is.t (items ++ is.more) is.shape in
+    option_and_then_some (λ s. run is.more s) (run items start) (record { frames = []; content = listed is.t }) (sym (run-append items is.more start) ∙ whole) (λ final first rest.
+    (final, steps-from_run items start final first is.shallow))
+
+bind-steps : (o : Option State) (xs ys : List Item) → ((s : State) → steps (xs ++ ys) s ≡ (steps xs s >>= λ n. steps ys n)) → (o >>= λ s. steps (xs ++ ys) s) ≡ ((o >>= λ s. steps xs s) >>= λ n. steps ys n)
+bind-steps None xs ys each = refl
+bind-steps (Some s) xs ys each = each s
+
+steps-append : (xs ys : List Item) (state : State) → steps (xs ++ ys) state ≡ (steps xs state >>= λ n. steps ys n)
+steps-append [] ys state = refl
+steps-append (x ∷ xs) ys state = bind-steps (after x state) xs ys (λ s. steps-append xs ys s)
+
+-- a fault has its place
+pub place-from_read : (text : List ℕ) (tokens : List Token) (at : ℕ) → tree_of_tokens text tokens ≡ Err at → IsFirstBad text tokens at ⊎ EndsEarly text tokens at
+unfolding tree_of_tokens
+place-from_read text tokens at e = by_stop (read-err text tokens start at e)
+  where
+    by_stop : Stops text tokens start at → IsFirstBad text tokens at ⊎ EndsEarly text tokens at
+    by_stop (AtToken front token back before joined place read none) =
+        let stuck : steps (items_of text (front ++ token ∷ [])) start ≡ None =
+        ap (λ us. steps us start) (map-append (item_of text) front (token ∷ [])) ∙ steps-append (items_of text front) (item_of text token ∷ []) start
+        ∙ ap (λ o. o >>= λ s. steps (item_of text token ∷ []) s) read ∙ ap (λ o. o >>= λ s. steps [] s) none in
+        inl (record {
+          front = front;
+          token = token;
+          back = back;
+          joined = joined;
+          place = place;
+          begins = begins-from_steps (items_of text front) before read;
+          ends = λ is. let (final, some) = steps-from_begins (items_of text (front ++ token ∷ [])) is in absurd (differ final (sym some ∙ stuck));
+        })
+      where
+        differ : (final : State) → Some final ≡ None → ⊥
+        differ final h = absurd (cc)
+    by_stop (AtEnd final frame outer read is place) =
+        inr (record {
+          place = place;
+          begins = begins-from_steps (items_of text tokens) final read;
+          none = λ t whole. open_end t whole;
+        })
+      where
+        open_end : (t : Elements) → IsTemplate t (items_of text tokens) → ⊥
+        open_end t whole =
+            let empty : State = record { frames = []; content = listed t } in
+            let other = steps-from_run (items_of text tokens) start empty (template-run t (items_of text tokens) whole.shape) whole.shallow in
+            let same : final ≡ empty = ap (λ o. unwrap_or o empty) (sym read ∙ other) in
+            let clash : frame ∷ outer ≡ [] = sym is ∙ ap (λ (s : State). s.frames) same in
+            absurd (cc)
+
+-- what is read of a text is the template of its tokens
+pub text-from_read : (text : List ℕ) (t : Elements) → tree_of text ≡ Ok t → IsText t text
+unfolding tree_of
+text-from_read text t e = by_scan (scan_of text) refl e
+  where
+    by_scan : (scanned : Result (List Token) ℕ) → scan_of text ≡ scanned → of_tokens text scanned ≡ Ok t → IsText t text
+    by_scan (Ok tokens) is e' = record { tokens = tokens; scanned = is; is = template-from_read text tokens t e' }
+    by_scan (Err at) is e' = absurd (cc)
+
+-- the template of its tokens is read of a text
+pub read-from_text : (text : List ℕ) (t : Elements) → IsText t text → tree_of text ≡ Ok t
+unfolding tree_of
+read-from_text text t is = ap (of_tokens text) is.scanned ∙ read-from_template text is.tokens t is.is
+
+-- a fault of a text has its place
+pub place-from_text : (text : List ℕ) (at : ℕ) → tree_of text ≡ Err at → (scan_of text ≡ Err at) ⊎ IsNoTemplate text at
+unfolding tree_of
+place-from_text text at e = by_scan (scan_of text) refl e
+  where
+    by_scan : (scanned : Result (List Token) ℕ) → scan_of text ≡ scanned → of_tokens text scanned ≡ Err at → (scan_of text ≡ Err at) ⊎ IsNoTemplate text at
+    by_scan (Ok tokens) is e' = inr (record { tokens = tokens; scanned = is; place = place-from_read text tokens at e' })
+    by_scan (Err place) is e' = let same : place ≡ at = cc in inl (is ∙ ap Err same)

@@ -1,0 +1,56 @@
+-- What holds of templates and of their reading.
+use Rattle.std.specs.Prelude.{◌≡◌, ◌⊎◌, ◌↔◌, ℕ, List, [], ◌∷◌, ◌++◌, length, Ok, Err}
+use Rattle.esi_scanner.specs.declared.token.Token.{Token}
+use Rattle.esi_tree.specs.Tree.{Elements}
+use Rattle.esi_tree.specs.Items.{Item, items_of}
+use Rattle.esi_tree.specs.Template.{IsTemplate, Begins}
+use Rattle.esi_scanner.specs.Scan.{scan_of}
+use Rattle.esi_tree.specs.Reading.{tree_of_tokens, tree_of}
+
+-- what is read of tokens is their template, and what is their template is read
+abbrev pub ReadsTemplates : Type 0
+ReadsTemplates = (text : List ℕ) (tokens : List Token) (t : Elements) → (tree_of_tokens text tokens ≡ Ok t) ↔ IsTemplate t (items_of text tokens)
+
+-- items are the template of one tree at most
+abbrev pub OneTree : Type 0
+OneTree = (t u : Elements) (items : List Item) → IsTemplate t items → IsTemplate u items → t ≡ u
+
+-- the first token with which no template begins stands there
+pub record IsFirstBad (text : List ℕ) (tokens : List Token) (at : ℕ) : Type 0 where
+  pub front : List Token
+  pub token : Token
+  pub back : List Token
+  pub joined : tokens ≡ front ++ token ∷ back
+  pub place : at ≡ token.span.start
+  pub begins : Begins (items_of text front)
+  pub ends : ¬ Begins (items_of text (front ++ token ∷ []))
+
+-- the tokens begin a template and are none, and the place is that of the text's end
+pub record EndsEarly (text : List ℕ) (tokens : List Token) (at : ℕ) : Type 0 where
+  pub place : at ≡ length text
+  pub begins : Begins (items_of text tokens)
+  pub none : (t : Elements) → ¬ IsTemplate t (items_of text tokens)
+
+-- a fault is told at the first token with which no template begins, else at the text's end
+abbrev pub TellsThePlace : Type 0
+TellsThePlace = (text : List ℕ) (tokens : List Token) (at : ℕ) → tree_of_tokens text tokens ≡ Err at → IsFirstBad text tokens at ⊎ EndsEarly text tokens at
+
+-- a text that has tokens, which are the template of this tree
+pub record IsText (t : Elements) (text : List ℕ) : Type 0 where
+  pub tokens : List Token
+  pub scanned : scan_of text ≡ Ok tokens
+  pub is : IsTemplate t (items_of text tokens)
+
+-- what is read of a text is its tree, and what is its tree is read
+abbrev pub ReadsTexts : Type 0
+ReadsTexts = (text : List ℕ) (t : Elements) → (tree_of text ≡ Ok t) ↔ IsText t text
+
+-- a text that has tokens, which are no template from this place on
+pub record IsNoTemplate (text : List ℕ) (at : ℕ) : Type 0 where
+  pub tokens : List Token
+  pub scanned : scan_of text ≡ Ok tokens
+  pub place : IsFirstBad text tokens at ⊎ EndsEarly text tokens at
+
+-- the place of a text's fault: that of its tokens, else that of its template
+abbrev pub TellsThePlaceOfTexts : Type 0
+TellsThePlaceOfTexts = (text : List ℕ) (at : ℕ) → tree_of text ≡ Err at → (scan_of text ≡ Err at) ⊎ IsNoTemplate text at

@@ -1,0 +1,9 @@
+pub mod Tree
+pub mod Shown
+pub mod Fault
+pub mod Items
+pub mod Attributes
+pub mod Template
+pub mod Reading
+pub mod Laws
+pub mod State

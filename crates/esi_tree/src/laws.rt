@@ -1,0 +1,32 @@
+//! What holds of templates and of their reading, whatever the text: each function has a law as its
+//! clause, and does nothing.
+ghost use Rattle.esi_tree.specs.Laws.{ReadsTemplates, OneTree, TellsThePlace, ReadsTexts, TellsThePlaceOfTexts};
+
+/// What is read of a text's tokens is their template, and what is their template is read. Takes no
+/// memory.
+pub fn templates_are_read()
+    ensures { ReadsTemplates }
+{}
+
+/// No list of tokens is the template of two trees. Takes no memory.
+pub fn one_tree()
+    ensures { OneTree }
+{}
+
+/// Where tokens are no template, the place that is told is that of the first with which no
+/// template begins, else that of the text's end. Takes no memory.
+pub fn place_is_the_first()
+    ensures { TellsThePlace }
+{}
+
+/// What is read of a text is the template of its tokens, and what is their template is read. Takes
+/// no memory.
+pub fn texts_are_read()
+    ensures { ReadsTexts }
+{}
+
+/// Where a text is no template, the place that is told is that at which it has no tokens, else
+/// that of its first token with which no template begins, else that of its end. Takes no memory.
+pub fn place_in_the_text()
+    ensures { TellsThePlaceOfTexts }
+{}

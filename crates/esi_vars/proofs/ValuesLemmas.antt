@@ -1,0 +1,20 @@
+-- The values of parts, one after another.
+use Rattle.std.proofs.Common.{◌≡◌, ℕ, ◌+◌, ◌<◌, ◌≤◌, List, ◌∷◌, ◌++◌, length, drop, get_or, sym, ◌∙◌, ap, append_assoc}
+use Rattle.std.proofs.lemmas.List.{drop_more, drop_all, append-nil}
+use Rattle.edge_types.specs.declared.request.Request.{Request}
+use Rattle.esi_vars.specs.declared.part.Part.{Part}
+use Rattle.esi_vars.specs.Values.{part_value, substituted}
+
+pub substituted_turn : (request : Request) (text text1 : List ℕ) (parts : List Part) (i : ℕ) (p : Part) (all : List ℕ) → i < length parts → p ≡ get_or parts i p
+    → text1 ≡ text ++ part_value request p → text ++ substituted request (drop i parts) ≡ all → text1 ++ substituted request (drop (i + 1) parts) ≡ all
+unfolding substituted
+substituted_turn request text text1 parts i p all within at added so_far =
+    let cut : drop i parts ≡ p ∷ drop (i + 1) parts = drop_more parts i p within ∙ ap (λ q. q ∷ drop (i + 1) parts) (sym at) in
+    rw added (append_assoc text (part_value request p) (substituted request (drop (i + 1) parts)))
+    ∙ ap (λ ps. text ++ substituted request ps) (sym cut) ∙ so_far
+
+pub substituted_end : (request : Request) (text : List ℕ) (parts : List Part) (i : ℕ) (all : List ℕ) → length parts ≤ i
+    → text ++ substituted request (drop i parts) ≡ all → text ≡ all
+unfolding substituted
+substituted_end request text parts i all past so_far =
+    sym (append-nil text) ∙ ap (λ ps. text ++ substituted request ps) (sym (drop_all i parts past)) ∙ so_far

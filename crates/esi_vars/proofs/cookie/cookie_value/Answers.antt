@@ -1,0 +1,28 @@
+use Rattle.std.proofs.Common.{◌≡◌, map, ◌∷◌, sym, ap, ◌∙◌}
+use Rattle.std.specs.Option.{option_copied}
+use Rattle.esi_vars.specs.Field.{named, trimmed, parts_between}
+use Rattle.esi_vars.specs.Shown.{parts_left}
+use Rattle.esi_vars.proofs.FieldLemmas.{named_found, named_later, named_none, cookie_starts}
+use Rattle.esi_vars.proofs.cookie.cookie_value.Goals as goal
+
+pub loop-rest-init : goal.loop-rest-init
+loop-rest-init c = cookie_starts _ _
+
+pub returns-then-eq : goal.returns-then-eq
+returns-then-eq c =
+    let name = c.args.name.now in
+    let all : map trimmed (parts_between 59 c.in-Some.text.now) ≡ c.trimmed.result.now ∷ map trimmed (parts_left 59 (option_copied c.first_part.result.1)) = ap (map trimmed) (sym c.first_part.ensures.value) ∙ ap (λ t. t ∷ map trimmed (parts_left 59 (option_copied c.first_part.result.1))) (sym c.trimmed.ensures) in
+    named_found name _ _ _ _ _ all c.halves.ensures (sym c.eq.ensures ∙ c.if-eq.true)
+    ∙ ap (λ o. named name (map trimmed (parts_left 59 (option_copied o)))) (sym c.in-Some.is) ∙ c.loop-rest.invariant
+
+pub loop-rest-preserved : goal.loop-rest-preserved
+loop-rest-preserved c =
+    let name = c.args.name.now in
+    let all : map trimmed (parts_between 59 c.in-Some.text.now) ≡ c.trimmed.result.now ∷ map trimmed (parts_left 59 (option_copied c.first_part.result.1)) = ap (map trimmed) (sym c.first_part.ensures.value) ∙ ap (λ t. t ∷ map trimmed (parts_left 59 (option_copied c.first_part.result.1))) (sym c.trimmed.ensures) in
+    sym (named_later name _ _ _ _ _ all c.halves.ensures (sym c.eq.ensures ∙ c.if-eq.false))
+    ∙ ap (λ o. named name (map trimmed (parts_left 59 (option_copied o)))) (sym c.in-Some.is) ∙ c.loop-rest.invariant
+
+pub returns : goal.returns
+returns c =
+    let name = c.args.name.now in
+    sym (named_none name) ∙ ap (λ o. named name (map trimmed (parts_left 59 (option_copied o)))) (sym c.in_default.is) ∙ c.loop-rest.invariant

@@ -1,0 +1,48 @@
+-- Fields that are cut into parts: cookies, queries and languages.
+use Rattle.std.specs.Prelude.{ℕ, ◌-◌, Bool, ◌==◌, List, [], ◌∷◌, length, take, drop, map, codes, bytes_eq, unwrap_or, if◌then◌else◌}
+use Rattle.std.specs.List.{prefix_len, suffix_len, slice_split, list_any}
+use Rattle.std.specs.Str.{str_eq_ignore_ascii_case}
+use Rattle.esi_vars.specs.Reference.{is_blank}
+use Rattle.esi_vars.specs.Reading.{cut_at}
+
+-- the parts of a field between such bytes
+abbrev pub parts_between : ℕ → List ℕ → List (List ℕ)
+parts_between c field = slice_split (λ b. b == c) field
+
+-- without the spaces and tabs at its front
+abbrev pub trimmed_front : List ℕ → List ℕ
+trimmed_front text = drop (prefix_len is_blank text) text
+
+-- without those at its end
+abbrev pub trimmed_end : List ℕ → List ℕ
+trimmed_end text = take (length text - suffix_len is_blank text) text
+
+-- without the spaces and tabs at both ends
+unfoldable pub trimmed : List ℕ → List ℕ
+trimmed text = trimmed_end (trimmed_front text)
+
+-- what stands before the first such byte and what follows it; without one, the whole and nothing
+unfoldable pub halves : ℕ → List ℕ → List ℕ × List ℕ
+halves c text = unwrap_or (cut_at c text) (text, [])
+
+-- the value of the first part `name=value` of this name, or nothing
+unfoldable pub named : List ℕ → List (List ℕ) → List ℕ
+named key [] = []
+named key (part ∷ parts) = if bytes_eq (halves 61 part).0 key then (halves 61 part).1 else named key parts
+
+-- the value of a cookie: parts between `;`, trimmed
+unfoldable pub cookie_value : List ℕ → List ℕ → List ℕ
+cookie_value key field = named key (map trimmed (parts_between 59 field))
+
+-- the value of a query's name: parts between `&`, nothing decoded
+unfoldable pub query_value : List ℕ → List ℕ → List ℕ
+query_value key field = named key (parts_between 38 field)
+
+-- whether a part of the language field, up to its `;` and trimmed, is the language, ASCII case aside
+unfoldable pub names_language : List ℕ → List ℕ → Bool
+names_language language part = str_eq_ignore_ascii_case (trimmed (halves 59 part).0) language
+
+-- `true` where a part between `,` names the language, or nothing
+unfoldable pub language_value : List ℕ → List ℕ → List ℕ
+language_value language field =
+    if list_any (names_language language) (parts_between 44 field) then codes "true" else []

@@ -1,0 +1,9 @@
+pub mod Reference
+pub mod Reading
+pub mod Shown
+pub mod Parts
+pub mod Field
+pub mod Agent
+pub mod Values
+pub mod Spelling
+pub mod Laws

@@ -1,0 +1,60 @@
+-- What references stand for, and the text in which each is replaced by its value.
+use Rattle.std.specs.Prelude.{ℕ, List, [], ◌∷◌, Option, Some, None}
+use Rattle.std.specs.List.{flat_map}
+use Rattle.edge_types.specs.declared.request.Request.{Request}
+use Rattle.esi_vars.specs.declared.reference.Variable.{Variable}
+use Rattle.esi_vars.specs.declared.reference.Variable.TheVariants.{HttpAcceptLanguage, HttpCookie, HttpHost, HttpReferer, HttpUserAgent, QueryString, Unknown}
+use Rattle.esi_vars.specs.declared.reference.Reference.{Reference}
+use Rattle.esi_vars.specs.declared.part.Part.{Part}
+use Rattle.esi_vars.specs.declared.part.Part.TheVariants as part
+use Rattle.esi_vars.specs.Field.{cookie_value, query_value, language_value}
+use Rattle.esi_vars.specs.Agent.{agent_value}
+use Rattle.esi_vars.specs.Parts.{places_of}
+
+-- a variable without a key: the whole field
+abbrev pub whole_value : Request → Variable → List ℕ
+whole_value request HttpAcceptLanguage = request.accept_language
+whole_value request HttpCookie = request.cookie
+whole_value request HttpHost = request.host
+whole_value request HttpReferer = request.referer
+whole_value request HttpUserAgent = request.user_agent
+whole_value request QueryString = request.query
+whole_value request (Unknown name) = []
+
+-- a variable with a key: the part of the field
+abbrev pub keyed_value : Request → Variable → List ℕ → List ℕ
+keyed_value request HttpAcceptLanguage key = language_value key request.accept_language
+keyed_value request HttpCookie key = cookie_value key request.cookie
+keyed_value request HttpHost key = []
+keyed_value request HttpReferer key = []
+keyed_value request HttpUserAgent key = agent_value key request.user_agent
+keyed_value request QueryString key = query_value key request.query
+keyed_value request (Unknown name) key = []
+
+-- what the request says, before a default is looked at
+abbrev pub raw_value : Request → Variable → Option (List ℕ) → List ℕ
+raw_value request variable None = whole_value request variable
+raw_value request variable (Some key) = keyed_value request variable key
+
+-- the value, or the default where it is empty, or else nothing
+abbrev pub or_default : List ℕ → Option (List ℕ) → List ℕ
+or_default (b ∷ bs) default = b ∷ bs
+or_default [] (Some default) = default
+or_default [] None = []
+
+-- the value of a reference
+unfoldable pub value_of : Request → Reference → List ℕ
+value_of request r = or_default (raw_value request r.variable r.key) r.default
+
+-- text stands for itself, a reference for its value
+abbrev pub part_value : Request → Part → List ℕ
+part_value request (part.Text bytes) = bytes
+part_value request (part.Reference r) = value_of request r
+
+-- the values of parts, one after another
+unfoldable pub substituted : Request → List Part → List ℕ
+substituted request parts = flat_map (part_value request) parts
+
+-- the text with each reference replaced by its value and every other byte as it is
+unfoldable pub text_of : Request → List ℕ → List ℕ
+text_of request text = substituted request (places_of text)

@@ -1,0 +1,38 @@
+//! The languages that a request accepts.
+
+ghost use Rattle.std.specs.Prelude.{◌≡◌};
+ghost use Rattle.std.specs.Str.{str_eq_ignore_ascii_case};
+ghost use Rattle.esi_vars.specs.Field as spec;
+
+use crate::field::{first_part, halves, trimmed};
+
+/// `true` where a part of the field names the language, ASCII case aside, or nothing.
+pub(crate) fn language_value(language: &[u8], field: &[u8]) -> &'static [u8]
+    ensures { result.now ≡ spec.language_value language.now field.now }
+{
+    let mut rest = Some(field);
+    while let Some(text) = rest {
+        let (part, after) = first_part(b',', text);
+        if names_language(language, part) {
+            return b"true";
+        }
+        rest = after;
+    }
+    b""
+}
+
+// Whether a part of the language field is the language.
+#[tactic(auto, unfolding(crate::specs::Field::names_language))]
+fn names_language(language: &[u8], part: &[u8]) -> bool
+    ensures { result ≡ spec.names_language language.now part.now }
+{
+    let (range, _) = halves(b';', part);
+    same_but_for_case(trimmed(range), language)
+}
+
+// Whether the texts are equal, ASCII case aside.
+fn same_but_for_case(a: &[u8], b: &[u8]) -> bool
+    ensures { result ≡ str_eq_ignore_ascii_case a.now b.now }
+{
+    a.eq_ignore_ascii_case(b)
+}

@@ -1,0 +1,20 @@
+//! Variables: references in a text, what they stand for in a reader's request, and the text with their values.
+#![tactic(auto)]
+
+mod agent;
+mod bytes;
+mod cookie;
+mod field;
+mod language;
+pub mod laws;
+pub mod part;
+mod query;
+pub mod reference;
+#[cfg(test)]
+mod tests;
+pub mod values;
+mod written;
+
+pub use part::{Part, parts, substitute};
+pub use reference::{Reference, Variable, reference_at};
+pub use values::value;

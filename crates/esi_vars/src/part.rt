@@ -1,0 +1,115 @@
+//! Texts in parts: references, and the text between them. Clauses see a `Part` with its bytes as a list.
+
+ghost use Rattle.std.specs.Prelude.{◌≡◌, ◌<◌, ◌++◌, length, IfOk, OnOk, IfSome};
+ghost use Rattle.esi_vars.specs.Parts.{parts_of, next_reference, text_part};
+ghost use Rattle.esi_vars.specs.Shown.{shown_next};
+ghost use Rattle.esi_vars.specs.Values.{part_value, substituted};
+
+use crate::bytes::find_byte;
+use crate::reference::{Reference, owned};
+use crate::values::value;
+use crate::written::{Written, written_at};
+use edge_types::{NoMemory, Octets, Request};
+use std::alloc::Global;
+
+/// The byte with which a reference begins, and the one with which it ends.
+const DOLLAR: u8 = b'$';
+
+const CLOSE: u8 = b')';
+
+/// A part of a text.
+#[derive(Drop)]
+pub enum Part {
+    /// Text that stands for itself; one byte or more.
+    Text(Octets),
+    /// A reference, which stands for its value.
+    Reference(Reference),
+}
+
+// The first reference of a text, what stands before it and what follows it.
+#[derive(Clone, Copy)]
+struct Found<'a> {
+    before: &'a [u8],
+    written: Written<'a>,
+    rest: &'a [u8],
+}
+
+/// The parts of a text, read from the left: a reference where one begins, and between references the text in one
+/// piece. What begins no reference is text.
+///
+/// `NoMemory` where a growth is refused; no parts are made then.
+///
+/// Source: ESI Language Specification 1.0, "Variables"; the spelling of keys and defaults is our profile.
+pub fn parts(alloc: Global, text: &[u8]) -> Result<Vec<Part>, NoMemory>
+    ensures { IfOk result (λ parts. parts.items ≡ parts_of text.now) }
+{
+    let mut parts = Vec::new(alloc);
+    let mut rest = text;
+    while let Some(found) = next_reference(rest) {
+        push_text(alloc, &mut parts, found.before)?;
+        parts.push(Part::Reference(owned(alloc, found.written)?))?;
+        rest = found.rest;
+    }
+    push_text(alloc, &mut parts, rest)?;
+    Ok(parts)
+}
+
+// The first reference of a text.
+fn next_reference(text: &[u8]) -> Option<Found<'_>>
+    ensures value { shown_next result ≡ next_reference text.now }
+    ensures shorter { IfSome result (λ found. length found.rest.now < length text.now) }
+{
+    // Where no reference can end, none is tried: a text of openers alone is passed over at once.
+    find_byte(CLOSE, text)?;
+    let mut at = 0;
+    'search: loop {
+        let (_, from) = text.split_at(at);
+        let step = find_byte(DOLLAR, from)?;
+        let (_, here) = from.split_at(step);
+        if let Some((written, rest)) = written_at(here) {
+            let (before, _) = text.split_at(at + step);
+            return Some(Found {
+                before,
+                written,
+                rest,
+            });
+        }
+        at += step + 1;
+    }
+}
+
+// Adds the bytes as a part, where there are any.
+fn push_text(alloc: Global, parts: &mut Vec<Part>, bytes: &[u8]) -> Result<(), NoMemory>
+    ensures { OnOk result (parts.new.items ≡ parts.old.items ++ text_part bytes.now) }
+{
+    if bytes.is_empty() {
+        return Ok(());
+    }
+    parts.push(Part::Text(Octets::of(bytes.to_vec(alloc)?)))?;
+    Ok(())
+}
+
+/// The text of the parts under a request: each reference replaced by its value, and nothing else changed.
+///
+/// `NoMemory` where a growth is refused; no text is made then.
+///
+/// Source: ESI Language Specification 1.0, "Variables".
+pub fn substitute(alloc: Global, request: &Request, parts: &[Part]) -> Result<Vec<u8>, NoMemory>
+    ensures { IfOk result (λ text. text.items ≡ substituted request.now parts.now) }
+{
+    let mut text = Vec::new(alloc);
+    for part in parts {
+        text.extend_from_slice(part_value(request, part))?;
+    }
+    Ok(text)
+}
+
+// What a part stands for.
+fn part_value<'a>(request: &'a Request, part: &'a Part) -> &'a [u8]
+    ensures { result.now ≡ part_value request.now part.now }
+{
+    match part {
+        Part::Text(bytes) => bytes.as_bytes(),
+        Part::Reference(reference) => value(request, reference),
+    }
+}

@@ -1,0 +1,22 @@
+//! The query string of a request.
+
+ghost use Rattle.std.specs.Prelude.{◌≡◌};
+ghost use Rattle.esi_vars.specs.Field as spec;
+
+use crate::field::{first_part, halves};
+
+/// The value of the first part of a query of this name, or nothing.
+pub(crate) fn query_value<'a>(name: &[u8], field: &'a [u8]) -> &'a [u8]
+    ensures { result.now ≡ spec.query_value name.now field.now }
+{
+    let mut rest = Some(field);
+    while let Some(text) = rest {
+        let (part, after) = first_part(b'&', text);
+        let (found, value) = halves(b'=', part);
+        if found == name {
+            return value;
+        }
+        rest = after;
+    }
+    b""
+}

@@ -1,0 +1,192 @@
+use crate::{Part, Reference, Variable, parts, reference_at, substitute, value};
+use edge_types::{NoMemory, Octets, Request};
+use std::alloc::Global;
+use std::test::Fail;
+
+// A request with a host and a referer, and these other fields.
+fn request(
+    alloc: Global,
+    cookie: &str,
+    language: &str,
+    agent: &str,
+    query: &str,
+) -> Result<Request, NoMemory> {
+    Ok(Request {
+        host: octets(alloc, "a.test")?,
+        cookie: octets(alloc, cookie)?,
+        referer: octets(alloc, "http://b.test/r")?,
+        user_agent: octets(alloc, agent)?,
+        accept_language: octets(alloc, language)?,
+        query: octets(alloc, query)?,
+    })
+}
+
+fn octets(alloc: Global, text: &str) -> Result<Octets, NoMemory> {
+    Ok(Octets::of(text.as_bytes().to_vec(alloc)?))
+}
+
+// A text with its references replaced.
+fn replaced(alloc: Global, request: &Request, text: &str) -> Result<Vec<u8>, NoMemory> {
+    substitute(alloc, request, parts(alloc, text.as_bytes())?.as_slice())
+}
+
+const MSIE: &str = "Mozilla/4.0 (compatible; MSIE 5.5; Windows NT 5.0)";
+
+const LINUX: &str = "Mozilla/5.0 (X11; Linux x86_64)";
+
+#[test]
+fn references_stand_for_what_the_request_says(rt: HostRuntime) -> Result<(), Fail> {
+    let request = request(
+        rt.alloc(),
+        "a=2; g=1;b ;e=;e=5; s= x =y; g=3",
+        "en-gb, fr;q=0.5",
+        MSIE,
+        "q=%41&a&q=2&=n",
+    )
+    .map_err(|_| "no memory")?;
+    let rows = [
+        ("$(HTTP_HOST)", "a.test"),
+        ("$(HTTP_REFERER)", "http://b.test/r"),
+        ("$(HTTP_ACCEPT_LANGUAGE)", "en-gb, fr;q=0.5"),
+        ("$(QUERY_STRING)", "q=%41&a&q=2&=n"),
+        ("$(HTTP_COOKIE{a})", "2"),
+        // The first cookie of the name counts, also where its value is empty.
+        ("$(HTTP_COOKIE{g}|'none')", "1"),
+        ("$(HTTP_COOKIE{e}|none)", "none"),
+        ("$(HTTP_COOKIE{b}|'no value')", "no value"),
+        ("$(HTTP_COOKIE{c})", ""),
+        // Parts are trimmed before the cut at `=`, and not after it.
+        ("[$(HTTP_COOKIE{s})]", "[ x =y]"),
+        ("$(QUERY_STRING{q}|'no')", "%41"),
+        ("$(QUERY_STRING{a}|'no')", "no"),
+        ("$(HTTP_ACCEPT_LANGUAGE{EN-GB})", "true"),
+        ("$(HTTP_ACCEPT_LANGUAGE{'EN-GB'})", "true"),
+        ("$(HTTP_ACCEPT_LANGUAGE{fr})", "true"),
+        (
+            "$(HTTP_ACCEPT_LANGUAGE{de})$(HTTP_ACCEPT_LANGUAGE{'de'})",
+            "",
+        ),
+        (
+            "$(HTTP_USER_AGENT{browser}) $(HTTP_USER_AGENT{version}) $(HTTP_USER_AGENT{os})",
+            "MSIE 5.5 WIN",
+        ),
+        ("$(HTTP_USER_AGENT{engine}|?)", "?"),
+        // A key on a variable that has none, and names that are no variable's.
+        ("$(HTTP_HOST{a}|'no')$(HTTP_REFERER{a})", "no"),
+        ("$(REMOTE_ADDR)$(REMOTE_ADDR{a}|'?')$(http_host|!)", "?!"),
+        // A default isn't read again.
+        ("$(A|'$(HTTP_HOST)')", "$(HTTP_HOST)"),
+    ];
+    for (text, expected) in rows {
+        let found = replaced(rt.alloc(), &request, text).map_err(|_| "no memory")?;
+        assert_eq!(rt; found.as_slice(), expected.as_bytes(), "{text}");
+    }
+    Ok(())
+}
+
+#[test]
+fn what_is_no_reference_is_text(rt: HostRuntime) -> Result<(), Fail> {
+    let request = request(rt.alloc(), "", "", "", "").map_err(|_| "no memory")?;
+    let rows = [
+        ("", ""),
+        ("cost $(5", "cost $(5"),
+        ("$(A|$(HTTP_HOST))", "$(A|a.test)"),
+        ("$$(HTTP_HOST)$", "$a.test$"),
+        (
+            "$()$( A)$(A )$(A{})$(A{b)$(A{'b})$(A|)",
+            "$()$( A)$(A )$(A{})$(A{b)$(A{'b})$(A|)",
+        ),
+        (
+            "$(A{'b c'})$(A{''})$(A|b c)$(A|'b)",
+            "$(A{'b c'})$(A{''})$(A|b c)$(A|'b)",
+        ),
+        (
+            "$(A|'')$(A|'b c')$(A{b}|'(\")|$')$(A{$}|{b}|\")",
+            "b c(\")|${b}|\"",
+        ),
+        ("$(A|'$(A|'", "$(A|'$(A|'"),
+    ];
+    for (text, expected) in rows {
+        let found = replaced(rt.alloc(), &request, text).map_err(|_| "no memory")?;
+        assert_eq!(rt; found.as_slice(), expected.as_bytes(), "{text}");
+    }
+    Ok(())
+}
+
+#[test]
+fn agents_are_told_by_the_first_line_that_fits(rt: HostRuntime) -> Result<(), Fail> {
+    let rows = [
+        ("", "", "", ""),
+        (MSIE, "MSIE", "5.5", "WIN"),
+        (LINUX, "MOZILLA", "5.0", "UNIX"),
+        ("MSIE5 Mac Mozilla/4.0", "MSIE", "", "MAC"),
+        ("MSIE x MSIE 6.0", "MSIE", "", "OTHER"),
+        ("Mozilla Mozilla/3.01Gold (Unix)", "MOZILLA", "3.01", "UNIX"),
+        ("Mozilla (Linux)", "MOZILLA", "", "UNIX"),
+        ("mozilla/4 msie 5 windows", "OTHER", "", "OTHER"),
+        ("Lynx/2.8 Mac X11", "OTHER", "", "MAC"),
+    ];
+    for (agent, browser, version, system) in rows {
+        let request = request(rt.alloc(), "", "", agent, "").map_err(|_| "no memory")?;
+        for (text, expected) in [
+            ("$(HTTP_USER_AGENT)", agent),
+            ("$(HTTP_USER_AGENT{browser})", browser),
+            ("$(HTTP_USER_AGENT{version})", version),
+            ("$(HTTP_USER_AGENT{os})", system),
+        ] {
+            let found = replaced(rt.alloc(), &request, text).map_err(|_| "no memory")?;
+            assert_eq!(rt; found.as_slice(), expected.as_bytes(), "{text} of {agent}");
+        }
+    }
+    Ok(())
+}
+
+#[test]
+fn parts_are_references_and_whole_texts_between(rt: HostRuntime) -> Result<(), Fail> {
+    let parts = parts(rt.alloc(), b"a$b$(X{'k'}|'d')$(HTTP_HOST)c$(").map_err(|_| "no memory")?;
+    assert_eq!(rt; parts.len(), 4);
+    assert!(rt; matches!(&parts[0], Part::Text(text) if text.as_bytes() == b"a$b".as_slice()));
+    assert!(rt;
+        matches!(
+            &parts[2],
+            Part::Reference(Reference {
+                variable: Variable::HttpHost,
+                key: None,
+                default: None
+            })
+        )
+    );
+    assert!(rt; matches!(&parts[3], Part::Text(text) if text.as_bytes() == b"c$(".as_slice()));
+    Ok(())
+}
+
+#[test]
+fn a_reference_at_the_front_has_its_rest(rt: HostRuntime) -> Result<(), Fail> {
+    let request = request(rt.alloc(), "g=1", "", "", "").map_err(|_| "no memory")?;
+    let found = reference_at(rt.alloc(), b"$(HTTP_COOKIE{g}|'none')=='1'").map_err(
+        |_| "no memory",
+    )?;
+    let (reference, rest) = found.ok_or("no reference")?;
+    assert_eq!(rt; rest, b"=='1'".as_slice());
+    assert_eq!(rt; value(&request, &reference), b"1".as_slice());
+    let none = reference_at(rt.alloc(), b" $(A)").map_err(|_| "no memory")?;
+    assert!(rt; none.is_none());
+    Ok(())
+}
+
+// Where the Nth growth is refused (`rt try --test --fail-alloc N`), it is told, or the answer is whole.
+#[test]
+fn a_refused_growth_is_told(rt: HostRuntime) -> Result<(), Fail> {
+    let Ok(request) = request(rt.alloc(), "g=1", "", "", "") else {
+        return Ok(());
+    };
+    match replaced(rt.alloc(), &request, "a$(HTTP_COOKIE{g}|'none')b$(X|'c')") {
+        Ok(found) => assert_eq!(rt; found.as_slice(), b"a1bc".as_slice()),
+        Err(NoMemory) => {}
+    }
+    match reference_at(rt.alloc(), b"$(X{k}|'c')d") {
+        Ok(found) => assert!(rt; found.is_some()),
+        Err(NoMemory) => {}
+    }
+    Ok(())
+}

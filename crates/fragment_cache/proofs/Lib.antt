@@ -1,0 +1,4 @@
+pub mod EntryLemmas
+pub mod FlightLemmas
+pub mod LawLemmas
+pub mod NameLemmas

@@ -1,0 +1,22 @@
+-- Whole runs of the cache machine.
+use Rattle.std.specs.Prelude.{◌≡◌, ℕ, List, [], ◌∷◌}
+use Rattle.edge_types.specs.Answered.{Answered}
+use Rattle.fragment_cache.specs.Machine.{Flight, State, empty}
+use Rattle.fragment_cache.specs.Steps.{BeginAnswer, Landing, PickAnswer, Begins, Lands, Picks}
+
+-- one call of a shard, with the second at which it was made, and what came of it
+pub data Event : Type 0 where
+  Began : List ℕ → ℕ → BeginAnswer → Event
+  Landed : Flight → Answered → ℕ → Landing → Answered → Event
+  PickedUp : ℕ → PickAnswer → Event
+
+-- the call may go so from old to new; an answer lands only for the URL that it names
+abbrev pub Step : State → Event → State → Type 0
+Step old (Began url now answer) new = Begins old url now answer new
+Step old (Landed flight answer now landing back) new = (answer.url ≡ flight.url) × Lands old flight answer now landing back new
+Step old (PickedUp number answer) new = Picks old number answer new
+
+-- a shard of this capacity that was new may be in this state after these calls, of which the latest comes first
+abbrev pub Run : ℕ → List Event → State → Type 0
+Run capacity [] s = s ≡ empty capacity
+Run capacity (event ∷ earlier) s = (before : State) × Run capacity earlier before × Step before event s

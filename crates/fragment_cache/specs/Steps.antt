@@ -1,0 +1,80 @@
+-- The steps of the cache machine, by cases.
+use Rattle.std.specs.Prelude.{◌≡◌, ◌≢◌, ℕ, ◌+◌, ◌-◌, ◌^◌, ◌<◌, true, ◌⊎◌, IsTrue, IsSome, List, [], ◌∷◌, ◌++◌, length, Option, Some, None}
+use Rattle.edge_types.specs.Answered.{Answered, failed}
+use Rattle.fragment_cache.specs.declared.flights.TheConstants.{MAX_FLIGHTS}
+use Rattle.fragment_cache.specs.declared.kept.TheConstants.{MAX_PICKS}
+use Rattle.fragment_cache.specs.Times.{expiry_of, is_failing}
+use Rattle.fragment_cache.specs.Machine.{Entry, Flight, Airspace, airspace, Kept, State, Flights, entry_of, others, used, stored, fresh, bridging, kept_at, flying_at, landed_at, picks_at, NoneFlies, changed, without, departed, one_more, landed_with, picked}
+
+-- what `begin` answers
+pub data BeginAnswer : Type 0 where
+  Hit : Answered → BeginAnswer
+  Join : ℕ → BeginAnswer
+  Lead : Flight → Answered → BeginAnswer
+  Bypass : BeginAnswer
+
+-- how a `land` goes
+pub data Landing : Type 0 where
+  NoFlight : Landing
+  Bridged : Landing
+  Stored : Landing
+  NotStored : Landing
+
+-- what `pick` answers
+pub data PickAnswer : Type 0 where
+  Here : Answered → PickAnswer
+  Flying : PickAnswer
+  Unknown : PickAnswer
+
+-- There is room for one more flight: it leaves under the next number, and its leader also gets a failed answer.
+abbrev pub Leads : Airspace → List ℕ → Flight → Answered → Airspace → Type 0
+Leads old url flight ready new = (length old.flights < MAX_FLIGHTS) × (old.next < 2 ^ 64 - 1) × (flight ≡ record { number = old.next; url = url }) × (ready ≡ failed url)
+    × (new ≡ record { flights = old.flights ++ (old.next, departed url) ∷ []; next = old.next + 1 })
+
+-- From old, a `begin` of the URL may answer this and leave new.
+abbrev pub Begins : State → List ℕ → ℕ → BeginAnswer → State → Type 0
+-- the entry is fresh: its answer is given, and it becomes the newest
+Begins old url now (Hit answer) new = (fresh old.entries url now ≡ Some answer) × (new ≡ record old { entries = used url old.entries })
+-- a flight of the URL flies: one more pick-up of it is noted
+Begins old url now (Join number) new = (fresh old.entries url now ≡ None) × (flying_at old.flights number ≡ Some url) × (picks_at old.flights number < MAX_PICKS) × (new ≡ record old { flights = changed number one_more old.flights })
+-- none flies: a flight leaves
+Begins old url now (Lead flight ready) new = (fresh old.entries url now ≡ None) × NoneFlies old.flights url × Leads (airspace old) url flight ready (airspace new) × (new ≡ record old { flights = new.flights; next = new.next })
+-- nothing changes; in place of a join only where the flight has all the pick-ups that it may have
+Begins old url now Bypass new = (new ≡ old) × (fresh old.entries url now ≡ None → (number : ℕ) → flying_at old.flights number ≡ Some url → picks_at old.flights number ≡ MAX_PICKS)
+
+-- The flight of this number lands with the answer and keeps its pick-ups; it may be gone, and is where it has none.
+abbrev pub Arrives : Flights → ℕ → Answered → Flights → Type 0
+Arrives old number answer new = ((0 < picks_at old number) × (new ≡ changed number (landed_with answer) old)) ⊎ (new ≡ without number old)
+
+-- From old, a `land` of the flight with the answer may go so, answer `back`, and leave new.
+abbrev pub Lands : State → Flight → Answered → ℕ → Landing → Answered → State → Type 0
+-- no such flight flies here: nothing changes
+Lands old flight answer now NoFlight back new = (flying_at old.flights flight.number ≢ Some flight.url) × (back ≡ answer) × (new ≡ old)
+-- the origin fails, and the URL's entry can stand in: no entry changes or moves, and its answer is given and landed with
+Lands old flight answer now Bridged back new = (flying_at old.flights flight.number ≡ Some flight.url) × IsTrue (is_failing answer.reply) × (bridging old.entries flight.url now ≡ Some back)
+    × (new ≡ record old { flights = new.flights }) × Arrives old.flights flight.number back new.flights
+-- the answer is to be stored: it is, until its expiry
+Lands old flight answer now Stored back new = (flying_at old.flights flight.number ≡ Some flight.url) × (back ≡ answer)
+    × (expiry : ℕ) × (expiry_of answer now ≡ Some expiry) × (new ≡ record old { entries = stored old.capacity flight.url (record { answer = answer; expiry = expiry }) old.entries; flights = new.flights })
+    × Arrives old.flights flight.number answer new.flights
+-- it is not, or a growth was refused: an older entry of the URL is taken out
+Lands old flight answer now NotStored back new = (flying_at old.flights flight.number ≡ Some flight.url) × (back ≡ answer)
+    × (new ≡ record old { entries = others flight.url old.entries; flights = new.flights }) × Arrives old.flights flight.number answer new.flights
+
+-- it goes in one of these ways
+abbrev pub LandsSomehow : State → Flight → Answered → ℕ → Answered → State → Type 0
+LandsSomehow old flight answer now back new =
+    Lands old flight answer now NoFlight back new ⊎ (Lands old flight answer now Bridged back new ⊎ (Lands old flight answer now Stored back new ⊎ Lands old flight answer now NotStored back new))
+
+-- From old, a `pick` of the number may answer this and leave new flights.
+abbrev pub PicksUp : Flights → ℕ → PickAnswer → Flights → Type 0
+-- the flight has landed with this answer: one pick-up is used up
+PicksUp old number (Here answer) new = (landed_at old number ≡ Some answer) × (new ≡ picked number old)
+-- it flies
+PicksUp old number Flying new = IsSome (flying_at old number) × (new ≡ old)
+-- there is no such flight; or a growth was refused, and the pick-up is used up
+PicksUp old number Unknown new = ((kept_at old number ≡ None) × (new ≡ old)) ⊎ (IsSome (landed_at old number) × (new ≡ picked number old))
+
+-- nothing else changes
+abbrev pub Picks : State → ℕ → PickAnswer → State → Type 0
+Picks old number answer new = PicksUp old.flights number answer new.flights × (new ≡ record old { flights = new.flights })

@@ -1,0 +1,184 @@
+//! The stored answers of a shard, newest use first. Clauses see the entries and the capacity.
+
+ghost use Rattle.std.specs.Prelude.{◌≡◌, ◌≢◌, ◌≤◌, ◌<◌, [], bytes_eq, None, Some, IfOk, OnOk, OnErr, IsSome, MatchOption, MatchBool, ℕ};
+ghost use Rattle.std.specs.Arc.{arc_value};
+ghost use Rattle.std.specs.NonZero.{non_zero_usize_get};
+ghost use Rattle.lru.specs.LruCache.{IsValid};
+ghost use Rattle.fragment_cache.specs.Times.{expiry_of};
+
+use crate::times::{expiry, extension};
+use edge_types::{Answer, NoMemory, PageUrl, SharedAnswer};
+use lru::LruCache;
+use std::alloc::Global;
+use std::marker::Model;
+use std::num::NonZeroUsize;
+use std::sync::Arc;
+
+// A stored answer, and the second at which it expires.
+#[derive(Drop)]
+struct Stored {
+    answer: SharedAnswer,
+    expiry: u64,
+}
+
+impl Model for Stored {
+    ghost use Rattle.fragment_cache.specs.Machine.{Entry};
+
+    ghost Value = { Entry };
+
+    ghost view = { λ e. record { answer = e.answer; expiry = e.expiry } };
+}
+
+impl Stored {
+    ghost use Rattle.fragment_cache.specs.Machine.{bridge_end};
+
+    // Until when the answer bridges a failing origin.
+    fn bridge_end(&self) -> u64
+        ensures { result ≡ bridge_end self.now }
+    {
+        self.expiry
+            .saturating_add(u64::from(extension(self.answer.get())))
+    }
+}
+
+// The stored answers.
+#[derive(Drop)]
+pub(crate) struct Entries {
+    cache: LruCache<PageUrl, Stored>,
+}
+
+impl Model for Entries {
+    ghost use Rattle.fragment_cache.specs.Machine.{Shelf};
+    ghost use Rattle.fragment_cache.specs.Sound.{AreEntries};
+
+    ghost Value = { Shelf };
+
+    ghost view = { λ c. record { entries = c.cache.entries; capacity = c.cache.cap } };
+
+    ghost invariant = { λ c. AreEntries c.cache.cap c.cache.entries };
+}
+
+// What the cache tells with its length: that its URLs are distinct, and no more than it may have.
+fn check(cache: &LruCache<PageUrl, Stored>)
+    ensures { IsValid bytes_eq cache.now }
+{
+    let _ = cache.len();
+}
+
+impl Entries {
+    ghost use Rattle.fragment_cache.specs.Machine.{entry_of, others, used, stored, fresh, bridging};
+    ghost use Rattle.fragment_cache.specs.Sound.{AreEntries};
+
+    pub(crate) fn new(alloc: Global, capacity: NonZeroUsize) -> Result<Entries, NoMemory>
+        ensures { IfOk result (λ s. s ≡ record { entries = []; capacity = non_zero_usize_get capacity }) }
+    {
+        let cache = LruCache::new(alloc, capacity)?;
+        check(&cache);
+        Ok(Entries { cache })
+    }
+
+    // Tells callers what holds of the entries.
+    pub(crate) fn sound(&self)
+        ensures { AreEntries self.now.capacity self.now.entries }
+    {
+        let _ = &self.cache;
+    }
+
+    // The answer of the URL's entry before its expiry; the entry becomes the newest.
+    pub(crate) fn hit(&mut self, url: &PageUrl, now: u64) -> Result<Option<Arc<Answer>>, NoMemory>
+        ensures ok { IfOk result (λ found. MatchOption found
+            ((fresh self.old.entries url.now now ≡ None) × (self.new ≡ self.old))
+            (λ answer. (fresh self.old.entries url.now now ≡ Some (arc_value answer))
+            × (self.new ≡ record self.old { entries = used url.now self.old.entries }))) }
+        ensures err { OnErr result (IsSome (fresh self.old.entries url.now now) × (self.new ≡ self.old)) }
+    {
+        let Some(answer) = self.fresh(url, now)? else {
+            return Ok(None);
+        };
+        self.promote(url);
+        Ok(Some(answer))
+    }
+
+    // The answer of the URL's entry before its expiry.
+    fn fresh(&self, url: &PageUrl, now: u64) -> Result<Option<Arc<Answer>>, NoMemory>
+        ensures ok { IfOk result (λ found. MatchOption found
+            (fresh self.now.entries url.now now ≡ None)
+            (λ answer. fresh self.now.entries url.now now ≡ Some (arc_value answer))) }
+        ensures err { OnErr result (IsSome (fresh self.now.entries url.now now)) }
+    {
+        let Some(stored) = self.cache.peek(url) else {
+            return Ok(None);
+        };
+        if now >= stored.expiry {
+            return Ok(None);
+        }
+        Ok(Some(stored.answer.share()?.into_arc()))
+    }
+
+    // Brings the URL's entry to the front.
+    fn promote(&mut self, url: &PageUrl)
+        ensures { self.new ≡ record self.old { entries = used url.now self.old.entries } }
+    {
+        self.cache.promote(url);
+        check(&self.cache);
+    }
+
+    // The answer of the URL's entry before its expiry plus its extension.
+    pub(crate) fn bridge(&self, url: &PageUrl, now: u64) -> Result<Option<SharedAnswer>, NoMemory>
+        ensures { IfOk result (λ found. found ≡ bridging self.now.entries url.now now) }
+    {
+        let Some(stored) = self.cache.peek(url) else {
+            return Ok(None);
+        };
+        if now >= stored.bridge_end() {
+            return Ok(None);
+        }
+        Ok(Some(stored.answer.share()?))
+    }
+
+    // Puts in an answer that is to be stored, in place of an older one of its URL, which also goes
+    // where the answer isn't stored. Answers whether it was.
+    pub(crate) fn put(&mut self, url: &PageUrl, answer: &SharedAnswer, now: u64) -> bool
+        requires { answer.now.url ≡ url.now }
+        ensures { MatchBool result
+            ((expiry : ℕ) × (expiry_of answer.now now ≡ Some expiry)
+            × (self.new ≡ record self.old { entries = stored self.old.capacity url.now (record { answer = answer.now; expiry = expiry }) self.old.entries }))
+            (self.new ≡ record self.old { entries = others url.now self.old.entries }) }
+    {
+        match expiry(answer.get(), now) {
+            Some(expiry) => match self.try_put(url, answer, expiry) {
+                Ok(()) => true,
+                Err(NoMemory) => {
+                    self.remove(url);
+                    false
+                }
+            },
+            None => {
+                self.remove(url);
+                false
+            }
+        }
+    }
+
+    fn try_put(&mut self, url: &PageUrl, answer: &SharedAnswer, expiry: u64) -> Result<(), NoMemory>
+        requires { answer.now.url ≡ url.now }
+        ensures ok { OnOk result (self.new ≡ record self.old { entries = stored self.old.capacity url.now (record { answer = answer.now; expiry = expiry }) self.old.entries }) }
+        ensures err { OnErr result (self.new ≡ self.old) }
+    {
+        let stored = Stored {
+            answer: answer.share()?,
+            expiry,
+        };
+        self.cache.put(url.share()?, stored)?;
+        check(&self.cache);
+        Ok(())
+    }
+
+    // Takes out the URL's entry.
+    fn remove(&mut self, url: &PageUrl)
+        ensures { self.new ≡ record self.old { entries = others url.now self.old.entries } }
+    {
+        let _ = self.cache.pop(url);
+        check(&self.cache);
+    }
+}

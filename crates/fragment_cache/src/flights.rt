@@ -1,0 +1,234 @@
+//! The flights of a shard: fetches that are under way, and answers that wait for their pick-ups.
+//! Clauses see them by number, in order, and the next number.
+
+use crate::kept::{Kept, MAX_PICKS, arrive, note_pick_up, picks, use_up};
+use edge_types::{Answer, NoMemory, PageUrl, SharedAnswer};
+use std::alloc::Global;
+use std::collections::BTreeMap;
+use std::marker::Model;
+use std::sync::Arc;
+
+/// The most flights that a shard keeps: those that fly, and those that wait for pick-ups.
+pub const MAX_FLIGHTS: usize = 1024;
+
+/// The right and the duty to fetch a URL and to land the answer. It can't be copied. Clauses see
+/// its number and its URL.
+#[derive(Drop)]
+pub struct Flight {
+    number: u64,
+    url: PageUrl,
+}
+
+impl Model for Flight {
+    ghost use Rattle.fragment_cache.specs.Machine as machine;
+
+    ghost Value = { machine.Flight };
+
+    ghost view = { λ f. record { number = f.number; url = f.url } };
+}
+
+impl Flight {
+    ghost use Rattle.std.specs.Prelude.{◌≡◌};
+
+    /// The URL to fetch. Takes no memory.
+    pub fn url(&self) -> &PageUrl
+        ensures { result.now ≡ self.now.url }
+    {
+        &self.url
+    }
+
+    pub(crate) fn number(&self) -> u64
+        ensures { result ≡ self.now.number }
+    {
+        self.number
+    }
+}
+
+/// What `pick` answers.
+#[derive(Drop)]
+pub enum Picked {
+    /// The flight landed with this answer.
+    Here(Arc<Answer>),
+    /// The flight has not landed yet.
+    Flying,
+    /// The shard keeps no such flight.
+    Unknown,
+}
+
+// The flights that are kept.
+#[derive(Drop)]
+pub(crate) struct Flights {
+    kept: BTreeMap<u64, Kept>,
+    // The number of the flight that flies for a URL.
+    flying: BTreeMap<PageUrl, u64>,
+    next: u64,
+}
+
+impl Model for Flights {
+    ghost use Rattle.fragment_cache.specs.Machine.{Airspace};
+    ghost use Rattle.fragment_cache.specs.Index.{Indexed};
+
+    ghost Value = { Airspace };
+
+    ghost view = { λ f. record { flights = f.kept.entries; next = f.next } };
+
+    ghost invariant = { λ f. Indexed f.flying f.kept.entries f.next };
+}
+
+impl Flights {
+    ghost use Rattle.std.specs.Prelude.{◌≡◌, ◌↔◌, ◌+◌, ◌-◌, ◌^◌, ◌<◌, ◌++◌, ◌∷◌, [], length, Some, IsTrue, IsSome, IfOk, OnErr, MatchOption, MatchBool};
+    ghost use Rattle.std.specs.Arc.{arc_value};
+    ghost use Rattle.edge_types.specs.Answered.{failed};
+    ghost use Rattle.fragment_cache.specs.Machine as machine;
+    ghost use Rattle.fragment_cache.specs.Machine.{kept_at, picks_at, flying_at, NoneFlies, changed, one_more, departed};
+    ghost use Rattle.fragment_cache.specs.Sound.{AreFlights};
+    ghost use Rattle.fragment_cache.specs.Steps.{Arrives, PicksUp, Leads};
+    ghost use Rattle.fragment_cache.specs.Shown.{picked_answer};
+
+    pub(crate) fn new(alloc: Global) -> Flights
+        ensures { result ≡ record { flights = []; next = 0 } }
+    {
+        Flights {
+            kept: BTreeMap::new(alloc),
+            flying: BTreeMap::new(alloc),
+            next: 0,
+        }
+    }
+
+    // Tells callers what holds of the flights.
+    pub(crate) fn sound(&self)
+        ensures { AreFlights self.now.flights self.now.next }
+    {
+        let _ = &self.kept;
+    }
+
+    // The number of the flight that flies for a URL.
+    pub(crate) fn flying(&self, url: &PageUrl) -> Option<u64>
+        ensures { MatchOption result (NoneFlies self.now.flights url.now)
+            (λ number. flying_at self.now.flights number ≡ Some url.now) }
+    {
+        self.flying.get(url).copied()
+    }
+
+    // Whether this very flight flies here.
+    pub(crate) fn flies(&self, flight: &Flight) -> bool
+        ensures { IsTrue result ↔ (flying_at self.now.flights flight.now.number ≡ Some flight.now.url) }
+    {
+        match self.flying.get(flight.url()).copied() {
+            Some(number) => number == flight.number,
+            None => false,
+        }
+    }
+
+    // Notes one more pick-up; answers whether there was room for it.
+    pub(crate) fn join(&mut self, number: u64) -> bool
+        requires { IsSome (flying_at self.old.flights number) }
+        ensures { MatchBool result
+            ((picks_at self.old.flights number < MAX_PICKS)
+            × (self.new ≡ record self.old { flights = changed number one_more self.old.flights }))
+            ((picks_at self.old.flights number ≡ MAX_PICKS) × (self.new ≡ self.old)) }
+    {
+        if picks(&self.kept, number) == MAX_PICKS {
+            return false;
+        }
+        note_pick_up(&mut self.kept, number);
+        true
+    }
+
+    // Opens a flight, and makes a failed answer for its leader; none where there is no room.
+    pub(crate) fn lead(&mut self, alloc: Global, url: &PageUrl) -> Option<(Flight, Arc<Answer>)>
+        requires { NoneFlies self.old.flights url.now }
+        ensures { MatchOption result (self.new ≡ self.old)
+            (λ lead. Leads self.old url.now lead.0 (arc_value lead.1) self.new) }
+    {
+        if self.kept.len() >= MAX_FLIGHTS || self.next == u64::MAX {
+            return None;
+        }
+        match self.try_lead(alloc, url) {
+            Ok(lead) => Some(lead),
+            Err(NoMemory) => None,
+        }
+    }
+
+    fn try_lead(&mut self, alloc: Global, url: &PageUrl) -> Result<(Flight, Arc<Answer>), NoMemory>
+        requires none { NoneFlies self.old.flights url.now }
+        requires room { length self.old.flights < MAX_FLIGHTS }
+        requires numbers { self.old.next < 2 ^ 64 - 1 }
+        ensures ok { IfOk result (λ lead. Leads self.old url.now lead.0 (arc_value lead.1) self.new) }
+        ensures err { OnErr result (self.new ≡ self.old) }
+    {
+        let number = self.next;
+        let ready = Arc::new(alloc, Answer::failed(url.share()?))?;
+        let flight = Flight {
+            number,
+            url: url.share()?,
+        };
+        open(&mut self.flying, &mut self.kept, url, number)?;
+        self.next = number + 1;
+        Ok((flight, ready))
+    }
+
+    // Lands a flight that flies, with its pick-ups; it is gone where it has none, or a second
+    // owner of the answer is refused.
+    pub(crate) fn land(&mut self, flight: &Flight, answer: &SharedAnswer)
+        requires flies { flying_at self.old.flights flight.now.number ≡ Some flight.now.url }
+        requires named { answer.now.url ≡ flight.now.url }
+        ensures flights { Arrives self.old.flights flight.now.number answer.now self.new.flights }
+        ensures next { self.new.next ≡ self.old.next }
+    {
+        self.flying.remove(flight.url());
+        arrive(&mut self.kept, flight.number, answer);
+    }
+
+    // Uses up one pick-up of a flight that has landed.
+    pub(crate) fn pick(&mut self, number: u64) -> Picked
+        ensures picks { PicksUp self.old.flights number (picked_answer result) self.new.flights }
+        ensures next { self.new.next ≡ self.old.next }
+    {
+        let landed = match self.kept.get(&number) {
+            None => return Picked::Unknown,
+            Some(flight) => match flight.landed() {
+                None => return Picked::Flying,
+                Some(landed) => landed.share(),
+            },
+        };
+        use_up(&mut self.kept, number);
+        match landed {
+            Ok(answer) => Picked::Here(answer.into_arc()),
+            Err(NoMemory) => Picked::Unknown,
+        }
+    }
+}
+
+ghost use Rattle.std.specs.Prelude.{◌≡◌, ◌<◌, ◌++◌, ◌∷◌, [], None, Some, OnOk, OnErr};
+ghost use Rattle.std.specs.List.{AllByRecursion};
+ghost use Rattle.std.specs.BTreeMap.{get};
+ghost use Rattle.std.specs.Ordering.{nat_cmp};
+ghost use Rattle.std.specs.Cmp.Lexicographic.{slice_cmp};
+ghost use Rattle.fragment_cache.specs.Machine.{departed};
+ghost use Rattle.fragment_cache.specs.Index.{Changes, Agree};
+
+// Puts a flight that has just left into the index and among the flights, or into neither.
+fn open(
+    flying: &mut BTreeMap<PageUrl, u64>,
+    kept: &mut BTreeMap<u64, Kept>,
+    url: &PageUrl,
+    number: u64,
+) -> Result<(), NoMemory>
+    requires absent { get (slice_cmp nat_cmp) flying.old url.now ≡ None }
+    requires last { AllByRecursion (λ e. e.0 < number) kept.old.entries }
+    ensures index { OnOk result (Changes url.now (Some number) flying.old flying.new) }
+    ensures flights { OnOk result (kept.new.entries ≡ kept.old.entries ++ (number, departed url.now) ∷ []) }
+    ensures index_stays { OnErr result (Agree flying.old flying.new) }
+    ensures flights_stay { OnErr result (kept.new.entries ≡ kept.old.entries) }
+{
+    let departed = Kept::departed(url.share()?);
+    flying.insert(url.share()?, number)?;
+    match kept.insert(number, departed) {
+        Ok(_) => Ok(()),
+        Err(_) => {
+            flying.remove(url);
+            Err(NoMemory)
+        }
+    }
+}

@@ -1,0 +1,17 @@
+//! A shard of the fragment cache: equal requests meet at one fetch, stored fragments are served
+//! until they expire, and a failing origin is bridged for as long as the stored answer allows.
+#![tactic(auto)]
+
+mod entries;
+pub mod flights;
+mod kept;
+pub mod laws;
+pub mod shard;
+mod times;
+
+pub use flights::{Flight, MAX_FLIGHTS, Picked};
+pub use kept::MAX_PICKS;
+pub use shard::{Begun, MAX_CAPACITY, Shard};
+
+#[cfg(test)]
+mod tests;

@@ -1,0 +1,225 @@
+//! A shard of the cache. Clauses see the state of the cache machine: entries by URL, newest use
+//! first; flights by number; the next number; the capacity.
+
+use crate::entries::Entries;
+use crate::flights::{Flight, Flights, Picked};
+use crate::times::is_failing;
+use edge_types::{Answer, NoMemory, PageUrl, SharedAnswer};
+use std::alloc::Global;
+use std::marker::Model;
+use std::num::NonZeroUsize;
+use std::sync::Arc;
+
+/// The most entries that a shard can have.
+pub const MAX_CAPACITY: usize = 1024;
+
+/// What `begin` answers.
+#[derive(Drop)]
+pub enum Begun {
+    /// The stored answer.
+    Hit(Arc<Answer>),
+    /// A flight of this number flies for the URL: its answer can be picked up once it has landed.
+    Join(u64),
+    /// The caller is to fetch and to land the answer, or else this failed one.
+    Lead(Flight, Arc<Answer>),
+    /// The caller is to fetch for itself.
+    Bypass,
+}
+
+/// Stored answers, and the flights of those that are to come.
+///
+/// ```text
+///  begin -- Hit     the stored answer, before its expiry
+///        -- Join    a flight of the URL flies: pick its answer up later
+///        -- Lead    none does: fetch, and land --+-- stored, or not
+///        -- Bypass  fetch for yourself           +-- bridged by a stored answer
+/// ```
+#[derive(Drop)]
+pub struct Shard {
+    entries: Entries,
+    flights: Flights,
+    alloc: Global,
+}
+
+impl Model for Shard {
+    ghost use Rattle.fragment_cache.specs.Machine.{State};
+
+    ghost Value = { State };
+
+    ghost view = { λ s. record { entries = s.entries.entries; flights = s.flights.flights; next = s.flights.next; capacity = s.entries.capacity } };
+}
+
+impl Shard {
+    ghost use Rattle.std.specs.Prelude.{◌≡◌, ◌<◌, ◌≤◌, ◌+◌, ◌++◌, ◌∷◌, [], None, Some, IfOk};
+    ghost use Rattle.std.specs.Arc.{arc_value};
+    ghost use Rattle.fragment_cache.specs.Machine.{empty, fresh};
+    ghost use Rattle.fragment_cache.specs.Steps.{Begins, LandsSomehow, Picks};
+    ghost use Rattle.fragment_cache.specs.Shown.{begun_answer, picked_answer};
+    ghost use Rattle.fragment_cache.specs.Sound.{IsSound, NamesUrl};
+
+    /// A shard of at most this many entries, which keeps nothing yet.
+    ///
+    /// Our profile.
+    pub fn new(alloc: Global, capacity: usize) -> Result<Shard, NoMemory>
+        requires from { 1 ≤ capacity }
+        requires to { capacity ≤ MAX_CAPACITY }
+        ensures { IfOk result (λ s. s ≡ empty capacity) }
+    {
+        let capacity = match NonZeroUsize::new(capacity) {
+            Some(capacity) => capacity,
+            None => unreachable!(),
+        };
+        Ok(Shard {
+            entries: Entries::new(alloc, capacity)?,
+            flights: Flights::new(alloc),
+            alloc,
+        })
+    }
+
+    /// Asks for a URL at a second of the clock, and answers in this order: `Hit` where an entry of
+    /// the URL is stored and now is before its expiry, and makes that entry the newest; `Join`
+    /// where a flight of the URL flies, and notes one more pick-up of it; else `Lead`, with the
+    /// next number.
+    ///
+    /// `Bypass`, which changes nothing, comes in place of `Hit` where a growth is refused, in place
+    /// of `Join` where the flight has `MAX_PICKS` pick-ups, and in place of `Lead` where a growth
+    /// is refused, `MAX_FLIGHTS` flights are kept or the numbers are used up. An expired entry
+    /// stays where it is.
+    ///
+    /// Our profile.
+    pub fn begin(&mut self, url: &PageUrl, now: u64) -> Begun
+        ensures step { Begins self.old url.now now (begun_answer result) self.new }
+        ensures named { NamesUrl url.now (begun_answer result) }
+        ensures sound { IsSound self.new }
+    {
+        self.sound();
+        let begun = self.start(url, now);
+        self.sound();
+        begun
+    }
+
+    fn start(&mut self, url: &PageUrl, now: u64) -> Begun
+        ensures { Begins self.old url.now now (begun_answer result) self.new }
+    {
+        match self.entries.hit(url, now) {
+            Ok(Some(answer)) => Begun::Hit(answer),
+            Ok(None) => self.depart(url, now),
+            Err(NoMemory) => Begun::Bypass,
+        }
+    }
+
+    // Tells callers what holds of the shard.
+    fn sound(&self)
+        ensures { IsSound self.now }
+    {
+        self.entries.sound();
+        self.flights.sound();
+    }
+
+    // Joins the flight of a URL that no entry answers, or leads one.
+    fn depart(&mut self, url: &PageUrl, now: u64) -> Begun
+        requires { fresh self.old.entries url.now now ≡ None }
+        ensures { Begins self.old url.now now (begun_answer result) self.new }
+    {
+        let _ = now;
+        self.flights.sound();
+        match self.flights.flying(url) {
+            Some(number) => {
+                if !self.flights.join(number) {
+                    return Begun::Bypass;
+                }
+                Begun::Join(number)
+            }
+            None => match self.flights.lead(self.alloc, url) {
+                Some((flight, ready)) => Begun::Lead(flight, ready),
+                None => Begun::Bypass,
+            },
+        }
+    }
+
+    /// Lands a flight with the answer of its URL, and gives the answer with which it landed.
+    ///
+    /// Where no such flight flies here nothing changes, and the answer comes back. Where the
+    /// answer is failed, or its status is 500 to 599, and an entry of the URL is stored whose
+    /// expiry plus extension is after now, the landing is bridged: the stored answer takes the
+    /// place of the answer, and no entry changes or moves. Else an answer that is to be stored (a
+    /// success with a `max-age` of at least 1 and without `no-store`) becomes the newest entry, in
+    /// place of an older one of the URL, else of the last one where the shard is full; an answer
+    /// that isn't takes out an older entry. The flight keeps its pick-ups with the answer, or is
+    /// gone where it has none.
+    ///
+    /// Never refused: want of memory only unbridges a landing, leaves the answer out of the
+    /// entries with an older one of the URL, or ends the flight.
+    ///
+    /// Our profile.
+    pub fn land(&mut self, flight: Flight, answer: Arc<Answer>, now: u64) -> Arc<Answer>
+        requires { (arc_value answer).url ≡ flight.url }
+        ensures step { LandsSomehow self.old flight (arc_value answer) now (arc_value result) self.new }
+        ensures named { (arc_value result).url ≡ flight.url }
+        ensures sound { IsSound self.new }
+    {
+        self.sound();
+        let answer = self.touch_down(&flight, SharedAnswer::of(answer), now);
+        self.sound();
+        answer.into_arc()
+    }
+
+    fn touch_down(&mut self, flight: &Flight, answer: SharedAnswer, now: u64) -> SharedAnswer
+        requires { answer.url ≡ flight.now.url }
+        ensures { LandsSomehow self.old flight.now answer now result self.new }
+    {
+        if !self.flights.flies(flight) {
+            return answer;
+        }
+        match self.bridge(flight, &answer, now) {
+            Some(bridging) => {
+                self.flights.land(flight, &bridging);
+                bridging
+            }
+            None => {
+                self.entries.put(flight.url(), &answer, now);
+                self.flights.land(flight, &answer);
+                answer
+            }
+        }
+    }
+
+    /// Picks up the answer of the flight of a number, once it has landed: `Here` uses up one
+    /// pick-up, and the last one ends the flight. Takes no memory but a second owner of the answer.
+    ///
+    /// `Flying` before the flight lands, and `Unknown` where there is no such flight; both change
+    /// nothing. Where the second owner is refused the pick-up is used up too, and the answer is
+    /// `Unknown`.
+    ///
+    /// Our profile.
+    pub fn pick(&mut self, number: u64) -> Picked
+        ensures step { Picks self.old number (picked_answer result) self.new }
+        ensures sound { IsSound self.new }
+    {
+        let picked = self.flights.pick(number);
+        self.sound();
+        picked
+    }
+}
+
+impl Shard {
+    ghost use Rattle.std.specs.Prelude.{◌≡◌, Some, IsTrue, IfSome};
+    ghost use Rattle.fragment_cache.specs.Times.{is_failing};
+    ghost use Rattle.fragment_cache.specs.Machine.{bridging};
+
+    // The stored answer that stands in for a failing one.
+    fn bridge(&self, flight: &Flight, answer: &SharedAnswer, now: u64) -> Option<SharedAnswer>
+        ensures failing { IfSome result (λ _. IsTrue (is_failing answer.now.reply)) }
+        ensures bridging { IfSome result (λ found. bridging self.now.entries flight.now.url now ≡ Some found) }
+        ensures named { IfSome result (λ found. found.url ≡ flight.now.url) }
+    {
+        self.entries.sound();
+        if !is_failing(answer.get()) {
+            return None;
+        }
+        match self.entries.bridge(flight.url(), now) {
+            Ok(Some(found)) => Some(found),
+            Ok(None) | Err(NoMemory) => None,
+        }
+    }
+}

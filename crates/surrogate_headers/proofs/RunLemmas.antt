@@ -1,0 +1,95 @@
+-- Runs of bytes at the front of a text.
+use Rattle.std.proofs.Common.{◌≡◌, ℕ, suc, ◌+◌, ◌<◌, Bool, true, false, not, cond, eqb, ltb, List, [], ◌∷◌, ◌++◌, length, get_or, take, drop, Option, Some, None, refl, ap, ◌∙◌, arith, add-one}
+use Rattle.std.specs.Prelude.{position, option_map, option_and_then}
+use Rattle.std.specs.List.{list_all, position_or_len}
+use Rattle.std.proofs.lemmas.Bool.{and_parts, lt-ltb, le-ltb, ltb-true, cond-true, eqb-true, eq-eqb, not_from_false}
+use Rattle.std.proofs.lemmas.List.{length-append, get_or-take, length-take}
+use Rattle.std.proofs.lemmas.List.Sums.{list_all-from_AllPass, fails_before_first, passes_at_first, split_at_first}
+use Rattle.std.proofs.lemmas.Option.{some_pair_parts}
+use Rattle.std.proofs.Math.Seq.{take-append_seam}
+use Rattle.surrogate_headers.specs.Parameter.{around}
+use Rattle.surrogate_headers.specs.Spelling.{NonePasses}
+
+-- a value that a chain of steps gave
+pub bound : {A B : Type 0} (o : Option A) (f : A → Option B) (y : B) → option_and_then f o ≡ Some y → (x : A) × (o ≡ Some x) × (f x ≡ Some y)
+bound None f y e = absurd (cc)
+bound (Some x) f y e = (x, refl, e)
+
+pub guarded : {A : Type 0} (b : Bool) (o : Option A) (y : A) → cond b o None ≡ Some y → (b ≡ true) × (o ≡ Some y)
+guarded true o y e = (refl, e)
+guarded false o y e = absurd (cc)
+
+-- a run without such a byte, and then one or the end
+pub run_stops : (p : ℕ → Bool) (xs ys : List ℕ) → NonePasses p xs → position_or_len p ys ≡ 0 → position_or_len p (xs ++ ys) ≡ length xs
+run_stops p [] ys none stop = stop
+run_stops p (x ∷ xs) ys none stop =
+    let here = and_parts (not (p x)) (list_all (λ b. not (p b)) xs) none in
+    let later = run_stops p xs ys here.1 stop in
+    cond-true (not (p x)) (1 + position_or_len p (xs ++ ys)) 0 here.0 ∙ omega (arith, later)
+
+pub run_whole : (p : ℕ → Bool) (xs : List ℕ) → NonePasses p xs → position_or_len p xs ≡ length xs
+run_whole p [] none = refl
+run_whole p (x ∷ xs) none =
+    let here = and_parts (not (p x)) (list_all (λ b. not (p b)) xs) none in
+    let later = run_whole p xs here.1 in
+    cond-true (not (p x)) (1 + position_or_len p xs) 0 here.0 ∙ omega (arith, later)
+
+-- before the first such byte there is none
+pub run_passes : (p : ℕ → Bool) (xs : List ℕ) → NonePasses p (take (position_or_len p xs) xs)
+run_passes p xs =
+    let n = position_or_len p xs in
+    list_all-from_AllPass (λ b. not (p b)) (take n xs) (λ k d h.
+    let below : k < n = omega (arith, length-take n xs) in
+    ap (λ b. not (p b)) (get_or-take n xs k d below) ∙ not_from_false _ (fails_before_first p xs k d below))
+
+pub stops_at : (p : ℕ → Bool) (x : ℕ) (xs : List ℕ) → p x ≡ true → position_or_len p (x ∷ xs) ≡ 0
+stops_at p x xs e = ap (λ t. cond (not t) (1 + position_or_len p xs) 0) e
+
+drop_past : (xs : List ℕ) (m : ℕ) (ys : List ℕ) → drop (suc (length xs)) (xs ++ m ∷ ys) ≡ ys
+drop_past [] m ys = refl
+drop_past (x ∷ xs) m ys = drop_past xs m ys
+
+pub around-spelled : (mark : ℕ) (xs ys : List ℕ) → NonePasses (λ b. eqb b mark) xs → around mark (xs ++ mark ∷ ys) ≡ Some (xs, ys)
+unfolding around
+around-spelled mark xs ys none =
+    let is : ℕ → Bool = λ b. eqb b mark in
+    let text = xs ++ mark ∷ ys in
+    let at : position_or_len is text ≡ length xs = run_stops is xs (mark ∷ ys) none (stops_at is mark ys (eq-eqb mark mark refl)) in
+    let inside : ltb (length xs) (length text) ≡ true = lt-ltb (length xs) (length text) (omega (arith, length-append xs (mark ∷ ys))) in
+    let place : position is text ≡ Some (length xs) = rw (at, inside) refl in
+    let cut = take-append_seam xs (mark ∷ ys) in
+    let rest : drop (length xs + 1) text ≡ ys = rw add-one (drop_past xs mark ys) in
+    ap (option_map (λ n. (take n text, drop (n + 1) text))) place ∙ (λ i. Some (cut i, rest i))
+
+pub around-none : (mark : ℕ) (xs : List ℕ) → NonePasses (λ b. eqb b mark) xs → around mark xs ≡ None
+unfolding around
+around-none mark xs none =
+    let is : ℕ → Bool = λ b. eqb b mark in
+    let at = run_whole is xs none in
+    let past : ltb (length xs) (length xs) ≡ false = le-ltb (length xs) (length xs) (omega arith) in
+    let place : position is xs ≡ None = rw (at, past) refl in
+    ap (option_map (λ n. (take n xs, drop (n + 1) xs))) place
+
+-- what stands round the first such byte
+pub record Around (mark : ℕ) (text xs ys : List ℕ) : Type 0 where
+  pub joined : text ≡ xs ++ mark ∷ ys
+  pub none : NonePasses (λ b. eqb b mark) xs
+
+around_found : (mark : ℕ) (text : List ℕ) → position_or_len (λ b. eqb b mark) text < length text
+    → Around mark text (take (position_or_len (λ b. eqb b mark) text) text) (drop (position_or_len (λ b. eqb b mark) text + 1) text)
+around_found mark text inside =
+    let is : ℕ → Bool = λ b. eqb b mark in
+    let n = position_or_len is text in
+    let same : get_or text n 0 ≡ mark = eqb-true _ mark (passes_at_first is text 0 inside) in
+    record { joined = split_at_first is text 0 inside ∙ ap (λ (m : ℕ). take n text ++ m ∷ drop (n + 1) text) same; none = run_passes is text }
+
+around_by_place : (mark : ℕ) (text xs ys : List ℕ) (t : Bool) → ltb (position_or_len (λ b. eqb b mark) text) (length text) ≡ t
+    → option_map {U = List ℕ × List ℕ} (λ k. (take k text, drop (k + 1) text)) (cond t (Some (position_or_len (λ b. eqb b mark) text)) None) ≡ Some (xs, ys) → Around mark text xs ys
+around_by_place mark text xs ys true at h =
+    let both = some_pair_parts _ xs _ ys h in
+    rw (← both.0, ← both.1) (around_found mark text (ltb-true _ (length text) at))
+around_by_place mark text xs ys false at h = absurd (cc)
+
+pub around-sound : (mark : ℕ) (text xs ys : List ℕ) → around mark text ≡ Some (xs, ys) → Around mark text xs ys
+unfolding around
+around-sound mark text xs ys e = around_by_place mark text xs ys (ltb (position_or_len (λ b. eqb b mark) text) (length text)) refl e

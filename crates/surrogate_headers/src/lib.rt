@@ -1,0 +1,22 @@
+//! The headers by which an origin and an edge talk of templates: `Surrogate-Control` is read, and
+//! `Surrogate-Capability` is written.
+//!
+//! Source: Edge Architecture Specification 1.0.
+#![tactic(auto)]
+
+mod directive;
+mod found;
+pub mod laws;
+mod parameter;
+mod parts;
+mod surrogate_capability;
+mod surrogate_control;
+mod token;
+
+pub use parameter::MAX_SECONDS;
+pub use surrogate_capability::capability;
+pub use surrogate_control::control;
+pub use token::is_token;
+
+#[cfg(test)]
+mod tests;

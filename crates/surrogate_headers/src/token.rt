@@ -1,0 +1,27 @@
+//! Tokens, by which devices are named.
+ghost use Rattle.std.specs.Prelude.{◌≡◌};
+ghost use Rattle.surrogate_headers.specs.Token as spec;
+
+// The bytes of a token beside letters and digits.
+const TOKEN_MARKS: &[u8] = b"!#$%&'*+-.^_`|~";
+
+#[tactic(auto, unfolding(crate::specs::Token::is_token_byte))]
+fn is_token_byte(byte: u8) -> bool
+    ensures { result ≡ spec.is_token_byte byte }
+{
+    byte.is_ascii_alphanumeric() || TOKEN_MARKS.contains(&byte)
+}
+
+/// Tells whether a text is a token, by which a device can be named.
+///
+/// A token is one or more letters, digits and bytes of ``!#$%&'*+-.^_`|~``.
+///
+/// Takes no memory.
+///
+/// Source: Edge Architecture Specification 1.0, "Surrogate-Capability Request Header".
+#[tactic(auto, unfolding(crate::specs::Token::is_token))]
+pub fn is_token(text: &[u8]) -> bool
+    ensures { result ≡ spec.is_token text.now }
+{
+    !text.is_empty() && text.iter().all(|byte| is_token_byte(*byte))
+}
