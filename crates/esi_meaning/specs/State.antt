@@ -16,8 +16,8 @@ abbrev pub is_missing : List Answered → List ℕ → Bool
 is_missing log w = is_none (answer_of log w)
 
 abbrev pub state_from : Option (List ℕ) → Shown → State
-state_from (Some w) outcome = Waiting w
-state_from None outcome = Done outcome
+state_from (Some w) result = Waiting w
+state_from None result = Done result
 
 -- over the table T: the first URL asked that isn't logged, or else the outcome
 abbrev pub state_over : Request → List Answered → List Answered → ℕ → List ℕ → State

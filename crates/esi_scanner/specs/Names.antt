@@ -73,5 +73,5 @@ attribute_name_of bytes = known_or_other (known_of bytes) bytes
 
 -- whether a name is this known one
 abbrev pub is_named : KnownAttribute → AttributeName → Bool
-is_named name (Known other) = same_known other name
-is_named name (Other bytes) = false
+is_named wanted (Known other) = same_known other wanted
+is_named wanted (Other bytes) = false

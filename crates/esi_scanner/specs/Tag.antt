@@ -66,8 +66,8 @@ names_of attributes = map (λ (attribute : Attribute). attribute_text attribute.
 
 -- the value of the attribute of this name
 abbrev pub value_of : KnownAttribute → List Attribute → Option (List ℕ)
-value_of name [] = None
-value_of name (attribute ∷ attributes) = if is_named name attribute.name then Some attribute.value else value_of name attributes
+value_of wanted [] = None
+value_of wanted (attribute ∷ attributes) = if is_named wanted attribute.name then Some attribute.value else value_of wanted attributes
 
 -- the attributes of a tag: no name comes twice
 unfoldable pub distinct_attributes_at : List ℕ → Option (List Attribute × List ℕ)
