@@ -4,6 +4,7 @@
 
 use std::{env, io};
 
+mod caching;
 mod headers;
 mod inputs;
 mod references;
@@ -11,7 +12,7 @@ mod scanning;
 mod tables;
 mod timing;
 
-const NAMES: [&str; 4] = ["tables", "headers", "scanning", "references"];
+const NAMES: [&str; 5] = ["tables", "headers", "scanning", "references", "caching"];
 
 fn main(rt: HostRuntime) -> io::Result<()> {
     let mut named = false;
@@ -38,6 +39,7 @@ fn run(rt: &HostRuntime, name: &str) -> io::Result<()> {
         "headers" => headers::run(rt),
         "scanning" => scanning::run(rt),
         "references" => references::run(rt),
+        "caching" => caching::run(rt),
         _ => Ok(()),
     }
 }

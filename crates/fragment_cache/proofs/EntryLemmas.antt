@@ -1,13 +1,11 @@
 -- Entries and flights as lists of pairs with keys.
-use Rattle.std.proofs.Common.{◌≡◌, ◌≢◌, ℕ, zero, suc, ◌+◌, ◌-◌, ◌<◌, ◌≤◌, Bool, true, false, not, cond, List, [], ◌∷◌, ◌++◌, length, take, filter, Option, Some, None, refl, sym, ◌∙◌, ap, subst, arith, bytes_eq, append-nil, nat_lt, option_and_then}
-use Rattle.std.proofs.lemmas.Grind.{common_steps}
+use Rattle.std.proofs.Common.{◌≡◌, ℕ, zero, suc, ◌+◌, ◌-◌, ◌≤◌, Bool, true, false, not, cond, List, [], ◌∷◌, ◌++◌, length, take, filter, Option, Some, None, refl, sym, ◌∙◌, ap, subst, arith, bytes_eq, nat_lt, option_and_then}
 use Rattle.std.proofs.lemmas.List.{take_all}
 use Rattle.std.proofs.lemmas.Slice.Eq.{bytes_eq-Decides}
 use Rattle.std.proofs.lemmas.Map.Keys.{IsDistinct-head, IsDistinct-tail}
 use Rattle.std.specs.List.{AllByRecursion, IsDistinct}
-use Rattle.std.specs.Option.{option_map_or}
 use Rattle.edge_types.specs.Answered.{Answered}
-use Rattle.std.specs.Map.{keys_of, lookup, lookup_entry, remove_entry}
+use Rattle.std.specs.Map.{keys_of, lookup_entry, remove_entry}
 use Rattle.lru.specs.LruCache.{LruCache, promoted, put_entries, lru_cache, IsValid}
 use Rattle.fragment_cache.specs.Machine.{Entry, Entries, Shelf, entry_of, others, used, stored, answer_before, fresh, bridge_end, bridging}
 use Rattle.fragment_cache.specs.Sound.{IsNamed, AreEntries}

@@ -1,6 +1,5 @@
 -- Flights as a list by number, and the index of those that fly.
-use Rattle.std.proofs.Common.{◌≡◌, ◌≢◌, ◌⊎◌, inl, inr, ℕ, ◌+◌, ◌-◌, ◌<◌, ◌≤◌, Bool, true, false, not, cond, List, [], ◌∷◌, ◌++◌, length, filter, Option, Some, None, IfSome, IsSome, MatchOption, is_none, option_map, option_and_then, refl, sym, ◌∙◌, ap, subst, arith, bytes_eq, nat_lt, nat_eq, if◌then◌else◌}
-use Rattle.std.proofs.lemmas.Grind.{common_steps}
+use Rattle.std.proofs.Common.{◌≡◌, inl, inr, ℕ, ◌+◌, ◌<◌, Bool, true, false, not, cond, List, [], ◌∷◌, ◌++◌, Option, Some, None, IsSome, MatchOption, is_none, option_map, option_and_then, refl, sym, ◌∙◌, ap, subst, arith, bytes_eq, nat_lt, nat_eq, if◌then◌else◌}
 use Rattle.std.proofs.lemmas.Bool.Decides.{nat_tests}
 use Rattle.std.proofs.lemmas.Slice.Eq.{bytes_eq-Decides}
 use Rattle.std.proofs.lemmas.Map.Text.{is_eq-slice_cmp}
@@ -9,12 +8,12 @@ use Rattle.std.proofs.lemmas.Map.Views.{tells_apart}
 use Rattle.std.proofs.lemmas.Map.Entries.{lookup-filter-keys}
 use Rattle.std.specs.Cmp.{nat_cmp_total, eq_by_cmp_equiv}
 use Rattle.std.specs.Cmp.Lexicographic.{slice_cmp}
-use Rattle.std.specs.Ordering.{nat_cmp, eq_by_cmp}
-use Rattle.std.specs.BTreeMap.{BTreeMap, get, is_at, insert_entry}
+use Rattle.std.specs.Ordering.{nat_cmp}
+use Rattle.std.specs.BTreeMap.{get, insert_entry}
 use Rattle.std.specs.List.{AllByRecursion}
-use Rattle.std.specs.Map.{lookup, remove_entry, set_value}
+use Rattle.std.specs.Map.{lookup, set_value}
 use Rattle.edge_types.specs.Answered.{Answered}
-use Rattle.fragment_cache.specs.Machine.{Kept, Flights, same_number, kept_at, flying, flying_at, landed_at, picks_at, NoneFlies, changed_value, changed, without, departed, one_more, one_fewer, landed_with, picked}
+use Rattle.fragment_cache.specs.Machine.{Kept, Flights, same_number, kept_at, flying, flying_at, landed_at, picks_at, NoneFlies, changed_value, changed, without, departed, one_fewer, landed_with, picked}
 use Rattle.fragment_cache.specs.Sound.{HasNamed, AreFlights}
 use Rattle.fragment_cache.specs.Index.{Indexed, Numbers, Changes, Agree}
 use Rattle.fragment_cache.specs.Steps.{Arrives}

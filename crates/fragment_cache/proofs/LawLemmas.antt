@@ -1,15 +1,14 @@
 -- The law of the cache, by induction on the history.
-use Rattle.std.proofs.Common.{◌≡◌, ◌≢◌, ◌⊎◌, inl, inr, ℕ, zero, suc, ◌+◌, ◌-◌, ◌<◌, ◌≤◌, Bool, true, false, not, ◌&&◌, cond, List, [], ◌∷◌, ◌++◌, take, filter, Option, Some, None, IsSome, option_map, option_and_then, refl, sym, ◌∙◌, ap, subst, arith, bytes_eq, nat_lt, if◌then◌else◌}
+use Rattle.std.proofs.Common.{◌≡◌, inl, inr, ℕ, zero, suc, ◌+◌, ◌-◌, ◌<◌, ◌≤◌, Bool, true, false, not, cond, List, [], ◌∷◌, ◌++◌, take, filter, Option, Some, None, IsSome, option_map, option_and_then, refl, sym, ◌∙◌, ap, subst, arith, bytes_eq, nat_lt, if◌then◌else◌}
 use Rattle.std.proofs.lemmas.Bool.Decides.{nat_tests}
 use Rattle.std.proofs.lemmas.Slice.Eq.{bytes_eq-Decides}
 use Rattle.std.proofs.lemmas.Map.Entries.{lookup-filter-keys}
 use Rattle.std.specs.List.{AllByRecursion}
 use Rattle.std.specs.Option.{option_map_or}
-use Rattle.std.specs.Map.{lookup}
-use Rattle.edge_types.specs.Answered.{Answered, failed}
+use Rattle.edge_types.specs.Answered.{Answered}
 use Rattle.fragment_cache.specs.Times.{second_after, expiry_of, extension_of}
-use Rattle.fragment_cache.specs.Machine.{Entry, Entries, Flight, Airspace, Kept, State, Flights, empty, entry_of, others, used, stored, fresh, bridge_end, bridging, answer_before, same_number, kept_at, flying, flying_at, landed_at, picks_at, NoneFlies, changed, without, departed, one_more, one_fewer, landed_with, picked}
-use Rattle.fragment_cache.specs.Steps.{Begins, Lands, Picks, PicksUp, Arrives, BeginAnswer, Hit, Join, Lead, Bypass, Landing, NoFlight, Bridged, Stored, NotStored, PickAnswer, Here, Flying, Unknown}
+use Rattle.fragment_cache.specs.Machine.{Entry, Entries, Flight, Airspace, Kept, State, Flights, empty, entry_of, others, used, stored, fresh, bridge_end, bridging, answer_before, same_number, kept_at, flying_at, landed_at, picks_at, NoneFlies, changed, without, departed, one_more, one_fewer, landed_with, picked}
+use Rattle.fragment_cache.specs.Steps.{PicksUp, Arrives, Hit, Join, Lead, Bypass, NoFlight, Bridged, Stored, NotStored, Here, Flying, Unknown}
 use Rattle.fragment_cache.specs.Runs.{Event, Began, Landed, PickedUp, Step, Run}
 use Rattle.fragment_cache.specs.Law.{History, latest, flying_in, landed_in, leads, joins, heres, IsLatest, NoneFlew, Follows, Keeps, OneFlies, CacheLaw}
 use Rattle.fragment_cache.proofs.EntryLemmas.{same_bytes, each_filter, each_append}

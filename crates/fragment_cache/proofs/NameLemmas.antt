@@ -1,5 +1,5 @@
 -- The answers that a shard gives name their URLs.
-use Rattle.std.proofs.Common.{◌≡◌, ◌⊎◌, inl, inr, ℕ, List, ◌∙◌, ap}
+use Rattle.std.proofs.Common.{◌≡◌, inl, inr, ℕ, List, ◌∙◌, ap}
 use Rattle.edge_types.specs.Answered.{Answered}
 use Rattle.fragment_cache.specs.Machine.{Flight, State}
 use Rattle.fragment_cache.specs.Steps.{BeginAnswer, Hit, Join, Lead, Bypass, Begins, LandsSomehow}

@@ -4,7 +4,7 @@ use Rattle.std.specs.List.{AllByRecursion}
 use Rattle.std.specs.Ordering.{nat_cmp}
 use Rattle.std.specs.Cmp.Lexicographic.{slice_cmp}
 use Rattle.std.specs.BTreeMap.{BTreeMap, get, is_at}
-use Rattle.fragment_cache.specs.Machine.{Kept, Flights, flying_at}
+use Rattle.fragment_cache.specs.Machine.{Flights, flying_at}
 use Rattle.fragment_cache.specs.Sound.{HasNamed}
 
 abbrev pub Numbers : Type 0

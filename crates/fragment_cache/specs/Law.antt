@@ -1,9 +1,9 @@
 -- What every run of the cache machine keeps to, told from the calls and their answers alone. A history has the latest call first.
-use Rattle.std.specs.Prelude.{◌≡◌, ◌≢◌, ℕ, ◌+◌, ◌<◌, ◌≤◌, Bool, true, false, ◌&&◌, ⊤, bytes_eq, List, [], ◌∷◌, Option, Some, None, if◌then◌else◌}
+use Rattle.std.specs.Prelude.{◌≡◌, ◌≢◌, ℕ, ◌+◌, ◌<◌, Bool, true, false, ◌&&◌, ⊤, bytes_eq, List, [], ◌∷◌, Option, Some, None, if◌then◌else◌}
 use Rattle.edge_types.specs.Answered.{Answered}
 use Rattle.fragment_cache.specs.Times.{second_after, expiry_of, extension_of}
-use Rattle.fragment_cache.specs.Machine.{Flight, State, same_number}
-use Rattle.fragment_cache.specs.Steps.{BeginAnswer, Hit, Join, Lead, Bypass, Landing, NoFlight, Bridged, Stored, NotStored, PickAnswer, Here, Flying, Unknown}
+use Rattle.fragment_cache.specs.Machine.{State, same_number}
+use Rattle.fragment_cache.specs.Steps.{Hit, Join, Lead, Bypass, Landing, NoFlight, Bridged, Stored, NotStored, Here, Flying, Unknown}
 use Rattle.fragment_cache.specs.Runs.{Event, Began, Landed, PickedUp, Run}
 
 abbrev pub History : Type 0

@@ -1,10 +1,10 @@
 -- The steps of the cache machine, by cases.
-use Rattle.std.specs.Prelude.{◌≡◌, ◌≢◌, ℕ, ◌+◌, ◌-◌, ◌^◌, ◌<◌, true, ◌⊎◌, IsTrue, IsSome, List, [], ◌∷◌, ◌++◌, length, Option, Some, None}
+use Rattle.std.specs.Prelude.{◌≡◌, ◌≢◌, ℕ, ◌+◌, ◌-◌, ◌^◌, ◌<◌, ◌≤◌, ◌⊎◌, IsTrue, IsSome, List, [], ◌∷◌, ◌++◌, length, Some, None}
 use Rattle.edge_types.specs.Answered.{Answered, failed}
 use Rattle.fragment_cache.specs.declared.flights.TheConstants.{MAX_FLIGHTS}
 use Rattle.fragment_cache.specs.declared.kept.TheConstants.{MAX_PICKS}
 use Rattle.fragment_cache.specs.Times.{expiry_of, is_failing}
-use Rattle.fragment_cache.specs.Machine.{Entry, Flight, Airspace, airspace, Kept, State, Flights, entry_of, others, used, stored, fresh, bridging, kept_at, flying_at, landed_at, picks_at, NoneFlies, changed, without, departed, one_more, landed_with, picked}
+use Rattle.fragment_cache.specs.Machine.{Flight, Airspace, airspace, State, Flights, others, used, stored, fresh, bridging, kept_at, flying_at, landed_at, picks_at, NoneFlies, changed, without, departed, one_more, landed_with, picked}
 
 -- what `begin` answers
 pub data BeginAnswer : Type 0 where
@@ -25,6 +25,10 @@ pub data PickAnswer : Type 0 where
   Here : Answered → PickAnswer
   Flying : PickAnswer
   Unknown : PickAnswer
+
+-- There is no room for one more flight: as many are kept as may be, or the numbers are used up.
+abbrev pub IsFull : Airspace → Type 0
+IsFull a = (MAX_FLIGHTS ≤ length a.flights) ⊎ (2 ^ 64 - 1 ≤ a.next)
 
 -- There is room for one more flight: it leaves under the next number, and its leader also gets a failed answer.
 abbrev pub Leads : Airspace → List ℕ → Flight → Answered → Airspace → Type 0

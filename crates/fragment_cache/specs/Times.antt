@@ -2,7 +2,6 @@
 use Rattle.std.specs.Prelude.{ℕ, ◌+◌, ◌-◌, ◌^◌, Bool, true, ◌&&◌, not, nat_le, min, Option, None, Some, if◌then◌else◌}
 use Rattle.edge_types.specs.declared.answer.Reply.{Reply}
 use Rattle.edge_types.specs.declared.answer.Reply.TheVariants.{Failed, Got}
-use Rattle.edge_types.specs.declared.control.Control.{Control}
 use Rattle.edge_types.specs.Answered.{Answered, is_success}
 
 -- so many seconds after another, or the last second that the clock can show

@@ -82,7 +82,7 @@ impl Flights {
     ghost use Rattle.fragment_cache.specs.Machine as machine;
     ghost use Rattle.fragment_cache.specs.Machine.{kept_at, picks_at, flying_at, NoneFlies, changed, one_more, departed};
     ghost use Rattle.fragment_cache.specs.Sound.{AreFlights};
-    ghost use Rattle.fragment_cache.specs.Steps.{Arrives, PicksUp, Leads};
+    ghost use Rattle.fragment_cache.specs.Steps.{Arrives, PicksUp, IsFull, Leads};
     ghost use Rattle.fragment_cache.specs.Shown.{picked_answer};
 
     pub(crate) fn new(alloc: Global) -> Flights
@@ -135,19 +135,22 @@ impl Flights {
         true
     }
 
-    // Opens a flight, and makes a failed answer for its leader; none where there is no room.
-    pub(crate) fn lead(&mut self, alloc: Global, url: &PageUrl) -> Option<(Flight, Arc<Answer>)>
+    // Opens a flight, and makes a failed answer for its leader; none only where there is no room.
+    pub(crate) fn lead(
+        &mut self,
+        alloc: Global,
+        url: &PageUrl,
+    ) -> Result<Option<(Flight, Arc<Answer>)>, NoMemory>
         requires { NoneFlies self.old.flights url.now }
-        ensures { MatchOption result (self.new ≡ self.old)
-            (λ lead. Leads self.old url.now lead.0 (arc_value lead.1) self.new) }
+        ensures ok { IfOk result (λ found. MatchOption found
+            (IsFull self.old × (self.new ≡ self.old))
+            (λ lead. Leads self.old url.now lead.0 (arc_value lead.1) self.new)) }
+        ensures err { OnErr result (self.new ≡ self.old) }
     {
         if self.kept.len() >= MAX_FLIGHTS || self.next == u64::MAX {
-            return None;
+            return Ok(None);
         }
-        match self.try_lead(alloc, url) {
-            Ok(lead) => Some(lead),
-            Err(NoMemory) => None,
-        }
+        Ok(Some(self.try_lead(alloc, url)?))
     }
 
     fn try_lead(&mut self, alloc: Global, url: &PageUrl) -> Result<(Flight, Arc<Answer>), NoMemory>

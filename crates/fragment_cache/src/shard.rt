@@ -50,7 +50,7 @@ impl Model for Shard {
 }
 
 impl Shard {
-    ghost use Rattle.std.specs.Prelude.{◌≡◌, ◌<◌, ◌≤◌, ◌+◌, ◌++◌, ◌∷◌, [], None, Some, IfOk};
+    ghost use Rattle.std.specs.Prelude.{◌≡◌, ◌<◌, ◌≤◌, ◌+◌, ◌++◌, ◌∷◌, [], ℕ, None, Some, IfOk};
     ghost use Rattle.std.specs.Arc.{arc_value};
     ghost use Rattle.fragment_cache.specs.Machine.{empty, fresh};
     ghost use Rattle.fragment_cache.specs.Steps.{Begins, LandsSomehow, Picks};
@@ -103,7 +103,7 @@ impl Shard {
     {
         match self.entries.hit(url, now) {
             Ok(Some(answer)) => Begun::Hit(answer),
-            Ok(None) => self.depart(url, now),
+            Ok(None) => self.depart(url),
             Err(NoMemory) => Begun::Bypass,
         }
     }
@@ -117,11 +117,9 @@ impl Shard {
     }
 
     // Joins the flight of a URL that no entry answers, or leads one.
-    fn depart(&mut self, url: &PageUrl, now: u64) -> Begun
-        requires { fresh self.old.entries url.now now ≡ None }
-        ensures { Begins self.old url.now now (begun_answer result) self.new }
+    fn depart(&mut self, url: &PageUrl) -> Begun
+        ensures { (now : ℕ) → fresh self.old.entries url.now now ≡ None → Begins self.old url.now now (begun_answer result) self.new }
     {
-        let _ = now;
         self.flights.sound();
         match self.flights.flying(url) {
             Some(number) => {
@@ -131,8 +129,8 @@ impl Shard {
                 Begun::Join(number)
             }
             None => match self.flights.lead(self.alloc, url) {
-                Some((flight, ready)) => Begun::Lead(flight, ready),
-                None => Begun::Bypass,
+                Ok(Some((flight, ready))) => Begun::Lead(flight, ready),
+                Ok(None) | Err(NoMemory) => Begun::Bypass,
             },
         }
     }

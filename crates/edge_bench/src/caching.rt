@@ -1,0 +1,288 @@
+//! The cache: the calls of a shard beside `lru` alone, and flights beside fewer flights.
+
+use crate::timing::ratio;
+use edge_types::{Answer, Control, Octets, PageUrl, SharedAnswer};
+use fragment_cache::{Begun, Flight, MAX_CAPACITY, MAX_FLIGHTS, Picked, Shard};
+use lru::LruCache;
+use std::alloc::Global;
+use std::io;
+use std::num::NonZeroUsize;
+use std::sync::Arc;
+use std::time::{Duration, Instant};
+
+// How many answers there are to ask for: twice as many as a shard stores.
+const URLS: usize = 2 * MAX_CAPACITY;
+// How many are asked for in a turn.
+const STEPS: usize = 100_000;
+// How many flights fly at a time where there are few.
+const FEW: usize = 128;
+// How many times each is measured; the quickest counts.
+const TURNS: usize = 20;
+// For how many seconds an answer is fresh.
+const FRESH: u32 = 60;
+
+/// Prints how many times as long as `lru` a shard takes, and how many steps of flights it makes in
+/// a second, with few flights and with as many as it keeps.
+pub fn run(rt: &HostRuntime) -> io::Result<()> {
+    let answers = answers(rt.alloc(), URLS)?;
+    let answers = answers.as_slice();
+    beside_lru(rt, "hits alone", answers, usize::MAX)?;
+    beside_lru(rt, "90 % hits", answers, 10)?;
+    let few = flights(rt, answers, FEW)?;
+    let many = flights(rt, answers, MAX_FLIGHTS)?;
+    println!(rt;
+        "caching: a step with {MAX_FLIGHTS} flights takes {:.2} times as long as with {FEW}",
+        ratio(many, few)
+    )
+}
+
+// Answers of so many URLs.
+fn answers(alloc: Global, count: usize) -> io::Result<Vec<Arc<Answer>>> {
+    let mut answers = Vec::with_capacity(alloc, count)?;
+    for i in 0..count {
+        answers.push(answer(alloc, i)?)?;
+    }
+    Ok(answers)
+}
+
+// The answer of the URL of a number.
+fn answer(alloc: Global, number: usize) -> io::Result<Arc<Answer>> {
+    let control = Control {
+        no_store: false,
+        max_age: Some(FRESH),
+        extension: 0,
+        esi: false,
+    };
+    let text = format!(in alloc; "http://a.test/fragments/{number}")?;
+    let Ok(Some(url)) = PageUrl::parse(alloc, text.as_bytes()) else {
+        return Err(no_memory());
+    };
+    let content_type = Octets::of(Vec::new(alloc));
+    let body = Octets::of(text.into_bytes());
+    match Answer::got(url, 200, content_type, control, body) {
+        Some(answer) => Ok(Arc::new(alloc, answer)?),
+        None => Err(no_memory()),
+    }
+}
+
+fn no_memory() -> io::Error {
+    io::Error::from(io::ErrorKind::OutOfMemory)
+}
+
+// Prints the times of a shard and of `lru` on the same answers in the same order, in which each
+// of so many is one that isn't stored.
+fn beside_lru(
+    rt: &HostRuntime,
+    name: &str,
+    answers: &[Arc<Answer>],
+    every: usize,
+) -> io::Result<()> {
+    let asked = asked(rt.alloc(), every)?;
+    let mut shard = Duration::from_secs(1000);
+    let mut lru = Duration::from_secs(1000);
+    let mut hits = (0, 0);
+    for _ in 0..TURNS {
+        let (took, found) = shard_turn(rt, answers, asked.as_slice())?;
+        shard = shard.min(took);
+        hits.0 = found;
+        let (took, found) = lru_turn(rt, answers, asked.as_slice())?;
+        lru = lru.min(took);
+        hits.1 = found;
+    }
+    println!(rt;
+        "caching, {name}: {STEPS} steps, shard {} us ({} hits), lru {} us ({} hits): {:.2} times",
+        shard.as_micros(),
+        hits.0,
+        lru.as_micros(),
+        hits.1,
+        ratio(shard, lru)
+    )
+}
+
+// Which answers are asked for: stored ones in scattered order, and each of so many times one that
+// isn't stored.
+fn asked(alloc: Global, every: usize) -> io::Result<Vec<usize>> {
+    let mut stored = LruCache::new(alloc, capacity())?;
+    for at in 0..MAX_CAPACITY {
+        stored.put(at, ())?;
+    }
+    let mut asked = Vec::with_capacity(alloc, STEPS)?;
+    for step in 1..=STEPS {
+        let hit = step.checked_rem(every) != Some(0);
+        let at = next(&stored, step.wrapping_mul(2_654_435_761), hit);
+        stored.put(at, ())?;
+        asked.push(at)?;
+    }
+    Ok(asked)
+}
+
+// The next answer from a place on that is stored, or isn't.
+fn next(stored: &LruCache<usize, ()>, from: usize, is_stored: bool) -> usize {
+    let mut at = from % URLS;
+    for _ in 0..URLS {
+        if stored.contains(&at) == is_stored {
+            break;
+        }
+        at = at.wrapping_add(1) % URLS;
+    }
+    at
+}
+
+fn capacity() -> NonZeroUsize {
+    NonZeroUsize::new(MAX_CAPACITY).unwrap_or(NonZeroUsize::MIN)
+}
+
+// Asks a shard for the answers, and fetches those that it hasn't; the hits are counted.
+fn shard_turn(
+    rt: &HostRuntime,
+    answers: &[Arc<Answer>],
+    asked: &[usize],
+) -> io::Result<(Duration, usize)> {
+    let Ok(mut shard) = Shard::new(rt.alloc(), MAX_CAPACITY) else {
+        return Err(no_memory());
+    };
+    for answer in answers.iter().take(MAX_CAPACITY) {
+        ask_shard(&mut shard, answer)?;
+    }
+    let mut hits: usize = 0;
+    let start = Instant::now(rt)?;
+    for at in asked.iter() {
+        if let Some(answer) = answers.get(*at) {
+            hits = hits.wrapping_add(usize::from(ask_shard(&mut shard, answer)?));
+        }
+    }
+    Ok((start.elapsed(rt)?, hits))
+}
+
+// Whether the answer is stored; it is fetched where it isn't.
+fn ask_shard(shard: &mut Shard, answer: &Arc<Answer>) -> io::Result<bool> {
+    match shard.begin(answer.url(), 0) {
+        Begun::Hit(_) => Ok(true),
+        Begun::Lead(flight, _) => {
+            shard.land(flight, Arc::try_clone(answer)?, 0);
+            Ok(false)
+        }
+        Begun::Join(_) | Begun::Bypass => Ok(false),
+    }
+}
+
+// Asks `lru` for the answers, and puts those in that it hasn't; the hits are counted.
+fn lru_turn(
+    rt: &HostRuntime,
+    answers: &[Arc<Answer>],
+    asked: &[usize],
+) -> io::Result<(Duration, usize)> {
+    let mut stored = LruCache::new(rt.alloc(), capacity())?;
+    for answer in answers.iter().take(MAX_CAPACITY) {
+        ask_lru(&mut stored, answer)?;
+    }
+    let mut hits: usize = 0;
+    let start = Instant::now(rt)?;
+    for at in asked.iter() {
+        if let Some(answer) = answers.get(*at) {
+            hits = hits.wrapping_add(usize::from(ask_lru(&mut stored, answer)?));
+        }
+    }
+    Ok((start.elapsed(rt)?, hits))
+}
+
+// Whether the answer is stored; it is put in where it isn't.
+fn ask_lru(stored: &mut LruCache<PageUrl, SharedAnswer>, answer: &Arc<Answer>) -> io::Result<bool> {
+    if stored.get(answer.url()).is_some() {
+        return Ok(true);
+    }
+    let Ok(url) = answer.url().share() else {
+        return Err(no_memory());
+    };
+    stored.put(url, SharedAnswer::of(Arc::try_clone(answer)?))?;
+    Ok(false)
+}
+
+// How long the steps take in which so many flights at a time leave, are joined, land and are picked
+// up; the quickest of several turns. A turn has the same number of steps for any such number.
+fn flights(rt: &HostRuntime, answers: &[Arc<Answer>], count: usize) -> io::Result<Duration> {
+    let answers = answers.get(..count).unwrap_or(answers);
+    let rounds = MAX_FLIGHTS.checked_div(count).unwrap_or(1);
+    let Ok(mut shard) = Shard::new(rt.alloc(), MAX_CAPACITY) else {
+        return Err(no_memory());
+    };
+    let mut best = Duration::from_secs(1000);
+    let mut picked: usize = 0;
+    let mut now: u64 = 0;
+    for _ in 0..TURNS {
+        let start = Instant::now(rt)?;
+        for _ in 0..rounds {
+            picked = picked.wrapping_add(round(rt.alloc(), &mut shard, answers, now)?);
+            // What was stored has expired.
+            now = now.wrapping_add(u64::from(FRESH));
+        }
+        best = best.min(start.elapsed(rt)?);
+    }
+    let steps = rounds.wrapping_mul(count).wrapping_mul(4);
+    let speed = (steps as u128)
+        .saturating_mul(1_000_000_000)
+        .checked_div(best.as_nanos())
+        .unwrap_or(0);
+    println!(rt;
+        "caching, {count} flights: {steps} steps in {} us, {speed} a second ({picked} picked up)",
+        best.as_micros()
+    )?;
+    Ok(best)
+}
+
+// Flights for the answers leave, are joined, land and are picked up; the pick-ups are counted.
+fn round(alloc: Global, shard: &mut Shard, answers: &[Arc<Answer>], now: u64) -> io::Result<usize> {
+    let led = lead(alloc, shard, answers, now)?;
+    let joined = join(alloc, shard, answers, now)?;
+    land(shard, led, answers, now)?;
+    Ok(pick(shard, joined.as_slice()))
+}
+
+fn lead(
+    alloc: Global,
+    shard: &mut Shard,
+    answers: &[Arc<Answer>],
+    now: u64,
+) -> io::Result<Vec<Flight>> {
+    let mut led = Vec::with_capacity(alloc, answers.len())?;
+    for answer in answers.iter() {
+        if let Begun::Lead(flight, _) = shard.begin(answer.url(), now) {
+            led.push(flight)?;
+        }
+    }
+    Ok(led)
+}
+
+fn join(
+    alloc: Global,
+    shard: &mut Shard,
+    answers: &[Arc<Answer>],
+    now: u64,
+) -> io::Result<Vec<u64>> {
+    let mut joined = Vec::with_capacity(alloc, answers.len())?;
+    for answer in answers.iter() {
+        if let Begun::Join(number) = shard.begin(answer.url(), now) {
+            joined.push(number)?;
+        }
+    }
+    Ok(joined)
+}
+
+fn land(shard: &mut Shard, led: Vec<Flight>, answers: &[Arc<Answer>], now: u64) -> io::Result<()> {
+    for (flight, answer) in led.into_iter().zip(answers.iter()) {
+        if *answer.url() == *flight.url() {
+            shard.land(flight, Arc::try_clone(answer)?, now);
+        }
+    }
+    Ok(())
+}
+
+fn pick(shard: &mut Shard, joined: &[u64]) -> usize {
+    let mut picked: usize = 0;
+    for number in joined.iter() {
+        if let Picked::Here(_) = shard.pick(*number) {
+            picked = picked.wrapping_add(1);
+        }
+    }
+    picked
+}
