@@ -1,0 +1,170 @@
+-- A test, read from the left of a text.
+use Rattle.std.specs.Prelude.{ℕ, zero, suc, ◌==◌, List, [], ◌∷◌, ◌++◌, length, take, drop, codes, Option, Some, None, if◌then◌else◌}
+use Rattle.std.specs.Char.{is_ascii_digit}
+use Rattle.std.specs.List.{prefix_len}
+use Rattle.esi_vars.specs.declared.reference.Reference.{Reference}
+use Rattle.esi_vars.specs.Reference.{is_ws, is_quoted_byte}
+use Rattle.esi_vars.specs.Reading.{◌>>=◌, after_byte, reference_at}
+use Rattle.esi_expr.specs.declared.expr.Comparison.{Comparison}
+use Rattle.esi_expr.specs.declared.expr.Comparison.TheVariants as comparison
+use Rattle.esi_expr.specs.declared.expr.Operand.{Operand}
+use Rattle.esi_expr.specs.declared.expr.Operand.TheVariants as operand
+use Rattle.esi_expr.specs.declared.reading.TheConstants.{NESTING_LIMIT}
+use Rattle.esi_expr.specs.Numbers.{is_digit_count}
+use Rattle.esi_expr.specs.Tree.{Test, Single, Or, Conj, Sole, And, Neg, Not, Group, Filled, Compared}
+
+-- what follows the white space at the front
+abbrev pub after_ws : List ℕ → List ℕ
+after_ws [] = []
+after_ws (b ∷ bs) = if is_ws b then after_ws bs else b ∷ bs
+
+-- what follows this byte, which white space may stand before
+unfoldable pub after_sign : ℕ → List ℕ → Option (List ℕ)
+after_sign sign text = after_byte sign (after_ws text)
+
+-- a comparison of this byte and `=`
+abbrev pub paired : ℕ → List ℕ → Option (Comparison × List ℕ)
+paired b bs =
+    if b == 61 then Some (comparison.EqualTo, bs)
+    else (if b == 33 then Some (comparison.Unequal, bs)
+    else (if b == 60 then Some (comparison.AtMost, bs)
+    else (if b == 62 then Some (comparison.AtLeast, bs)
+    else None)))
+
+-- a comparison of this byte alone
+abbrev pub alone : ℕ → List ℕ → Option (Comparison × List ℕ)
+alone b bs =
+    if b == 60 then Some (comparison.Below, bs)
+    else (if b == 62 then Some (comparison.Above, bs)
+    else None)
+
+-- the longest comparison at the front
+abbrev pub symbol_at : List ℕ → Option (Comparison × List ℕ)
+symbol_at [] = None
+symbol_at (b ∷ []) = alone b []
+symbol_at (b ∷ c ∷ cs) = if c == 61 then paired b cs else alone b (c ∷ cs)
+
+-- the same, which white space may stand before
+unfoldable pub comparison_at : List ℕ → Option (Comparison × List ℕ)
+comparison_at text = symbol_at (after_ws text)
+
+-- a text, cut
+abbrev pub cut : ℕ → List ℕ → List ℕ × List ℕ
+cut n text = (take n text, drop n text)
+
+-- the longest run of digits at the front, where it has 1 to 18
+unfoldable pub digits_at : List ℕ → Option (List ℕ × List ℕ)
+digits_at text = if is_digit_count (prefix_len is_ascii_digit text) then Some (cut (prefix_len is_ascii_digit text) text) else None
+
+-- bytes before a quote, behind another
+abbrev pub closed_by : List ℕ → Option (List ℕ) → Option (List ℕ × List ℕ)
+closed_by bytes None = None
+closed_by bytes (Some rest) = Some (bytes, rest)
+
+-- the bytes before the next quote, and what follows the quote
+unfoldable pub quoted_at : List ℕ → Option (List ℕ × List ℕ)
+quoted_at text = closed_by (take (prefix_len is_quoted_byte text) text) (after_byte 39 (drop (prefix_len is_quoted_byte text) text))
+
+-- operands of the three kinds
+abbrev pub referred : Option (Reference × List ℕ) → Option (Operand × List ℕ)
+referred None = None
+referred (Some found) = Some (operand.Reference found.0, found.1)
+
+abbrev pub quoted : Option (List ℕ × List ℕ) → Option (Operand × List ℕ)
+quoted None = None
+quoted (Some found) = Some (operand.Quoted found.0, found.1)
+
+abbrev pub numbered : List ℕ → Option (List ℕ × List ℕ) → Option (Operand × List ℕ)
+numbered sign None = None
+numbered sign (Some found) = Some (operand.Number (sign ++ found.0), found.1)
+
+-- the operand at the front of a text, by the first byte, which tells its kind, and what follows that byte
+abbrev pub operand_by : ℕ → List ℕ → List ℕ → Option (Operand × List ℕ)
+operand_by b bs text =
+    if b == 36 then referred (reference_at text)
+    else (if b == 39 then quoted (quoted_at bs)
+    else (if b == 45 then numbered (codes "-") (digits_at bs)
+    else numbered [] (digits_at text)))
+
+abbrev pub operand_in : List ℕ → Option (Operand × List ℕ)
+operand_in [] = None
+operand_in (b ∷ bs) = operand_by b bs (b ∷ bs)
+
+-- the same, which white space may stand before
+unfoldable pub operand_at : List ℕ → Option (Operand × List ℕ)
+operand_at text = operand_in (after_ws text)
+
+-- an operand alone, or compared with the one behind a comparison
+abbrev pub compared : Operand → List ℕ → Option (Comparison × List ℕ) → Option (Neg × List ℕ)
+compared left text None = Some (Filled left, text)
+compared left text (Some by) = do
+  right ← operand_at by.1
+  Some (Compared left by.0 right.0, right.1)
+
+-- an operand, alone or compared
+unfoldable pub plain_at : List ℕ → Option (Neg × List ℕ)
+plain_at text = do
+  left ← operand_at text
+  compared left.0 left.1 (comparison_at left.1)
+
+-- reading on behind a sign, where it stands there
+abbrev pub behind : {A : Type 0} → Option (List ℕ) → A → (List ℕ → Option A) → Option A
+behind None here onward = Some here
+behind (Some rest) here onward = onward rest
+
+-- to what has been read, what follows it behind such signs, one after another; as many as the number at most
+unfoldable pub joined_at : {A B : Type 0} → (A → B → A) → ℕ → (List ℕ → Option (B × List ℕ)) → ℕ → A → List ℕ → Option (A × List ℕ)
+joined_at join sign next zero front text = Some (front, text)
+joined_at join sign next (suc n) front text =
+    behind (after_sign sign text) (front, text) (λ rest. next rest >>= (λ found. joined_at join sign next n (join front found.0) found.1))
+
+-- negations with `&` between them, by a reader of negations
+unfoldable pub conj_with : (List ℕ → Option (Neg × List ℕ)) → List ℕ → Option (Conj × List ℕ)
+conj_with neg text = do
+  first ← neg text
+  joined_at And 38 neg (length first.1) (Sole first.0) first.1
+
+-- conjunctions with bars between them
+unfoldable pub test_with : (List ℕ → Option (Neg × List ℕ)) → List ℕ → Option (Test × List ℕ)
+test_with neg text = do
+  first ← conj_with neg text
+  joined_at Or 124 (conj_with neg) (length first.1) (Single first.0) first.1
+
+-- a test in parentheses, at its end
+abbrev pub closed : Test → Option (List ℕ) → Option (Neg × List ℕ)
+closed inner None = None
+closed inner (Some rest) = Some (Group inner, rest)
+
+-- behind `!`
+abbrev pub not_with : (List ℕ → Option (Neg × List ℕ)) → List ℕ → Option (Neg × List ℕ)
+not_with neg text = do
+  inner ← neg text
+  Some (Not inner.0, inner.1)
+
+-- behind `(`
+abbrev pub group_with : (List ℕ → Option (Neg × List ℕ)) → List ℕ → Option (Neg × List ℕ)
+group_with neg text = do
+  inner ← test_with neg text
+  closed inner.0 (after_sign 41 inner.1)
+
+-- by what follows `!` and what follows `(`, where they stand there
+abbrev pub nested : Option (List ℕ) → Option (List ℕ) → List ℕ → (List ℕ → Option (Neg × List ℕ)) → Option (Neg × List ℕ)
+nested (Some rest) parenthesis text neg = not_with neg rest
+nested None (Some rest) text neg = group_with neg rest
+nested None None text neg = plain_at text
+
+-- a negation with at most as many `!` and `(` round an operand as the number says
+unfoldable pub neg_at : ℕ → List ℕ → Option (Neg × List ℕ)
+neg_at zero text = plain_at text
+neg_at (suc n) text = nested (after_sign 33 text) (after_sign 40 text) text (neg_at n)
+
+-- what was read, where nothing follows it
+abbrev pub ended : {A : Type 0} → A → List ℕ → Option A
+ended found [] = Some found
+ended found (b ∷ bs) = None
+
+-- the test that a text is
+unfoldable pub read_test : List ℕ → Option Test
+read_test text = do
+  found ← test_with (neg_at NESTING_LIMIT) text
+  ended found.0 (after_ws found.1)

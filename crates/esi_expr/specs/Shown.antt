@@ -1,0 +1,54 @@
+-- What contracts see of a test: its tree.
+use Rattle.std.specs.Prelude.{ℕ, List, Option, Some, None, fold}
+use Rattle.std.specs.Borrow.{Bor}
+use Rattle.esi_expr.specs.declared.expr.Expr.{Expr}
+use Rattle.esi_expr.specs.declared.expr.Conjunction.{Conjunction}
+use Rattle.esi_expr.specs.declared.expr.Negation.{Negation}
+use Rattle.esi_expr.specs.declared.expr.Negation.TheOpen as layer
+use Rattle.esi_expr.specs.declared.expr.Negation.TheFolds.{fold-Expr, fold-Conjunction, fold-Negation}
+use Rattle.esi_expr.specs.Tree.{Test, Single, Or, Conj, Sole, And, Neg, Not, Group, Filled, Compared}
+
+-- conjunctions with bars between them
+abbrev pub any_of : Conj → List Conj → Test
+any_of first more = fold Or (Single first) more
+
+-- negations with `&` between them
+abbrev pub all_of : Neg → List Neg → Conj
+all_of first more = fold And (Sole first) more
+
+abbrev pub negation_step : layer.Negation-F Neg Conj Test → Neg
+negation_step (layer.Not inner) = Not inner.value
+negation_step (layer.Group inner) = Group inner.value
+negation_step (layer.Filled only) = Filled only
+negation_step (layer.Compared left by right) = Compared left by right
+
+abbrev pub conjunction_step : layer.Conjunction-F Neg Conj Test → Conj
+conjunction_step c = all_of c.first c.more.items
+
+abbrev pub expr_step : layer.Expr-F Neg Conj Test → Test
+expr_step e = any_of e.first e.more.items
+
+-- the tree of a negation, of a conjunction and of a test
+abbrev pub neg_of : Negation → Neg
+neg_of = fold-Negation Neg Conj Test negation_step conjunction_step expr_step
+
+abbrev pub conj_of : Conjunction → Conj
+conj_of = fold-Conjunction Neg Conj Test negation_step conjunction_step expr_step
+
+abbrev pub test_of : Expr → Test
+test_of = fold-Expr Neg Conj Test negation_step conjunction_step expr_step
+
+-- what a reader of the code returns: the tree that it read, and what follows it
+abbrev pub shown_by : {A B : Type 0} → (A → B) → Option (A × Bor (List ℕ)) → Option (B × List ℕ)
+shown_by tree None = None
+shown_by tree (Some found) = Some (tree found.0, found.1.now)
+
+-- the same, where what was read is shown as it is
+abbrev pub shown : {A : Type 0} → Option (A × Bor (List ℕ)) → Option (A × List ℕ)
+shown None = None
+shown (Some found) = Some (found.0, found.1.now)
+
+-- the same of a reader that finds bytes
+abbrev pub shown_run : Option (Bor (List ℕ) × Bor (List ℕ)) → Option (List ℕ × List ℕ)
+shown_run None = None
+shown_run (Some found) = Some (found.0.now, found.1.now)

@@ -1,0 +1,15 @@
+//! Tests: the texts of `test` attributes, read, and whether they hold for a reader's request.
+#![tactic(auto)]
+
+mod comparison;
+pub mod expr;
+pub mod laws;
+mod number;
+mod part;
+pub mod reading;
+#[cfg(test)]
+mod tests;
+pub mod truth;
+
+pub use expr::{Comparison, Conjunction, Expr, Negation, Operand};
+pub use reading::parse;
