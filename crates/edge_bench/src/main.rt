@@ -7,12 +7,22 @@ use std::{env, io};
 mod caching;
 mod headers;
 mod inputs;
+mod pages;
 mod references;
 mod scanning;
 mod tables;
+mod templates;
 mod timing;
 
-const NAMES: [&str; 5] = ["tables", "headers", "scanning", "references", "caching"];
+const NAMES: [&str; 7] = [
+    "tables",
+    "headers",
+    "scanning",
+    "references",
+    "caching",
+    "templates",
+    "pages",
+];
 
 fn main(rt: HostRuntime) -> io::Result<()> {
     let mut named = false;
@@ -40,6 +50,8 @@ fn run(rt: &HostRuntime, name: &str) -> io::Result<()> {
         "scanning" => scanning::run(rt),
         "references" => references::run(rt),
         "caching" => caching::run(rt),
+        "templates" => templates::run(rt),
+        "pages" => pages::run(rt),
         _ => Ok(()),
     }
 }

@@ -1,6 +1,6 @@
 //! How fast texts are cut into tokens. One run prints megabytes a second, and ratios that hold on any machine.
 
-use crate::inputs::repeated;
+use crate::inputs::{page_of_includes, repeated};
 use esi_scanner::scan;
 use memchr::memchr;
 use std::alloc::{AllocError, Global};
@@ -16,27 +16,6 @@ const INCLUDES: usize = 200;
 const ATTRIBUTES: usize = 40_000;
 
 const RUNS: usize = 15;
-
-// A page of this length with includes at even distances.
-fn page(alloc: Global, len: usize, includes: usize) -> Result<Vec<u8>, AllocError> {
-    let mut out = Vec::with_capacity(alloc, len)?;
-    let gap = len.checked_div(includes).unwrap_or(0).saturating_sub(40);
-    let text = repeated(
-        alloc,
-        b"Plain words of a page, and no tag. ".as_slice(),
-        gap,
-    )?;
-    for i in 0..includes {
-        let mut tag = String::new(alloc);
-        write!(tag, "<esi:include src=\"/fragment/{i}\"/>")?;
-        out.extend_from_slice(text.as_slice())?;
-        out.extend_from_slice(tag.as_bytes())?;
-    }
-    let rest = len.saturating_sub(out.len());
-    let tail = repeated(alloc, b"end. ".as_slice(), rest)?;
-    out.extend_from_slice(tail.as_slice())?;
-    Ok(out)
-}
 
 // One tag with many attributes; the last repeats the first where that is asked.
 fn wide_tag(alloc: Global, attributes: usize, twice: bool) -> Result<Vec<u8>, AllocError> {
@@ -119,8 +98,8 @@ pub fn run<R: Clock + AllocGlobal + Print>(rt: &R) -> io::Result<()> {
         .checked_div(searched)
         .unwrap_or(0);
     println!(rt; "scanning plain text: {ratio} % of memchr's time ({searched} ns)")?;
-    let with_includes = page(alloc, PAGE, INCLUDES)?;
-    let with_includes_long = page(alloc, 4 * PAGE, 4 * INCLUDES)?;
+    let with_includes = page_of_includes(alloc, PAGE, INCLUDES)?;
+    let with_includes_long = page_of_includes(alloc, 4 * PAGE, 4 * INCLUDES)?;
     report(
         rt,
         "page of 200 includes",

@@ -26,11 +26,11 @@ pub enum Outcome {
 pub enum PageFault {
     /// The page itself could not be had.
     PageFetch,
-    /// The page is no template; the place, in bytes, at which it stops beginning one.
+    /// The page is no template; the place of the fault, in bytes.
     BadTemplate(usize),
-    /// An include without an alternative failed.
+    /// An include could not be had, and nothing stood in for it.
     IncludeFailed,
-    /// The page tries more includes than the edge allows.
+    /// The page tries more legs than the edge allows.
     TooManyLegs,
 }
 

@@ -3,15 +3,16 @@ use Rattle.std.proofs.Common.{◌≡◌, ℕ, ◌+◌, ◌<◌, ◌≤◌, List,
 use Rattle.std.proofs.lemmas.List.Folds.{concat-append}
 use Rattle.edge_types.specs.Pieces.{joined as spelt}
 use Rattle.edge_types.specs.declared.request.Request.{Request}
+use Rattle.esi_vars.specs.declared.part.Part.{Part}
 use Rattle.esi_tree.specs.declared.node.Node.{Node}
 use Rattle.esi_tree.specs.Shown.{element_of, elements_of}
 use Rattle.esi_meaning.specs.Meaning.{element_run, elements_run}
 use Rattle.esi_meaning.specs.Run.{Run, joined, with_front}
 use Rattle.esi_meaning.specs.Ending.{Ends, Adds}
 use Rattle.esi_meaning.specs.declared.limits.TheConstants.{MAX_LEGS}
-use Rattle.esi_meaning.specs.declared.plain.Ending.{Ending}
-use Rattle.esi_meaning.specs.declared.plain.Ending.TheVariants.{Complete}
-use Rattle.esi_meaning.specs.declared.plain.Progress.{Progress}
+use Rattle.esi_meaning.specs.declared.progress.Ending.{Ending}
+use Rattle.esi_meaning.specs.declared.progress.Ending.TheVariants.{Complete}
+use Rattle.esi_meaning.specs.declared.progress.Progress.{Progress}
 
 -- what is left of a run, after these legs and this text
 pub record Leaves (whole rest : Run) (start now : Progress) : Type 0 where
@@ -46,7 +47,7 @@ module _ (whole a b : Run) (start old new : Progress) (left : Leaves whole (join
       }
 
 -- one element more, as the code goes over the nodes
-pub leaves-next : (r : Request) (leg : List ℕ → Run) (whole : Run) (start old new : Progress) (nodes : List Node) (i : ℕ) (x : Node) (ending : Ending) → i < length nodes → x ≡ get_or nodes i x
+pub leaves-next : (r : Request) (leg : List Part → Run) (whole : Run) (start old new : Progress) (nodes : List Node) (i : ℕ) (x : Node) (ending : Ending) → i < length nodes → x ≡ get_or nodes i x
     → Leaves whole (elements_run r leg (elements_of (drop i nodes))) start old → Ends (element_run r leg (element_of x)) old new ending → ending ≡ Complete
     → Leaves whole (elements_run r leg (elements_of (drop (i + 1) nodes))) start new
 leaves-next r leg whole start old new nodes i x ending within is left e complete =

@@ -1,6 +1,11 @@
 pub mod Endings
+pub mod Depths
 pub mod Legs
 pub mod NearRuns
 pub mod NearMeanings
 pub mod OutcomeLemmas
 pub mod StateLemmas
+pub mod LawLemmas
+pub mod AskedLemmas
+pub mod InlineLemmas
+pub mod TextLemmas

@@ -147,7 +147,7 @@ module _ (r : Request) (log S T : List Answered) (s : Agrees log S) (t : Agrees 
 pub state_rests_on_log : StateRestsOnLog
 state_rests_on_log r log S T L u s t = same_state_page r log S T s t L u (is_missing log u) refl
 
-false_if_not : (b : Bool) → (b ≡ true → ⊥) → b ≡ false
+pub false_if_not : (b : Bool) → (b ≡ true → ⊥) → b ≡ false
 false_if_not true h = absurd (h refl)
 false_if_not false h = refl
 

@@ -2,9 +2,9 @@
 use Rattle.std.specs.Prelude.{◌≡◌, ℕ, ◌+◌, ◌<◌, ◌≤◌, List, ◌++◌, length, Some, None}
 use Rattle.edge_types.specs.Pieces.{joined}
 use Rattle.esi_meaning.specs.declared.limits.TheConstants.{MAX_LEGS}
-use Rattle.esi_meaning.specs.declared.plain.Ending.{Ending}
-use Rattle.esi_meaning.specs.declared.plain.Ending.TheVariants.{Complete, Failed, TooManyLegs}
-use Rattle.esi_meaning.specs.declared.plain.Progress.{Progress}
+use Rattle.esi_meaning.specs.declared.progress.Ending.{Ending}
+use Rattle.esi_meaning.specs.declared.progress.Ending.TheVariants.{Complete, Failed, TooManyLegs}
+use Rattle.esi_meaning.specs.declared.progress.Progress.{Progress}
 use Rattle.esi_meaning.specs.Run.{Run}
 
 -- the count of legs grows by those of the run, within the limit

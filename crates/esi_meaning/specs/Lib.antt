@@ -1,5 +1,7 @@
 pub mod Run
+pub mod Inlines
 pub mod Meaning
+pub mod Ahead
 pub mod State
 pub mod Laws
 pub mod Ending

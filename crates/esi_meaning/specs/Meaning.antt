@@ -8,15 +8,19 @@ use Rattle.edge_types.specs.Answered.{Answered, succeeded, processed, body_of}
 use Rattle.edge_types.specs.Asked.{resolve}
 use Rattle.edge_types.specs.Table.{reply_of}
 use Rattle.edge_types.specs.Outcome.{Shown, Page, Fault}
-use Rattle.esi_tree.specs.Tree.{Element, Text, Include, Elements, End, Then}
+use Rattle.esi_vars.specs.declared.part.Part.{Part}
+use Rattle.esi_vars.specs.Values.{substituted}
+use Rattle.esi_expr.specs.Truth.{holds}
+use Rattle.esi_tree.specs.Tree.{Element, Text, VarsText, Include, Choose, Try, Vars, Inline, Nothing, Elements, End, Then, Branches, NoBranch, When, Otherwise}
 use Rattle.esi_tree.specs.Reading.{tree_of}
 use Rattle.esi_meaning.specs.declared.limits.TheConstants.{MAX_LEGS, MIN_LEVELS, MAX_LEVELS}
+use Rattle.esi_meaning.specs.Inlines.{inline_for}
 use Rattle.esi_meaning.specs.Run.{Leg, Run, gives, tries, joined, or_else}
 
 -- What the elements give, where `leg` says what a `src` or an `alt` comes to.
 
 -- an alt, where it is given
-abbrev pub alt_run : (List ℕ → Run) → Option (List ℕ) → Run
+abbrev pub alt_run : (List Part → Run) → Option (List Part) → Run
 alt_run leg None = gives None
 alt_run leg (Some alt) = leg alt
 
@@ -25,22 +29,42 @@ abbrev pub on_error : Bool → Run
 on_error true = gives (Some [])
 on_error false = gives None
 
--- one element
-abbrev pub element_run : Request → (List ℕ → Run) → Element → Run
-element_run r leg (Text text) = gives (Some text)
-element_run r leg (Include src alt continues) = or_else (leg src) (or_else (alt_run leg alt) (on_error continues))
+abbrev mutual
+  -- one element: ESI 1.0, "include", "choose", "try", "vars", "inline", "comment", "remove"
+  pub element_run : Request → (List Part → Run) → Element → Run
+  element_run r leg (Text text) = gives (Some text)
+  element_run r leg (VarsText parts) = gives (Some (substituted r parts))
+  element_run r leg (Include src alt continues) = or_else (leg src) (or_else (alt_run leg alt) (on_error continues))
+  element_run r leg (Choose branches) = chosen_run r leg (gives (Some [])) branches
+  element_run r leg (Try attempt except swapped) = or_else (elements_run r leg attempt) (elements_run r leg except)
+  element_run r leg (Vars content) = elements_run r leg content
+  element_run r leg (Inline name content) = elements_run r leg content
+  element_run r leg Nothing = gives (Some [])
 
--- elements one after another
-abbrev pub elements_run : Request → (List ℕ → Run) → Elements → Run
-elements_run r leg End = gives (Some [])
-elements_run r leg (Then first rest) = joined (element_run r leg first) (elements_run r leg rest)
+  -- elements one after another
+  pub elements_run : Request → (List Part → Run) → Elements → Run
+  elements_run r leg End = gives (Some [])
+  elements_run r leg (Then first rest) = joined (element_run r leg first) (elements_run r leg rest)
+
+  -- the first `when` whose test holds, else the otherwise, wherever it stands
+  pub chosen_run : Request → (List Part → Run) → Run → Branches → Run
+  chosen_run r leg otherwise NoBranch = otherwise
+  chosen_run r leg otherwise (When test content rest) =
+      if holds r test then elements_run r leg content else chosen_run r leg otherwise rest
+  chosen_run r leg otherwise (Otherwise content rest) = chosen_run r leg (elements_run r leg content) rest
+
+-- the content of the branch that is taken
+abbrev pub chosen_content : Request → Elements → Branches → Elements
+chosen_content r otherwise NoBranch = otherwise
+chosen_content r otherwise (When test content rest) = if holds r test then content else chosen_content r otherwise rest
+chosen_content r otherwise (Otherwise content rest) = chosen_content r content rest
 
 -- an answer that isn't processed: its body as it stands, where the fetch succeeded
 abbrev pub plain_run : Reply → Run
 plain_run reply = gives (if succeeded reply then Some (body_of reply) else None)
 
 -- A leg, one level down: `below` says what the legs of a template of the URL and the tree come to.
-module _ (r : Request) (below : List ℕ → Elements → List ℕ → Run) where
+module _ (r : Request) (below : List ℕ → Elements → List Part → Run) where
   -- a template's text, processed
   abbrev pub template_run : List ℕ → Result Elements ℕ → Run
   template_run w (Ok t) = elements_run r (below w t) t
@@ -50,15 +74,21 @@ module _ (r : Request) (below : List ℕ → Elements → List ℕ → Run) wher
   abbrev pub reply_run : List ℕ → Reply → Run
   reply_run w reply = if processed reply then template_run w (tree_of (body_of reply)) else plain_run reply
 
+  -- a leg of the URL w in the template of the URL u with the tree t: the content of an inline of this template, which
+  -- asks nobody, or else what the origin replies
+  abbrev pub named_run : List Answered → List ℕ → Elements → List ℕ → Option Elements → Run
+  named_run T u t w (Some content) = tries None (elements_run r (below u t) content)
+  named_run T u t w None = tries (Some w) (reply_run w (reply_of T w))
+
   -- a leg of this URL, or of none
-  abbrev pub resolved_run : List Answered → Option (List ℕ) → Run
-  resolved_run T None = tries None (gives None)
-  resolved_run T (Some w) = tries (Some w) (reply_run w (reply_of T w))
+  abbrev pub resolved_run : List Answered → List ℕ → Elements → Option (List ℕ) → Run
+  resolved_run T u t None = tries None (gives None)
+  resolved_run T u t (Some w) = named_run T u t w (inline_for u w t)
 
 -- the leg s at level n, in the template of the URL u with the tree t
-abbrev pub leg_run : Request → List Answered → ℕ → List ℕ → Elements → List ℕ → Run
+abbrev pub leg_run : Request → List Answered → ℕ → List ℕ → Elements → List Part → Run
 leg_run r T zero u t s = tries None (gives None)
-leg_run r T (suc n) u t s = resolved_run r (leg_run r T n) T (resolve u s)
+leg_run r T (suc n) u t s = resolved_run r (leg_run r T n) T u t (resolve u (substituted r s))
 
 -- the page's tree, at level n
 abbrev pub page_run : Request → List Answered → ℕ → List ℕ → Elements → Run

@@ -1,8 +1,13 @@
 //! Laws of the meaning: each is the contract of a function that does nothing.
-ghost use Rattle.esi_meaning.specs.Laws.{LoggedAnswersSuffice, OutcomeRestsOnAsked, StateRestsOnLog};
+ghost use Rattle.std.specs.Prelude.{◌≡◌};
+ghost use Rattle.esi_meaning.specs.Laws.{AheadIsNamed, AskedIsNamed, AsksFew, FailedAttemptLeavesNoText};
+ghost use Rattle.esi_meaning.specs.Laws.{FirstInlineCounts, LoggedAnswersSuffice, OutcomeRestsOnAsked, StateRestsOnLog};
+ghost use Rattle.esi_meaning.specs.Laws.{OneTreeOfText, UnaskedChangesNothing};
+
+use crate::limits::{MAX_LEGS, MAX_LEVELS, MIN_LEVELS};
 
 /// The outcome of a page rests on the replies of the URLs that are asked for it, and on nothing
-/// else: what is fetched beside them changes nothing. Takes no memory.
+/// else. Takes no memory.
 ///
 /// Our profile.
 pub fn outcome_rests_on_asked()
@@ -23,4 +28,68 @@ pub fn state_rests_on_log()
 /// Our profile.
 pub fn logged_answers_suffice()
     ensures { LoggedAnswersSuffice }
+{}
+
+/// What was fetched and isn't asked changes no outcome: a table with one answer more, of a URL
+/// that isn't asked, gives the same. Takes no memory.
+///
+/// Our profile.
+pub fn unasked_changes_nothing()
+    ensures { UnaskedChangesNothing }
+{}
+
+/// A page asks at most its own URL and one for each leg that it may try. Takes no memory.
+///
+/// Our profile.
+pub fn asks_few()
+    ensures { AsksFew }
+{}
+
+/// Of a try whose attempt fails the except alone has text, and the legs of both are counted.
+/// Takes no memory.
+///
+/// Source: ESI Language Specification 1.0, "try"; the count of legs is our profile.
+pub fn failed_attempt_leaves_no_text()
+    ensures { FailedAttemptLeavesNoText }
+{}
+
+/// Of the inlines of a template, in the text's order, the first that names a URL counts, wherever
+/// it stands: also in a branch that isn't taken, or within another inline, which comes before it.
+/// Takes no memory.
+///
+/// Our profile.
+pub fn first_inline_counts()
+    ensures { FirstInlineCounts }
+{}
+
+/// What is fetched ahead for a template is a URL that a `src` or an `alt` of it stands for, and
+/// that no inline of it names. Takes no memory.
+///
+/// Our profile.
+pub fn ahead_is_named()
+    ensures { AheadIsNamed }
+{}
+
+/// What is asked for a page is its own URL, or one that a `src` or an `alt` stands for in the
+/// template of an answer, and that no inline of this template names. Takes no memory.
+///
+/// Our profile.
+pub fn asked_is_named()
+    ensures { AskedIsNamed }
+{}
+
+/// A text has at most one list of tokens, and that list at most one tree. Takes no memory.
+///
+/// Our profile.
+pub fn one_tree_of_a_text()
+    ensures { OneTreeOfText }
+{}
+
+/// The limits of a page, in figures. Takes no memory.
+///
+/// Our profile.
+pub fn limits_of_pages()
+    ensures legs { MAX_LEGS ≡ 1000 }
+    ensures fewest { MIN_LEVELS ≡ 1 }
+    ensures most { MAX_LEVELS ≡ 8 }
 {}

@@ -7,7 +7,8 @@ ghost use Rattle.edge_types.specs.Pieces.{joined};
 ghost use Rattle.esi_meaning.specs.Meaning.{outcome, AreLevels};
 ghost use Rattle.esi_meaning.specs.Plain.{answered_page, processed_page};
 
-use crate::plain::{Ending, Place, Progress, Setting, elements, push_whole};
+use crate::plain::{Place, Setting, elements};
+use crate::progress::{Ending, Progress, push_whole};
 use edge_types::{
     Answer, NoMemory, Octets, Outcome, PageBody, PageFault, PageUrl, Reply, Request, Table,
 };
@@ -18,10 +19,11 @@ use std::sync::Arc;
 /// The outcome of the page at this URL, where a table has what the origins answer.
 ///
 /// It is the slow evaluator, for reference: a fragment's body is read as a template anew each
-/// time that a leg reaches it. `NoMemory` where a growth was refused, which leaves nothing behind.
+/// time that a leg reaches it. `are_levels` tests the number of levels. `NoMemory` where a growth
+/// was refused, which leaves nothing behind.
 ///
-/// Source: ESI Language Specification 1.0, "include"; the order of the faults and the limits of
-/// legs and levels are our profile.
+/// Source: ESI Language Specification 1.0, "ESI Language" and "Variables"; inlines by name, the
+/// order of the faults and the limits of legs and levels are our profile.
 #[tactic(auto, unfolding(crate::specs::Meaning::outcome))]
 pub fn plain_page(
     alloc: Global,

@@ -1,40 +1,23 @@
 // The plain evaluator: it goes over a template's tree as the meaning does.
-ghost use Rattle.std.specs.Prelude.{◌≡◌, ◌+◌, ◌<◌, ◌≤◌, ◌↔◌, IsTrue, IfOk, OnOk, None, Some};
-ghost use Rattle.std.specs.Bool.{OnTrue};
+ghost use Rattle.std.specs.Prelude.{◌≤◌, IfOk, None};
 ghost use Rattle.std.specs.Arc.{arc_value};
-ghost use Rattle.edge_types.specs.Answered.{body_of};
-ghost use Rattle.esi_tree.specs.Shown.{element_of, elements_of};
-ghost use Rattle.esi_meaning.specs.Ending.{Adds, Ends};
-ghost use Rattle.esi_meaning.specs.Meaning.{on_error, plain_run};
-ghost use Rattle.esi_meaning.specs.Plain.{leg_at, elements_at, element_at, include_at, alternative_at};
-ghost use Rattle.esi_meaning.specs.Plain.{fetched_at, reply_at, body_at};
-ghost use Rattle.esi_meaning.specs.Run.{gives, tries};
+ghost use Rattle.esi_tree.specs.Shown.{element_of, elements_of, branches_of};
+ghost use Rattle.esi_tree.specs.Tree.{depth, element_depth, branches_depth};
+ghost use Rattle.esi_meaning.specs.Ending.{Ends};
+ghost use Rattle.esi_meaning.specs.Plain.{FitsDepth, IsShallow};
+ghost use Rattle.esi_meaning.specs.Plain.{leg_at, elements_at, element_at, choice_at, try_at, include_at, alternative_at};
+ghost use Rattle.esi_meaning.specs.Plain.{named_at, fetched_at, reply_at, body_at};
+ghost use Rattle.esi_meaning.specs.Run.{tries};
 
+use crate::choice::chosen;
+use crate::inlines::inline_for;
 use crate::limits::MAX_LEGS;
-use edge_types::{Answer, NoMemory, Octets, PageBody, PageUrl, Reply, Request, Table};
-use esi_tree::{Node, Template, TreeFault, template};
+use crate::progress::{Ending, Progress, body, counted, no_leg, on_error, own_text, plain, values};
+use edge_types::{Answer, NoMemory, PageUrl, Request, Table};
+use esi_tree::{Branch, Node, Parts, Template, TreeFault, template};
+use esi_vars::{Part, substitute};
 use std::alloc::Global;
 use std::sync::Arc;
-
-/// How a run ends.
-#[derive(Clone, Copy, Debug, Drop, PartialEq, Eq)]
-pub enum Ending {
-    /// Its text stands at the end of the output.
-    Complete,
-    /// It failed, and the output is as it was.
-    Failed,
-    /// It goes on to one leg more than a page may try.
-    TooManyLegs,
-}
-
-/// How far a page has come.
-#[derive(Drop)]
-pub struct Progress {
-    /// How many legs were tried.
-    pub legs: u16,
-    /// The text so far.
-    pub body: PageBody,
-}
 
 /// What a page is processed with.
 #[derive(Clone, Copy)]
@@ -54,13 +37,16 @@ pub struct Place<'a> {
 
 /// The elements one after another; nothing after the first that fails is tried.
 #[cycle(plain)]
+#[tactic(auto, using(crate::proofs::Depths::depth_at))]
 pub fn elements(
     setting: &Setting<'_>,
     place: Place<'_>,
     nodes: &[Node],
     progress: &mut Progress,
 ) -> Result<Ending, NoMemory>
-    requires { progress.old.legs ≤ MAX_LEGS }
+    requires few { progress.old.legs ≤ MAX_LEGS }
+    requires shallow_tree { IsShallow place }
+    requires shallow { FitsDepth (depth (elements_of nodes.now)) }
     ensures { IfOk result
         (Ends (elements_at setting.now place.entry (elements_of nodes.now)) progress.old progress.new) }
 {
@@ -85,28 +71,79 @@ fn element(
     node: &Node,
     progress: &mut Progress,
 ) -> Result<Ending, NoMemory>
-    requires { progress.old.legs ≤ MAX_LEGS }
+    requires few { progress.old.legs ≤ MAX_LEGS }
+    requires shallow_tree { IsShallow place }
+    requires shallow { FitsDepth (element_depth (element_of node.now)) }
     ensures { IfOk result
         (Ends (element_at setting.now place.entry (element_of node.now)) progress.old progress.new) }
 {
     match node {
         Node::Text(text) => own_text(setting.alloc, text, progress),
+        Node::VarsText(parts) => values(setting.alloc, setting.request, parts.as_slice(), progress),
         Node::Include {
             src,
             alt,
             continues,
         } => include(setting, place, src, alt, *continues, progress),
+        Node::Choose(branches) => choose(setting, place, branches.as_slice(), progress),
+        Node::Try {
+            attempt,
+            except,
+            ..
+        } => one_of(
+            setting,
+            place,
+            attempt.as_slice(),
+            except.as_slice(),
+            progress,
+        ),
+        Node::Vars(content) | Node::Inline { content, .. } => {
+            elements(setting, place, content.as_slice(), progress)
+        }
+        Node::Nothing => Ok(Ending::Complete),
     }
 }
 
-// A text that is given out as it stands.
-fn own_text(alloc: Global, text: &Octets, progress: &mut Progress) -> Result<Ending, NoMemory>
-    requires { progress.old.legs ≤ MAX_LEGS }
+// A choose: the branch that is taken.
+#[cycle(plain)]
+#[tactic(auto, using(crate::proofs::Legs::chosen_run_content))]
+fn choose(
+    setting: &Setting<'_>,
+    place: Place<'_>,
+    branches: &[Branch],
+    progress: &mut Progress,
+) -> Result<Ending, NoMemory>
+    requires few { progress.old.legs ≤ MAX_LEGS }
+    requires shallow_tree { IsShallow place }
+    requires shallow { FitsDepth (branches_depth (branches_of branches.now)) }
     ensures { IfOk result
-        (Ends (gives (Some text.now)) progress.old progress.new) }
+        (Ends (choice_at setting.now place.entry (branches_of branches.now)) progress.old progress.new) }
 {
-    progress.body.push_own(text.copy(alloc)?)?;
-    Ok(Ending::Complete)
+    let content = chosen(setting.request, branches);
+    elements(setting, place, content, progress)
+}
+
+// A try: the attempt, else the except.
+#[cycle(plain)]
+fn one_of(
+    setting: &Setting<'_>,
+    place: Place<'_>,
+    attempt: &[Node],
+    except: &[Node],
+    progress: &mut Progress,
+) -> Result<Ending, NoMemory>
+    requires few { progress.old.legs ≤ MAX_LEGS }
+    requires shallow_tree { IsShallow place }
+    requires shallow_attempt { FitsDepth (depth (elements_of attempt.now)) }
+    requires shallow_except { FitsDepth (depth (elements_of except.now)) }
+    ensures { IfOk result
+        (Ends (try_at setting.now place.entry (elements_of attempt.now) (elements_of except.now)) progress.old progress.new) }
+{
+    match elements(setting, place, attempt, progress)? {
+        Ending::Complete => Ok(Ending::Complete),
+        Ending::Failed => elements(setting, place, except, progress),
+        Ending::TooManyLegs => Ok(Ending::TooManyLegs),
+    }
 }
 
 // An include: its src, else what stands for it.
@@ -114,16 +151,17 @@ fn own_text(alloc: Global, text: &Octets, progress: &mut Progress) -> Result<End
 fn include(
     setting: &Setting<'_>,
     place: Place<'_>,
-    src: &Octets,
-    alt: &Option<Octets>,
+    src: &Parts,
+    alt: &Option<Parts>,
     continues: bool,
     progress: &mut Progress,
 ) -> Result<Ending, NoMemory>
-    requires { progress.old.legs ≤ MAX_LEGS }
+    requires few { progress.old.legs ≤ MAX_LEGS }
+    requires shallow_tree { IsShallow place }
     ensures { IfOk result
         (Ends (include_at setting.now place.entry src.now alt.now continues) progress.old progress.new) }
 {
-    match leg(setting, place, src.as_bytes(), progress)? {
+    match leg(setting, place, src.as_slice(), progress)? {
         Ending::Complete => Ok(Ending::Complete),
         Ending::Failed => alternative(setting, place, alt, continues, progress),
         Ending::TooManyLegs => Ok(Ending::TooManyLegs),
@@ -135,32 +173,22 @@ fn include(
 fn alternative(
     setting: &Setting<'_>,
     place: Place<'_>,
-    alt: &Option<Octets>,
+    alt: &Option<Parts>,
     continues: bool,
     progress: &mut Progress,
 ) -> Result<Ending, NoMemory>
-    requires { progress.old.legs ≤ MAX_LEGS }
+    requires few { progress.old.legs ≤ MAX_LEGS }
+    requires shallow_tree { IsShallow place }
     ensures { IfOk result
         (Ends (alternative_at setting.now place.entry alt.now continues) progress.old progress.new) }
 {
     let Some(alt) = alt else {
         return Ok(on_error(continues));
     };
-    match leg(setting, place, alt.as_bytes(), progress)? {
+    match leg(setting, place, alt.as_slice(), progress)? {
         Ending::Complete => Ok(Ending::Complete),
         Ending::Failed => Ok(on_error(continues)),
         Ending::TooManyLegs => Ok(Ending::TooManyLegs),
-    }
-}
-
-// An include that can't be had: nothing, or a failure.
-fn on_error(continues: bool) -> Ending
-    ensures { (p : Progress) → p.legs ≤ MAX_LEGS → Ends (on_error continues) p p result }
-{
-    if continues {
-        Ending::Complete
-    } else {
-        Ending::Failed
     }
 }
 
@@ -170,46 +198,69 @@ fn on_error(continues: bool) -> Ending
 fn leg(
     setting: &Setting<'_>,
     place: Place<'_>,
-    text: &[u8],
+    text: &[Part],
     progress: &mut Progress,
 ) -> Result<Ending, NoMemory>
-    requires { progress.old.legs ≤ MAX_LEGS }
+    requires few { progress.old.legs ≤ MAX_LEGS }
+    requires shallow_tree { IsShallow place }
     ensures { IfOk result
         (Ends (leg_at setting.now place.entry text.now) progress.old progress.new) }
 {
     if place.level == 0 {
         return Ok(no_leg(progress));
     }
-    match place.url.resolve(setting.alloc, text)? {
-        Some(url) => fetched(setting, place.level - 1, &url, progress),
-        None => Ok(no_leg(progress)),
+    let text = substitute(setting.alloc, setting.request, text)?;
+    let Some(url) = place.url.resolve(setting.alloc, text.as_slice())? else {
+        return Ok(no_leg(progress));
+    };
+    let below = Place {
+        level: place.level - 1,
+        url: place.url,
+        tree: place.tree,
+    };
+    named(setting, below, &url, progress)
+}
+
+// A leg of this URL: an inline of its template, or else what the origin answers.
+#[cycle(plain)]
+fn named(
+    setting: &Setting<'_>,
+    place: Place<'_>,
+    url: &PageUrl,
+    progress: &mut Progress,
+) -> Result<Ending, NoMemory>
+    requires few { progress.old.legs ≤ MAX_LEGS }
+    requires shallow_tree { IsShallow place }
+    ensures { IfOk result
+        (Ends (named_at setting.now place.entry url.now) progress.old progress.new) }
+{
+    match inline_for(setting.alloc, place.url, url, place.tree.nodes())? {
+        Some(content) => inlined(setting, place, content, progress),
+        None => fetched(setting, place.level, url, progress),
     }
 }
 
-// A leg that asks nobody.
-fn no_leg(progress: &mut Progress) -> Ending
-    requires { progress.old.legs ≤ MAX_LEGS }
-    ensures { Ends (tries None (gives None)) progress.old progress.new result }
+// A leg that an inline of its template gives: it asks nobody.
+#[cycle(plain)]
+fn inlined(
+    setting: &Setting<'_>,
+    place: Place<'_>,
+    content: &[Node],
+    progress: &mut Progress,
+) -> Result<Ending, NoMemory>
+    requires few { progress.old.legs ≤ MAX_LEGS }
+    requires shallow_tree { IsShallow place }
+    requires shallow { FitsDepth (depth (elements_of content.now)) }
+    ensures { IfOk result
+        (Ends (tries None (elements_at setting.now place.entry (elements_of content.now))) progress.old progress.new) }
 {
     if !counted(&mut progress.legs) {
-        return Ending::TooManyLegs;
+        return Ok(Ending::TooManyLegs);
     }
-    Ending::Failed
+    elements(setting, place, content, progress)
 }
 
-// Counts one leg more, unless the page may try no more.
-fn counted(legs: &mut u16) -> bool
-    ensures room { IsTrue result ↔ (legs.old < MAX_LEGS) }
-    ensures counted { OnTrue result (legs.new ≡ legs.old + 1) }
-{
-    if *legs >= MAX_LEGS {
-        return false;
-    }
-    *legs += 1;
-    true
-}
-
-// A leg of this URL.
+// A leg of this URL that its origin answers.
 #[cycle(plain)]
 fn fetched(
     setting: &Setting<'_>,
@@ -217,7 +268,7 @@ fn fetched(
     url: &PageUrl,
     progress: &mut Progress,
 ) -> Result<Ending, NoMemory>
-    requires { progress.old.legs ≤ MAX_LEGS }
+    requires few { progress.old.legs ≤ MAX_LEGS }
     ensures { IfOk result
         (Ends (fetched_at setting.now level url.now) progress.old progress.new) }
 {
@@ -239,7 +290,7 @@ fn answered(
     answer: &Arc<Answer>,
     progress: &mut Progress,
 ) -> Result<Ending, NoMemory>
-    requires { progress.old.legs ≤ MAX_LEGS }
+    requires few { progress.old.legs ≤ MAX_LEGS }
     ensures { IfOk result
         (Ends (reply_at setting.now level url.now (arc_value answer.now).reply) progress.old progress.new) }
 {
@@ -248,26 +299,6 @@ fn answered(
     } else {
         plain(answer, progress)
     }
-}
-
-// An answer that isn't processed: its body as it stands, where the fetch succeeded.
-fn plain(answer: &Arc<Answer>, progress: &mut Progress) -> Result<Ending, NoMemory>
-    requires { progress.old.legs ≤ MAX_LEGS }
-    ensures { IfOk result
-        (Ends (plain_run (arc_value answer.now).reply) progress.old progress.new) }
-{
-    if !answer.succeeded() {
-        return Ok(Ending::Failed);
-    }
-    push_whole(answer, &mut progress.body)?;
-    Ok(Ending::Complete)
-}
-
-/// Adds an answer's body at the end of the output, as it stands.
-pub fn push_whole(answer: &Arc<Answer>, output: &mut PageBody) -> Result<(), NoMemory>
-    ensures { OnOk result (Adds (body_of (arc_value answer.now).reply) output.old output.new) }
-{
-    output.push_part(answer, 0, body(answer).len())
 }
 
 // A body, processed.
@@ -279,7 +310,7 @@ fn processed(
     body: &[u8],
     progress: &mut Progress,
 ) -> Result<Ending, NoMemory>
-    requires { progress.old.legs ≤ MAX_LEGS }
+    requires few { progress.old.legs ≤ MAX_LEGS }
     ensures { IfOk result
         (Ends (body_at setting.now level url.now body.now) progress.old progress.new) }
 {
@@ -294,14 +325,4 @@ fn processed(
         tree: &template,
     };
     elements(setting, there, template.nodes(), progress)
-}
-
-/// The body of an answer, which a failure doesn't have.
-pub fn body(answer: &Answer) -> &[u8]
-    ensures { result.now ≡ body_of answer.now.reply }
-{
-    match answer.reply() {
-        Reply::Failed => &[],
-        Reply::Got { body, .. } => body.as_bytes(),
-    }
 }

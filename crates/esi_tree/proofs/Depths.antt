@@ -5,12 +5,13 @@ use Rattle.esi_scanner.specs.declared.element_name.ElementName.{ElementName}
 use Rattle.esi_scanner.specs.declared.tag.Tag.{Tag}
 use Rattle.esi_scanner.specs.Bytes.{◌>>=◌}
 use Rattle.esi_tree.specs.declared.open_elements.TheConstants.{OPEN_LIMIT}
+use Rattle.esi_tree.specs.Tree as tree
 use Rattle.esi_tree.specs.Tree.{Element}
 use Rattle.esi_tree.specs.Items.{Item, Text, Open, Close, Remove, Block}
 use Rattle.esi_tree.specs.Attributes.{is_white}
 use Rattle.esi_tree.specs.Template.{open_at_most}
-use Rattle.esi_tree.specs.Reading.{Frame, Including, State, after_text, left, after}
-use Rattle.esi_tree.proofs.Runs.{opened, taken, fits, after-is, run, steps, Enters, opened-inverts, left-inverts}
+use Rattle.esi_tree.specs.Reading.{Frame, State, Piece, AnElement, put_in, is_run, in_vars, text_element, after_text, after_remove, left, after}
+use Rattle.esi_tree.proofs.Runs.{opened, taken, fits, after-is, run, steps, chosen_some, Enters, opened-inverts, left-inverts}
 
 -- how many are open at the item, where n were open before it
 abbrev pub here : Item → ℕ → ℕ
@@ -25,18 +26,30 @@ abbrev depth_of : Option State → ℕ
 depth_of None = 0
 depth_of (Some state) = length state.frames
 
-text-depth : (bytes : List ℕ) (frames : List Frame) (content : List Element) (next : State) → after_text bytes (record { frames = frames; content = content }) ≡ Some next → length next.frames ≡ length frames
+put-depth : (piece : Piece) (frames : List Frame) (content : List Element) → length (put_in piece frames content).frames ≡ length frames
+put-depth piece [] content = refl
+put-depth piece (frame ∷ outer) content = refl
+
+text-depth : (bytes : List ℕ) (state next : State) → after_text bytes state ≡ Some next → length next.frames ≡ length state.frames
 unfolding after_text
-text-depth bytes [] content next e = sym (ap depth_of e)
-text-depth bytes (Including src alt onward ∷ outer) content next e =
-    let state : State = record { frames = Including src alt onward ∷ outer; content = content } in
-    sym (ap (λ (s : State). length s.frames) (cond_some (is_white bytes) state next e).1)
+text-depth bytes state next e = by_place (is_run state.frames) e
+  where
+    by_place : (b : Bool) → cond b (Some (put_in (AnElement (text_element (in_vars state.frames) bytes)) state.frames state.content)) (cond (is_white bytes) (Some state) None) ≡ Some next → length next.frames ≡ length state.frames
+    by_place true e' = sym (ap depth_of e') ∙ put-depth (AnElement (text_element (in_vars state.frames) bytes)) state.frames state.content
+    by_place false e' = sym (ap (λ (s : State). length s.frames) (cond_some (is_white bytes) state next e').1)
+
+remove-depth : (state next : State) → after_remove state ≡ Some next → length next.frames ≡ length state.frames
+unfolding after_remove
+remove-depth state next e =
+    let put : State = put_in (AnElement tree.Nothing) state.frames state.content in
+    sym (ap (λ (s : State). length s.frames) (cond_some (is_run state.frames) put next e).1) ∙ put-depth (AnElement tree.Nothing) state.frames state.content
 
 left-depth : (name : ElementName) (frames : List Frame) (content : List Element) (next : State) → left name (record { frames = frames; content = content }) ≡ Some next → length frames ≡ length next.frames + 1
-unfolding left
-left-depth name [] content next e = absurd (cc)
-left-depth name (Including src alt onward ∷ outer) content next e =
-    let same = ap (λ (s : State). length s.frames) (left-inverts name src alt onward outer content next e).1 in
+left-depth name frames content next e =
+    let leaves = left-inverts name frames content next e in
+    let same = ap (λ (s : State). length s.frames) leaves.next_is in
+    let kept = put-depth leaves.piece leaves.outer content in
+    let was = ap (λ (fs : List Frame). length fs) leaves.frames_are in
     omega arith
 
 closed-depth : (closed : Bool) (name : ElementName) (within next : State) (n : ℕ) → length within.frames ≡ n + 1 → cond closed (left name within) (Some within) ≡ Some next → length next.frames ≡ cond closed n (n + 1)
@@ -53,13 +66,13 @@ open-depth tag state next e =
 
 -- the most that are open at the item and behind it
 open_at_most-step : (item : Item) (items : List Item) (state next : State) → taken item state ≡ Some next → open_at_most (length state.frames) (item ∷ items) ≡ max (here item (length state.frames)) (open_at_most (length next.frames) items)
-open_at_most-step (Text bytes) items state next e = ap (λ n. max (length state.frames) (open_at_most n items)) (sym (text-depth bytes state.frames state.content next e))
+open_at_most-step (Text bytes) items state next e = ap (λ n. max (length state.frames) (open_at_most n items)) (sym (text-depth bytes state next e))
 open_at_most-step (Open tag) items state next e = ap (λ n. max (length state.frames + 1) (open_at_most n items)) (sym (open-depth tag state next e))
 open_at_most-step (Close name) items state next e =
     let less = left-depth name state.frames state.content next e in
     let same : length state.frames - 1 ≡ length next.frames = omega arith in
     ap (λ n. max (length state.frames) (open_at_most n items)) same
-open_at_most-step Remove items state next e = absurd (cc)
+open_at_most-step Remove items state next e = ap (λ n. max (length state.frames) (open_at_most n items)) (sym (remove-depth state next e))
 open_at_most-step Block items state next e = ap (λ n. max (length state.frames) (open_at_most n items)) (ap depth_of e)
 
 cond-depth : (closed : Bool) (n : ℕ) → cond closed n (n + 1) ≤ n + 1
@@ -67,13 +80,13 @@ cond-depth true n = omega arith
 cond-depth false n = omega arith
 
 next-depth : (item : Item) (state next : State) → taken item state ≡ Some next → length next.frames ≤ here item (length state.frames)
-next-depth (Text bytes) state next e = let same = text-depth bytes state.frames state.content next e in omega arith
+next-depth (Text bytes) state next e = let same = text-depth bytes state next e in omega arith
 next-depth (Open tag) state next e =
     let same = open-depth tag state next e in
     let most = cond-depth tag.closed (length state.frames) in
     omega arith
 next-depth (Close name) state next e = let less = left-depth name state.frames state.content next e in omega arith
-next-depth Remove state next e = absurd (cc)
+next-depth Remove state next e = let same = remove-depth state next e in omega arith
 next-depth Block state next e = let same = ap depth_of e in omega arith
 
 fits-from_here : (item : Item) (n : ℕ) → here item n ≤ OPEN_LIMIT → fits item n ≡ true
@@ -89,10 +102,6 @@ here-from_fits (Text bytes) n h within = within
 here-from_fits (Close name) n h within = within
 here-from_fits Remove n h within = within
 here-from_fits Block n h within = within
-
-chosen_some : {A : Type 0} (b : Bool) (o : Option A) (x : A) → cond b o None ≡ Some x → (b ≡ true) × (o ≡ Some x)
-chosen_some true o x e = (refl, e)
-chosen_some false o x e = absurd (cc)
 
 pub after-inverts : (item : Item) (state next : State) → after item state ≡ Some next → (fits item (length state.frames) ≡ true) × (taken item state ≡ Some next)
 after-inverts item state next e = chosen_some (fits item (length state.frames)) (taken item state) next (sym (after-is item state) ∙ e)

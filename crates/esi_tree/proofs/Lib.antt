@@ -1,7 +1,16 @@
+pub mod AnyLemmas
 pub mod StackLemmas
 pub mod ReadingLemmas
+pub mod DepthRead
 pub mod Runs
 pub mod Depths
+pub mod Places
+pub mod Fillings
+pub mod Rounds
 pub mod Complete
+pub mod Inside
+pub mod Ends
 pub mod Sound
+pub mod ReadableTest
+pub mod Closings
 pub mod Theorems

@@ -4,16 +4,13 @@ use Rattle.std.proofs.lemmas.Option.{option_and_then_some}
 use Rattle.esi_scanner.specs.declared.element_name.ElementName.{ElementName}
 use Rattle.esi_scanner.specs.declared.element_name.ElementName.TheVariants as element
 use Rattle.esi_scanner.specs.declared.attribute.Attribute.{Attribute}
-use Rattle.esi_scanner.specs.declared.attribute.KnownAttribute.TheVariants as known
 use Rattle.esi_scanner.specs.declared.tag.Tag.{Tag}
 use Rattle.esi_scanner.specs.Bytes.{◌>>=◌}
 use Rattle.esi_tree.specs.declared.open_elements.TheConstants.{OPEN_LIMIT}
-use Rattle.esi_tree.specs.Tree as tree
 use Rattle.esi_tree.specs.Tree.{Element}
 use Rattle.esi_tree.specs.Items.{Item, Text, Open, Close, Remove, Block}
-use Rattle.esi_tree.specs.Attributes.{value_of, continues}
-use Rattle.esi_tree.specs.Template.{struck, IsIncludeTag}
-use Rattle.esi_tree.specs.Reading.{Frame, Including, State, after_text, including, is_run, inside, entered, left, with_element, after_tag, after}
+use Rattle.esi_tree.specs.Template.{struck}
+use Rattle.esi_tree.specs.Reading.{Frame, State, Piece, put, put_in, after_text, after_remove, may_stand, opened_by, inside, entered, name_of, is_same, piece_of, left, after_tag, after}
 
 -- what has been read after an opening tag, however many elements are open
 abbrev pub opened : Tag → State → Option State
@@ -24,7 +21,7 @@ abbrev pub taken : Item → State → Option State
 taken (Text bytes) state = after_text bytes state
 taken (Open tag) state = opened tag state
 taken (Close name) state = left name state
-taken Remove state = None
+taken Remove state = after_remove state
 taken Block state = Some state
 
 -- whether one more element may be open, where the item opens one
@@ -77,7 +74,7 @@ run-struck [] state = refl
 run-struck (Text bytes ∷ items) state = bind-struck (after_text bytes state) items (λ s. run-struck items s)
 run-struck (Open tag ∷ items) state = bind-struck (opened tag state) items (λ s. run-struck items s)
 run-struck (Close name ∷ items) state = bind-struck (left name state) items (λ s. run-struck items s)
-run-struck (Remove ∷ items) state = refl
+run-struck (Remove ∷ items) state = bind-struck (after_remove state) items (λ s. run-struck items s)
 run-struck (Block ∷ items) state = run-struck items state
 
 pub struck-append : (xs ys : List Item) → struck (xs ++ ys) ≡ struck xs ++ struck ys
@@ -88,61 +85,84 @@ struck-append (Close name ∷ xs) ys = ap (λ items. Close name ∷ items) (stru
 struck-append (Remove ∷ xs) ys = ap (λ items. Remove ∷ items) (struck-append xs ys)
 struck-append (Block ∷ xs) ys = struck-append xs ys
 
--- what an include's tag enters
-pub entered-include : (src : List ℕ) (alt : Option (List ℕ)) (onward : Bool) (attributes : List Attribute) (state : State) → is_run state.frames ≡ true → IsIncludeTag src alt onward attributes
-    → entered element.Include attributes state ≡ Some (inside (Including src alt onward) state)
-unfolding entered including
-entered-include src alt onward attributes state top says = rw (top, says.src_is, says.alt_is, says.onward_is) refl
+-- a choice that gave something was made by the test
+pub chosen_some : {A : Type 0} (b : Bool) (o : Option A) (x : A) → cond b o None ≡ Some x → (b ≡ true) × (o ≡ Some x)
+chosen_some true o x e = (refl, e)
+chosen_some false o x e = absurd (cc)
 
 -- what a tag must be that enters an element
 pub record Enters (name : ElementName) (attributes : List Attribute) (state within : State) : Type 0 where
-  pub src : List ℕ
-  pub alt : Option (List ℕ)
-  pub onward : Bool
-  pub named : name ≡ element.Include
-  pub top : is_run state.frames ≡ true
-  pub says : IsIncludeTag src alt onward attributes
-  pub within_is : inside (Including src alt onward) state ≡ within
-
-Enters-include : (attributes : List Attribute) (state within : State) (top : Bool) → is_run state.frames ≡ top → cond top (including attributes >>= λ frame. Some (inside frame state)) None ≡ Some within → Enters element.Include attributes state within
-unfolding including
-Enters-include attributes state within false top e = absurd (cc)
-Enters-include attributes state within true top e =
-    by_src (value_of known.Src attributes) refl e
-  where
-    by_src : (src : Option (List ℕ)) → value_of known.Src attributes ≡ src → ((src >>= λ s. Some (Including s (value_of known.Alt attributes) (continues attributes))) >>= λ frame. Some (inside frame state)) ≡ Some within → Enters element.Include attributes state within
-    by_src None is e = absurd (cc)
-    by_src (Some src) is e = record {
-      src = src;
-      alt = value_of known.Alt attributes;
-      onward = continues attributes;
-      named = refl;
-      top = top;
-      says = record { src_is = is; alt_is = refl; onward_is = refl };
-      within_is = cc;
-    }
+  pub frame : Frame
+  pub allowed : may_stand name state.frames ≡ true
+  pub opens : opened_by name attributes ≡ Some frame
+  pub within_is : inside frame state ≡ within
 
 pub entered-inverts : (name : ElementName) (attributes : List Attribute) (state within : State) → entered name attributes state ≡ Some within → Enters name attributes state within
 unfolding entered
-entered-inverts element.Include attributes state within e = Enters-include attributes state within (is_run state.frames) refl e
-entered-inverts _ attributes state within e = absurd (cc)
+entered-inverts name attributes state within e =
+    let parts = chosen_some (may_stand name state.frames) (opened_by name attributes >>= λ frame. Some (inside frame state)) within e in
+    option_and_then_some (λ frame. Some (inside frame state)) (opened_by name attributes) within parts.1 (λ frame opens rest.
+    record { frame = frame; allowed = parts.0; opens = opens; within_is = cc })
+
+pub entered-is : (name : ElementName) (attributes : List Attribute) (state : State) (frame : Frame) → may_stand name state.frames ≡ true → opened_by name attributes ≡ Some frame → entered name attributes state ≡ Some (inside frame state)
+unfolding entered
+entered-is name attributes state frame allowed opens = rw (allowed, opens) refl
 
 -- what an opening tag does
-pub opened-is : (tag : Tag) (state within : State) (name : ElementName) (closed : Bool) → tag.name ≡ name → tag.closed ≡ closed → entered name tag.attributes state ≡ Some within → opened tag state ≡ cond closed (left name within) (Some within)
-opened-is tag state within name closed named is into = rw (named, is, into) refl
+pub opened-is : (tag : Tag) (state within : State) (closed : Bool) → tag.closed ≡ closed → entered tag.name tag.attributes state ≡ Some within → opened tag state ≡ cond closed (left tag.name within) (Some within)
+opened-is tag state within closed is into = rw (is, into) refl
 
 pub opened-inverts : (tag : Tag) (state next : State) → opened tag state ≡ Some next → (within : State) × Enters tag.name tag.attributes state within × (cond tag.closed (left tag.name within) (Some within) ≡ Some next)
 opened-inverts tag state next e =
     option_and_then_some (λ within. cond tag.closed (left tag.name within) (Some within)) (entered tag.name tag.attributes state) next e
     (λ within into rest. (within, entered-inverts tag.name tag.attributes state within into, rest))
 
--- what the end of an element leaves
-pub left-include : (src : List ℕ) (alt : Option (List ℕ)) (onward : Bool) (state : State) → left element.Include (inside (Including src alt onward) state) ≡ Some (with_element (tree.Include src alt onward) state)
-unfolding left
-left-include src alt onward state = refl
+same-self : (name : ElementName) → is_same name name ≡ true
+same-self element.Include = refl
+same-self element.Inline = refl
+same-self element.Choose = refl
+same-self element.When = refl
+same-self element.Otherwise = refl
+same-self element.Try = refl
+same-self element.Attempt = refl
+same-self element.Except = refl
+same-self element.Comment = refl
+same-self element.Remove = refl
+same-self element.Vars = refl
 
-pub left-inverts : (name : ElementName) (src : List ℕ) (alt : Option (List ℕ)) (onward : Bool) (outer : List Frame) (content : List Element) (next : State) → left name (record { frames = Including src alt onward ∷ outer; content = content }) ≡ Some next
-    → (name ≡ element.Include) × (◌≡◌ {A = State} (record { frames = outer; content = content ++ tree.Include src alt onward ∷ [] }) next)
+same-is : (a b : ElementName) → is_same a b ≡ true → a ≡ b
+same-is element.Include element.Include e = refl
+same-is element.Inline element.Inline e = refl
+same-is element.Choose element.Choose e = refl
+same-is element.When element.When e = refl
+same-is element.Otherwise element.Otherwise e = refl
+same-is element.Try element.Try e = refl
+same-is element.Attempt element.Attempt e = refl
+same-is element.Except element.Except e = refl
+same-is element.Comment element.Comment e = refl
+same-is element.Remove element.Remove e = refl
+same-is element.Vars element.Vars e = refl
+same-is _ _ e = absurd (cc)
+
+-- what the end of an element leaves
+pub left-is : (name : ElementName) (frame : Frame) (piece : Piece) (state : State) → name ≡ name_of frame → piece_of frame ≡ Some piece → left name (inside frame state) ≡ Some (put piece state)
 unfolding left
-left-inverts element.Include src alt onward outer content next e = (refl, cc)
-left-inverts _ src alt onward outer content next e = absurd (cc)
+left-is name frame piece state named is = rw (named, same-self (name_of frame), is) refl
+
+-- what must have been open where an element ends
+pub record Leaves (name : ElementName) (frames : List Frame) (content : List Element) (next : State) : Type 0 where
+  pub frame : Frame
+  pub outer : List Frame
+  pub piece : Piece
+  pub frames_are : frames ≡ frame ∷ outer
+  pub named : name ≡ name_of frame
+  pub piece_is : piece_of frame ≡ Some piece
+  pub next_is : put_in piece outer content ≡ next
+
+pub left-inverts : (name : ElementName) (frames : List Frame) (content : List Element) (next : State) → left name (record { frames = frames; content = content }) ≡ Some next → Leaves name frames content next
+unfolding left
+left-inverts name [] content next e = absurd (cc)
+left-inverts name (frame ∷ outer) content next e =
+    let parts = chosen_some (is_same name (name_of frame)) (piece_of frame >>= λ piece. Some (put_in piece outer content)) next e in
+    option_and_then_some (λ piece. Some (put_in piece outer content)) (piece_of frame) next parts.1 (λ piece is rest.
+    record { frame = frame; outer = outer; piece = piece; frames_are = refl; named = same-is name (name_of frame) parts.0; piece_is = is; next_is = cc })

@@ -1,143 +1,175 @@
--- What is read is a template, and what has been read can be completed to one.
-use Rattle.std.proofs.Common.{◌≡◌, inl, inr, ℕ, Bool, true, false, cond, List, [], ◌∷◌, ◌++◌, Option, Some, unwrap_or, refl, sym, ◌∙◌, ap, subst, append_assoc}
+-- What is read is what the state says.
+use Rattle.std.proofs.Common.{◌≡◌, inl, inr, ℕ, Bool, true, false, cond, List, [], ◌∷◌, ◌++◌, Some, None, unwrap_or, refl, sym, ◌∙◌, ap, subst, append_assoc}
 use Rattle.std.proofs.lemmas.List.{append-nil}
 use Rattle.std.proofs.lemmas.Option.{cond_some, option_and_then_some}
 use Rattle.esi_scanner.specs.declared.element_name.ElementName.{ElementName}
-use Rattle.esi_scanner.specs.declared.element_name.ElementName.TheVariants as element
 use Rattle.esi_scanner.specs.declared.tag.Tag.{Tag}
 use Rattle.esi_tree.specs.Tree as tree
-use Rattle.esi_tree.specs.Tree.{Element, Elements}
+use Rattle.esi_tree.specs.Tree.{Element}
 use Rattle.esi_tree.specs.Shown.{row}
 use Rattle.esi_tree.specs.Attributes.{is_white}
 use Rattle.esi_tree.specs.Items.{Item, Text, Open, Close, Remove, Block}
-use Rattle.esi_tree.specs.Template.{struck, IsWhite, AreWhite, IsIncludeTag, IsElement, IsRun}
-use Rattle.esi_tree.specs.Reading.{Frame, Including, State, after_text, is_run, inside, left, with_element}
-use Rattle.esi_tree.proofs.Runs.{run, taken, Enters, opened-inverts, left-include, left-inverts}
+use Rattle.esi_tree.specs.Template.{struck, AreWhite, IsElement, IsRun}
+use Rattle.esi_tree.specs.Reading.{Frame, State, Piece, AnElement, ABranch, AnAttempt, AnExcept, grown, put_in, is_run, in_vars, text_element, after_text, after_remove, may_stand, opened_by, inside, name_of, piece_of, left}
+use Rattle.esi_tree.proofs.Runs.{run, taken, Enters, opened-inverts, left-inverts}
+use Rattle.esi_tree.proofs.Places.{emptied, keeps}
+use Rattle.esi_tree.proofs.Inside.{IsPiece, Fits, Inside, arm-no_run, run-push, inside-white, inside-push}
+use Rattle.esi_tree.proofs.Ends.{fresh, whole, fits-piece}
 
--- an include that is open: what stood before its tag, its tag, and white text
-pub record IsOpened (src : List ℕ) (alt : Option (List ℕ)) (onward : Bool) (outer : List Frame) (items : List Item) (Before : List Item → Type 0) : Type 0 where
+-- an element that is open: what stood before its tag, its tag, and what has been read inside
+pub record IsOpened (frame : Frame) (outer : List Frame) (items : List Item) (Before : List Item → Type 0) : Type 0 where
   pub front : List Item
   pub tag : Tag
-  pub white : List Item
-  pub joined : items ≡ front ++ Open tag ∷ white
-  pub top : is_run outer ≡ true
+  pub inner : List Item
+  pub joined : items ≡ front ++ Open tag ∷ inner
   pub before : Before front
-  pub named : tag.name ≡ element.Include
+  pub allowed : may_stand (name_of frame) outer ≡ true
+  pub named : tag.name ≡ name_of frame
   pub unclosed : tag.closed ≡ false
-  pub says : IsIncludeTag src alt onward tag.attributes
-  pub white_is : AreWhite white
+  pub says : opened_by (name_of frame) tag.attributes ≡ Some (emptied frame)
+  pub within : Inside (in_vars outer) frame inner
 
 -- which items have been read, in a state
 abbrev pub Reads : List Frame → List Element → List Item → Type 0
 Reads [] content items = IsRun false (row content) items
-Reads (Including src alt onward ∷ outer) content items = IsOpened src alt onward outer items (λ front. Reads outer content front)
+Reads (frame ∷ outer) content items = IsOpened frame outer items (λ front. Reads outer content front)
 
 abbrev pub ReadsTo : State → List Item → Type 0
 ReadsTo state items = Reads state.frames state.content items
 
-carried : (items : List Item) (state next : State) → Some state ≡ Some next → ReadsTo state items → ReadsTo next items
-carried items state next e is =
+carried : (items : List Item) (state next : State) → state ≡ next → ReadsTo state items → ReadsTo next items
+carried items state next same is =
     let P : State → Type 0 = λ s. ReadsTo s items in
-    let same : state ≡ next = ap (λ o. unwrap_or o next) e in
     subst P same is
 
-moved : (state : State) (items others : List Item) → items ≡ others → ReadsTo state items → ReadsTo state others
+pub moved : (state : State) (items others : List Item) → items ≡ others → ReadsTo state items → ReadsTo state others
 moved state items others e is =
     let P : List Item → Type 0 = λ us. ReadsTo state us in
     subst P e is
 
-IsRun-push : (es : List Element) (e : Element) (us ws : List Item) → IsRun false (row es) us → IsElement false e ws → IsRun false (row (es ++ e ∷ [])) (us ++ ws)
-IsRun-push [] e us ws run_is is =
-    record { front = ws; back = []; joined = ap (λ front. front ++ ws) run_is ∙ sym (append-nil ws); first = is; second = refl }
-IsRun-push (x ∷ es) e us ws run_is is = record {
-  front = run_is.front;
-  back = run_is.back ++ ws;
-  joined = ap (λ front. front ++ ws) run_is.joined ∙ append_assoc run_is.front run_is.back ws;
-  first = run_is.first;
-  second = IsRun-push es e run_is.back ws run_is.second is;
+-- more has been read inside the innermost element
+pub reads-more : (frame more : Frame) (outer : List Frame) (content : List Element) (us ws : List Item) (read : Reads (frame ∷ outer) content us) → name_of more ≡ name_of frame → emptied more ≡ emptied frame
+    → Inside (in_vars outer) more (read.inner ++ ws) → Reads (more ∷ outer) content (us ++ ws)
+reads-more frame more outer content us ws read named empty within = record {
+  front = read.front;
+  tag = read.tag;
+  inner = read.inner ++ ws;
+  joined = ap (λ vs. vs ++ ws) read.joined ∙ append_assoc read.front (Open read.tag ∷ read.inner) ws;
+  before = read.before;
+  allowed = ap (λ n. may_stand n outer) named ∙ read.allowed;
+  named = read.named ∙ sym named;
+  unclosed = read.unclosed;
+  says = ap (λ n. opened_by n read.tag.attributes) named ∙ read.says ∙ ap Some (sym empty);
+  within = within;
 }
 
-Reads-push : (frames : List Frame) (content : List Element) (e : Element) (us ws : List Item) → is_run frames ≡ true → Reads frames content us → IsElement false e ws → Reads frames (content ++ e ∷ []) (us ++ ws)
-Reads-push [] content e us ws top read is = IsRun-push content e us ws read is
-Reads-push (Including src alt onward ∷ outer) content e us ws top read is = absurd (cc)
+-- one piece more
+pub reads-put : (piece : Piece) (frames : List Frame) (content : List Element) (us ws : List Item) → Fits piece frames → IsPiece (in_vars frames) piece ws → Reads frames content us → ReadsTo (put_in piece frames content) (us ++ ws)
+reads-put (AnElement e) [] content us ws fit is read = run-push false content e us ws read is
+reads-put (ABranch branch) [] content us ws fit is read = absurd (arm-no_run branch.test fit)
+reads-put (AnAttempt others) [] content us ws fit is read = absurd (cc)
+reads-put (AnExcept others) [] content us ws fit is read = absurd (cc)
+reads-put piece (frame ∷ outer) content us ws fit is read =
+    reads-more frame (grown piece frame) outer content us ws read (keeps piece frame).named (keeps piece frame).empty (inside-push (in_vars outer) piece frame outer read.inner ws fit is read.within)
 
-AreWhite-push : (items : List Item) (item : Item) → IsWhite item → AreWhite items → AreWhite (items ++ item ∷ [])
-AreWhite-push [] item white all = (white, tt)
-AreWhite-push (first ∷ items) item white all = (all.0, AreWhite-push items item white all.1)
+-- white text where no run stands
+reads-white : (frames : List Frame) (content : List Element) (us ws : List Item) → is_run frames ≡ false → AreWhite ws → Reads frames content us → Reads frames content (us ++ ws)
+reads-white [] content us ws none white read = absurd (cc)
+reads-white (frame ∷ outer) content us ws none white read = reads-more frame frame outer content us ws read refl refl (inside-white (in_vars outer) frame read.inner ws none white read.within)
 
-reads-text : (bytes : List ℕ) (frames : List Frame) (content : List Element) (next : State) (us : List Item) → after_text bytes (record { frames = frames; content = content }) ≡ Some next → Reads frames content us → ReadsTo next (us ++ Text bytes ∷ [])
+text-is : (vars : Bool) (bytes : List ℕ) → IsElement vars (text_element vars bytes) (Text bytes ∷ [])
+text-is true bytes = (refl, record { bytes = bytes; parts_are = refl; items_are = refl })
+text-is false bytes = (refl, refl)
+
+reads-text : (bytes : List ℕ) (state next : State) (us : List Item) → after_text bytes state ≡ Some next → ReadsTo state us → ReadsTo next (us ++ Text bytes ∷ [])
 unfolding after_text
-reads-text bytes [] content next us e read =
-    let state : State = record { frames = []; content = content ++ tree.Text bytes ∷ [] } in
-    carried (us ++ Text bytes ∷ []) state next e (IsRun-push content (tree.Text bytes) us (Text bytes ∷ []) read (refl, refl))
-reads-text bytes (Including src alt onward ∷ outer) content next us e read =
-    let state : State = record { frames = Including src alt onward ∷ outer; content = content } in
-    let parts = cond_some (is_white bytes) state next e in
-    let still : ReadsTo state (us ++ Text bytes ∷ []) = record {
-      front = read.front;
-      tag = read.tag;
-      white = read.white ++ Text bytes ∷ [];
-      joined = ap (λ front. front ++ Text bytes ∷ []) read.joined ∙ append_assoc read.front (Open read.tag ∷ read.white) (Text bytes ∷ []);
-      top = read.top;
-      before = read.before;
-      named = read.named;
-      unclosed = read.unclosed;
-      says = read.says;
-      white_is = AreWhite-push read.white (Text bytes) parts.0 read.white_is;
-    } in
-    carried (us ++ Text bytes ∷ []) state next (ap Some parts.1) still
+reads-text bytes state next us e read = by_place (is_run state.frames) refl e
+  where
+    by_place : (b : Bool) → is_run state.frames ≡ b → cond b (Some (put_in (AnElement (text_element (in_vars state.frames) bytes)) state.frames state.content)) (cond (is_white bytes) (Some state) None) ≡ Some next → ReadsTo next (us ++ Text bytes ∷ [])
+    by_place true top e' =
+        let piece = AnElement (text_element (in_vars state.frames) bytes) in
+        let more = put_in piece state.frames state.content in
+        carried (us ++ Text bytes ∷ []) more next (ap (λ o. unwrap_or o next) e') (reads-put piece state.frames state.content us (Text bytes ∷ []) top (text-is (in_vars state.frames) bytes) read)
+    by_place false none e' =
+        let parts = cond_some (is_white bytes) state next e' in
+        carried (us ++ Text bytes ∷ []) state next parts.1 (reads-white state.frames state.content us (Text bytes ∷ []) none (parts.0, tt) read)
 
-reads-end : (src : List ℕ) (alt : Option (List ℕ)) (onward : Bool) (outer : List Frame) (content : List Element) (us : List Item) → Reads (Including src alt onward ∷ outer) content us
-    → Reads outer (content ++ tree.Include src alt onward ∷ []) (us ++ Close element.Include ∷ [])
-reads-end src alt onward outer content us read =
-    let e : Element = tree.Include src alt onward in
-    let ws = Open read.tag ∷ (read.white ++ Close element.Include ∷ []) in
-    let whole : IsElement false e ws = record { tag = read.tag; content = read.white; named = read.named; fits = (read.white_is, read.says); shape = inr (read.unclosed, refl) } in
-    let same : read.front ++ ws ≡ us ++ Close element.Include ∷ [] =
-    sym (ap (λ front. front ++ Close element.Include ∷ []) read.joined ∙ append_assoc read.front (Open read.tag ∷ read.white) (Close element.Include ∷ [])) in
-    moved (record { frames = outer; content = content ++ e ∷ [] }) (read.front ++ ws) (us ++ Close element.Include ∷ []) same
-    (Reads-push outer content e read.front ws read.top read.before whole)
+reads-remove : (state next : State) (us : List Item) → after_remove state ≡ Some next → ReadsTo state us → ReadsTo next (us ++ Remove ∷ [])
+unfolding after_remove
+reads-remove state next us e read =
+    let piece = AnElement tree.Nothing in
+    let more = put_in piece state.frames state.content in
+    let parts = cond_some (is_run state.frames) more next e in
+    carried (us ++ Remove ∷ []) more next parts.1 (reads-put piece state.frames state.content us (Remove ∷ []) parts.0 (inl refl) read)
+
+-- the innermost element with its end
+pub reads-end : (frame : Frame) (piece : Piece) (outer : List Frame) (content : List Element) (us : List Item) → piece_of frame ≡ Some piece → Reads (frame ∷ outer) content us → ReadsTo (put_in piece outer content) (us ++ Close (name_of frame) ∷ [])
+reads-end frame piece outer content us is read =
+    let close = Close (name_of frame) ∷ [] in
+    let ws = Open read.tag ∷ (read.inner ++ close) in
+    let all : IsPiece (in_vars outer) piece ws = whole (in_vars outer) frame piece read.tag read.inner ws read.named read.says read.within is (inr (read.unclosed, refl)) in
+    let same : read.front ++ ws ≡ us ++ close = sym (ap (λ vs. vs ++ close) read.joined ∙ append_assoc read.front (Open read.tag ∷ read.inner) close) in
+    moved (put_in piece outer content) (read.front ++ ws) (us ++ close) same (reads-put piece outer content read.front ws (fits-piece frame piece outer is read.allowed) all read.before)
 
 reads-close : (name : ElementName) (frames : List Frame) (content : List Element) (next : State) (us : List Item) → left name (record { frames = frames; content = content }) ≡ Some next → Reads frames content us → ReadsTo next (us ++ Close name ∷ [])
-unfolding left
-reads-close name [] content next us e read = absurd (cc)
-reads-close name (Including src alt onward ∷ outer) content next us e read =
-    let parts = left-inverts name src alt onward outer content next e in
-    let state : State = record { frames = outer; content = content ++ tree.Include src alt onward ∷ [] } in
-    moved next (us ++ Close element.Include ∷ []) (us ++ Close name ∷ []) (ap (λ n. us ++ Close n ∷ []) (sym parts.0))
-    (carried (us ++ Close element.Include ∷ []) state next (ap Some parts.1) (reads-end src alt onward outer content us read))
+reads-close name frames content next us e read =
+    let leaves = left-inverts name frames content next e in
+    let P : List Frame → Type 0 = λ fs. Reads fs content us in
+    let ended = reads-end leaves.frame leaves.piece leaves.outer content us leaves.piece_is (subst P leaves.frames_are read) in
+    carried (us ++ Close name ∷ []) (put_in leaves.piece leaves.outer content) next leaves.next_is
+    (moved (put_in leaves.piece leaves.outer content) (us ++ Close (name_of leaves.frame) ∷ []) (us ++ Close name ∷ []) (ap (λ n. us ++ Close n ∷ []) (sym leaves.named)) ended)
+
+front-same : (a b : Frame) (xs ys : List Frame) → a ∷ xs ≡ b ∷ ys → a ≡ b
+front-same a b xs ys e = cc
+
+back-same : (a b : Frame) (xs ys : List Frame) → a ∷ xs ≡ b ∷ ys → xs ≡ ys
+back-same a b xs ys e = cc
+
+-- a closed tag of an element, and a tag that isn't closed
+reads-closed : (tag : Tag) (frame : Frame) (state next : State) (us : List Item) → tag.closed ≡ true → may_stand tag.name state.frames ≡ true → opened_by tag.name tag.attributes ≡ Some frame → left tag.name (inside frame state) ≡ Some next → ReadsTo state us → ReadsTo next (us ++ Open tag ∷ [])
+reads-closed tag frame state next us is allowed opens rest read =
+    let begun = fresh tag.name tag.attributes frame opens in
+    let leaves = left-inverts tag.name (frame ∷ state.frames) state.content next rest in
+    let same_frame : frame ≡ leaves.frame = front-same frame leaves.frame state.frames leaves.outer leaves.frames_are in
+    let same_outer : state.frames ≡ leaves.outer = back-same frame leaves.frame state.frames leaves.outer leaves.frames_are in
+    let gives : piece_of frame ≡ Some leaves.piece = ap piece_of same_frame ∙ leaves.piece_is in
+    let more = put_in leaves.piece state.frames state.content in
+    let may : may_stand (name_of frame) state.frames ≡ true = ap (λ n. may_stand n state.frames) (sym begun.named) ∙ allowed in
+    let all : IsPiece (in_vars state.frames) leaves.piece (Open tag ∷ []) =
+    whole (in_vars state.frames) frame leaves.piece tag [] (Open tag ∷ []) begun.named begun.says (begun.starts (in_vars state.frames)) gives (inl (is, refl, refl)) in
+    carried (us ++ Open tag ∷ []) more next (ap (λ fs. put_in leaves.piece fs state.content) same_outer ∙ leaves.next_is)
+    (reads-put leaves.piece state.frames state.content us (Open tag ∷ []) (fits-piece frame leaves.piece state.frames gives may) all read)
+
+reads-unclosed : (tag : Tag) (frame : Frame) (state : State) (us : List Item) → tag.closed ≡ false → may_stand tag.name state.frames ≡ true → opened_by tag.name tag.attributes ≡ Some frame → ReadsTo state us → ReadsTo (inside frame state) (us ++ Open tag ∷ [])
+reads-unclosed tag frame state us is allowed opens read =
+    let begun = fresh tag.name tag.attributes frame opens in
+    record {
+      front = us;
+      tag = tag;
+      inner = [];
+      joined = refl;
+      before = read;
+      allowed = ap (λ n. may_stand n state.frames) (sym begun.named) ∙ allowed;
+      named = begun.named;
+      unclosed = is;
+      says = begun.says;
+      within = begun.starts (in_vars state.frames);
+    }
 
 reads-tag : (tag : Tag) (closed : Bool) (state within next : State) (us : List Item) → tag.closed ≡ closed → Enters tag.name tag.attributes state within → cond closed (left tag.name within) (Some within) ≡ Some next → ReadsTo state us → ReadsTo next (us ++ Open tag ∷ [])
 reads-tag tag true state within next us is enters rest read =
-    let e : Element = tree.Include enters.src enters.alt enters.onward in
-    let whole : IsElement false e (Open tag ∷ []) = record { tag = tag; content = []; named = enters.named; fits = (tt, enters.says); shape = inl (is, refl, refl) } in
-    let same : Some (with_element e state) ≡ Some next =
-    sym (left-include enters.src enters.alt enters.onward state) ∙ ap (λ w. left element.Include w) enters.within_is ∙ ap (λ n. left n within) (sym enters.named) ∙ rest in
-    carried (us ++ Open tag ∷ []) (with_element e state) next same (Reads-push state.frames state.content e us (Open tag ∷ []) enters.top read whole)
+    reads-closed tag enters.frame state next us is enters.allowed enters.opens (ap (λ s. left tag.name s) enters.within_is ∙ rest) read
 reads-tag tag false state within next us is enters rest read =
-    let now : State = inside (Including enters.src enters.alt enters.onward) state in
-    let opens : ReadsTo now (us ++ Open tag ∷ []) = record {
-      front = us;
-      tag = tag;
-      white = [];
-      joined = refl;
-      top = enters.top;
-      before = read;
-      named = enters.named;
-      unclosed = is;
-      says = enters.says;
-      white_is = tt;
-    } in
-    carried (us ++ Open tag ∷ []) now next (ap Some enters.within_is ∙ rest) opens
+    carried (us ++ Open tag ∷ []) (inside enters.frame state) next (enters.within_is ∙ ap (λ o. unwrap_or o next) rest) (reads-unclosed tag enters.frame state us is enters.allowed enters.opens read)
 
 reads-one : (item : Item) (state next : State) (us : List Item) → taken item state ≡ Some next → ReadsTo state us → ReadsTo next (us ++ struck (item ∷ []))
-reads-one (Text bytes) state next us e read = reads-text bytes state.frames state.content next us e read
+reads-one (Text bytes) state next us e read = reads-text bytes state next us e read
 reads-one (Open tag) state next us e read =
     let (within, enters, rest) = opened-inverts tag state next e in
     reads-tag tag tag.closed state within next us refl enters rest read
 reads-one (Close name) state next us e read = reads-close name state.frames state.content next us e read
-reads-one Remove state next us e read = absurd (cc)
-reads-one Block state next us e read = carried (us ++ []) state next e (moved state us (us ++ []) (sym (append-nil us)) read)
+reads-one Remove state next us e read = reads-remove state next us e read
+reads-one Block state next us e read = carried (us ++ []) state next (ap (λ o. unwrap_or o next) e) (moved state us (us ++ []) (sym (append-nil us)) read)
 
 struck-cons : (item : Item) (items : List Item) → struck (item ∷ items) ≡ struck (item ∷ []) ++ struck items
 struck-cons (Text bytes) items = refl
@@ -148,30 +180,9 @@ struck-cons Block items = refl
 
 -- what is read is what the state says
 pub reads-run : (items : List Item) (state final : State) (us : List Item) → run items state ≡ Some final → ReadsTo state us → ReadsTo final (us ++ struck items)
-reads-run [] state final us e read = carried (us ++ []) state final e (moved state us (us ++ []) (sym (append-nil us)) read)
+reads-run [] state final us e read = carried (us ++ []) state final (ap (λ o. unwrap_or o final) e) (moved state us (us ++ []) (sym (append-nil us)) read)
 reads-run (item ∷ items) state final us e read =
     option_and_then_some (λ s. run items s) (taken item state) final e (λ next first rest.
     let same : (us ++ struck (item ∷ [])) ++ struck items ≡ us ++ struck (item ∷ items) = append_assoc us (struck (item ∷ [])) (struck items) ∙ ap (λ vs. us ++ vs) (sym (struck-cons item items)) in
     moved final ((us ++ struck (item ∷ [])) ++ struck items) (us ++ struck (item ∷ items)) same
     (reads-run items next final (us ++ struck (item ∷ [])) rest (reads-one item state next us first read)))
-
--- the end tags that the open elements lack, and the tree of the whole
-pub record Closes (items : List Item) : Type 0 where
-  pub more : List Item
-  pub t : Elements
-  pub shape : IsRun false t (items ++ more)
-  pub plain : struck more ≡ more
-
-pub closing : (frames : List Frame) (content : List Element) (us : List Item) → Reads frames content us → Closes us
-closing [] content us read =
-    let P : List Item → Type 0 = λ vs. IsRun false (row content) vs in
-    record { more = []; t = row content; shape = subst P (sym (append-nil us)) read; plain = refl }
-closing (Including src alt onward ∷ outer) content us read =
-    let rest = closing outer (content ++ tree.Include src alt onward ∷ []) (us ++ Close element.Include ∷ []) (reads-end src alt onward outer content us read) in
-    let P : List Item → Type 0 = λ vs. IsRun false rest.t vs in
-    record {
-      more = Close element.Include ∷ rest.more;
-      t = rest.t;
-      shape = subst P (append_assoc us (Close element.Include ∷ []) rest.more) rest.shape;
-      plain = ap (λ vs. Close element.Include ∷ vs) rest.plain;
-    }

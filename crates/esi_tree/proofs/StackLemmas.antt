@@ -1,5 +1,5 @@
 -- A stack that is kept as a list whose last item is the top.
-use Rattle.std.proofs.Common.{◌≡◌, ◌-◌, ◌<◌, true, false, IsSome, List, [], ◌∷◌, ◌++◌, length, map, reverse, slice_get, Option, Some, None, option_map, option_to_list, MatchOption, refl, sym, ◌∙◌, ap, arith}
+use Rattle.std.proofs.Common.{◌≡◌, ◌-◌, ◌<◌, true, false, IsSome, List, [], ◌∷◌, ◌++◌, length, map, reverse, slice_get, Option, Some, None, option_map, option_to_list, IfNone, IfSome, refl, sym, ◌∙◌, ap, arith}
 use Rattle.std.proofs.lemmas.List.{reverse-append, reverse-reverse, length-append, length-map, map-append}
 use Rattle.std.proofs.lemmas.Option.{slice_get-map}
 
@@ -27,9 +27,15 @@ top-is f xs =
 pub pushed-is : {X Y : Type 0} (f : X → Y) (xs : List X) (x : X) → reverse (map f (xs ++ x ∷ [])) ≡ f x ∷ reverse (map f xs)
 pushed-is f xs x = ap reverse (map-append f xs (x ∷ [])) ∙ reverse-append (map f xs) (f x ∷ [])
 
+-- no top to take off
+pub popped-none : {X Y : Type 0} (f : X → Y) (r : Option X) (old new : List X) → old ≡ new ++ option_to_list r → (0 < length old → IsSome r)
+    → IfNone r ((reverse (map f old) ≡ []) × (reverse (map f new) ≡ []))
+popped-none f None [] [] is some = (refl, refl)
+popped-none f None [] (y ∷ new) is some = absurd (cc)
+popped-none f None (x ∷ old) new is some = let none : false ≡ true = some (omega arith) in absurd (cc)
+popped-none f (Some x) old new is some = tt
+
 -- the top taken off
-pub popped-is : {X Y : Type 0} (f : X → Y) (r : Option X) (old new : List X) → old ≡ new ++ option_to_list r → (0 < length old → IsSome r)
-    → MatchOption r (reverse (map f old) ≡ []) (λ x. reverse (map f old) ≡ f x ∷ reverse (map f new))
-popped-is f None [] new is some = refl
-popped-is f None (x ∷ old) new is some = let none : false ≡ true = some (omega arith) in absurd (cc)
-popped-is f (Some x) old new is some = ap (λ xs. reverse (map f xs)) is ∙ pushed-is f new x
+pub popped-some : {X Y : Type 0} (f : X → Y) (r : Option X) (old new : List X) → old ≡ new ++ option_to_list r → IfSome r (λ x. reverse (map f old) ≡ f x ∷ reverse (map f new))
+popped-some f None old new is = tt
+popped-some f (Some x) old new is = ap (λ xs. reverse (map f xs)) is ∙ pushed-is f new x

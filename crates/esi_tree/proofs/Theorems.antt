@@ -5,16 +5,20 @@ use Rattle.std.proofs.lemmas.Option.{option_and_then_some}
 use Rattle.esi_scanner.specs.declared.token.Token.{Token}
 use Rattle.esi_scanner.specs.Bytes.{◌>>=◌}
 use Rattle.esi_scanner.specs.Scan.{scan_of}
+use Rattle.esi_scanner.specs.Spelling.{Spells, IsFaultAt}
+use Rattle.esi_scanner.proofs.Theorems.{scan_of-spells, scan_of-faults}
 use Rattle.esi_tree.specs.Tree.{Element, Elements}
 use Rattle.esi_tree.specs.Shown.{row}
 use Rattle.esi_tree.specs.Items.{Item, item_of, items_of}
 use Rattle.esi_tree.specs.Template.{struck, IsRun, IsTemplate, Begins}
 use Rattle.esi_tree.specs.Reading.{Frame, State, start, after, ended, then_read, read_from, tree_of_tokens, of_tokens, tree_of}
-use Rattle.esi_tree.specs.Laws.{IsFirstBad, EndsEarly, IsText, IsNoTemplate}
+use Rattle.esi_tree.specs.Laws.{OneTree, IsFirstBad, EndsEarly, IsText, IsNoTemplate, TextsAreOne}
 use Rattle.esi_tree.proofs.Runs.{run, steps, run-append, struck-append}
 use Rattle.esi_tree.proofs.Depths.{steps-from_run, run-from_steps, shallow-from_steps}
-use Rattle.esi_tree.proofs.Complete.{listed, row-listed, template-run}
-use Rattle.esi_tree.proofs.Sound.{reads-run, closing}
+use Rattle.esi_tree.proofs.Fillings.{listed, row-listed}
+use Rattle.esi_tree.proofs.Complete.{template-run}
+use Rattle.esi_tree.proofs.Sound.{reads-run}
+use Rattle.esi_tree.proofs.Closings.{closing}
 
 -- all items are read, and no element is open
 pub record IsWhole (items : List Item) (state : State) (t : Elements) : Type 0 where
@@ -167,19 +171,35 @@ unfolding tree_of
 text-from_read text t e = by_scan (scan_of text) refl e
   where
     by_scan : (scanned : Result (List Token) ℕ) → scan_of text ≡ scanned → of_tokens text scanned ≡ Ok t → IsText t text
-    by_scan (Ok tokens) is e' = record { tokens = tokens; scanned = is; is = template-from_read text tokens t e' }
+    by_scan (Ok tokens) is e' = record { tokens = tokens; spelled = (scan_of-spells text tokens).0 is; is = template-from_read text tokens t e' }
     by_scan (Err at) is e' = absurd (cc)
 
 -- the template of its tokens is read of a text
 pub read-from_text : (text : List ℕ) (t : Elements) → IsText t text → tree_of text ≡ Ok t
 unfolding tree_of
-read-from_text text t is = ap (of_tokens text) is.scanned ∙ read-from_template text is.tokens t is.is
+read-from_text text t is = ap (of_tokens text) ((scan_of-spells text is.tokens).1 is.spelled) ∙ read-from_template text is.tokens t is.is
 
 -- a fault of a text has its place
-pub place-from_text : (text : List ℕ) (at : ℕ) → tree_of text ≡ Err at → (scan_of text ≡ Err at) ⊎ IsNoTemplate text at
+pub place-from_text : (text : List ℕ) (at : ℕ) → tree_of text ≡ Err at → IsFaultAt text at ⊎ IsNoTemplate text at
 unfolding tree_of
 place-from_text text at e = by_scan (scan_of text) refl e
   where
-    by_scan : (scanned : Result (List Token) ℕ) → scan_of text ≡ scanned → of_tokens text scanned ≡ Err at → (scan_of text ≡ Err at) ⊎ IsNoTemplate text at
-    by_scan (Ok tokens) is e' = inr (record { tokens = tokens; scanned = is; place = place-from_read text tokens at e' })
-    by_scan (Err place) is e' = let same : place ≡ at = cc in inl (is ∙ ap Err same)
+    by_scan : (scanned : Result (List Token) ℕ) → scan_of text ≡ scanned → of_tokens text scanned ≡ Err at → IsFaultAt text at ⊎ IsNoTemplate text at
+    by_scan (Ok tokens) is e' = inr (record { tokens = tokens; spelled = (scan_of-spells text tokens).0 is; place = place-from_read text tokens at e' })
+    by_scan (Err place) is e' = let same : place ≡ at = cc in inl ((scan_of-faults text at).0 (is ∙ ap Err same))
+
+content_of : Option State → List Element
+content_of None = []
+content_of (Some state) = state.content
+
+-- items are the template of one tree at most
+pub one-tree : OneTree
+unfolding content_of
+one-tree t u items one other =
+    sym (row-listed t) ∙ ap (λ o. row (content_of o)) (sym (template-run t items one.shape) ∙ template-run u items other.shape) ∙ row-listed u
+
+-- and so is a text
+pub one-tree_of_text : TextsAreOne
+one-tree_of_text text t u one other =
+    let same : Ok t ≡ Ok u = sym (read-from_text text t one) ∙ read-from_text text u other in
+    cc

@@ -1,19 +1,21 @@
 -- What the attributes of a tag say.
-use Rattle.std.specs.Prelude.{ℕ, Bool, false, List, codes, bytes_eq, Option, Some, None, option_map, find}
+use Rattle.std.specs.Prelude.{ℕ, Bool, false, List, codes, bytes_eq, Option, Some, None, option_map}
 use Rattle.std.specs.List.{list_all}
 use Rattle.esi_scanner.specs.declared.attribute.Attribute.{Attribute}
-use Rattle.esi_scanner.specs.declared.attribute.KnownAttribute.{KnownAttribute}
 use Rattle.esi_scanner.specs.declared.attribute.KnownAttribute.TheVariants as known
-use Rattle.esi_scanner.specs.Names.{attribute_text, known_text}
-use Rattle.esi_scanner.specs.Bytes.{is_ws}
+use Rattle.esi_scanner.specs.Bytes.{is_ws, ◌>>=◌}
+use Rattle.esi_scanner.specs.Tag.{value_of}
+use Rattle.esi_vars.specs.declared.part.Part.{Part}
+use Rattle.esi_vars.specs.Parts.{parts_of}
+use Rattle.esi_expr.specs.Tree.{Test}
+use Rattle.esi_expr.specs.Reading.{read_test}
 
--- whether an attribute has this name
-abbrev pub is_named : KnownAttribute → Attribute → Bool
-is_named name attribute = bytes_eq (attribute_text attribute.name) (known_text name)
+-- where an include's resource is, and where another one is
+abbrev pub src_of : List Attribute → Option (List Part)
+src_of attributes = option_map parts_of (value_of known.Src attributes)
 
--- the value of the attribute of this name, where the tag has one
-unfoldable pub value_of : KnownAttribute → List Attribute → Option (List ℕ)
-value_of name attributes = option_map (λ (attribute : Attribute). attribute.value) (find (is_named name) attributes)
+abbrev pub alt_of : List Attribute → Option (List Part)
+alt_of attributes = option_map parts_of (value_of known.Alt attributes)
 
 -- whether a value of `onerror` is `continue`
 abbrev is_continue : Option (List ℕ) → Bool
@@ -23,6 +25,14 @@ is_continue (Some value) = bytes_eq value (codes "continue")
 -- whether `onerror` says that the page goes on without the element; any other value than `continue` says nothing
 unfoldable pub continues : List Attribute → Bool
 continues attributes = is_continue (value_of known.OnError attributes)
+
+-- the test of a `when`, where there is one that can be read
+abbrev pub when_test : List Attribute → Option Test
+when_test attributes = value_of known.Test attributes >>= read_test
+
+-- the name of an inline
+abbrev pub inline_name : List Attribute → Option (List ℕ)
+inline_name attributes = value_of known.Name attributes
 
 -- white space alone
 abbrev pub is_white : List ℕ → Bool

@@ -4,7 +4,7 @@ use Rattle.esi_scanner.specs.declared.token.Token.{Token}
 use Rattle.esi_tree.specs.Tree.{Elements}
 use Rattle.esi_tree.specs.Items.{Item, items_of}
 use Rattle.esi_tree.specs.Template.{IsTemplate, Begins}
-use Rattle.esi_scanner.specs.Scan.{scan_of}
+use Rattle.esi_scanner.specs.Spelling.{Spells, IsFaultAt}
 use Rattle.esi_tree.specs.Reading.{tree_of_tokens, tree_of}
 
 -- what is read of tokens is their template, and what is their template is read
@@ -35,22 +35,26 @@ pub record EndsEarly (text : List ℕ) (tokens : List Token) (at : ℕ) : Type 0
 abbrev pub TellsThePlace : Type 0
 TellsThePlace = (text : List ℕ) (tokens : List Token) (at : ℕ) → tree_of_tokens text tokens ≡ Err at → IsFirstBad text tokens at ⊎ EndsEarly text tokens at
 
--- a text that has tokens, which are the template of this tree
+-- a text that tokens spell, which are the template of this tree
 pub record IsText (t : Elements) (text : List ℕ) : Type 0 where
   pub tokens : List Token
-  pub scanned : scan_of text ≡ Ok tokens
+  pub spelled : Spells text tokens
   pub is : IsTemplate t (items_of text tokens)
 
 -- what is read of a text is its tree, and what is its tree is read
 abbrev pub ReadsTexts : Type 0
 ReadsTexts = (text : List ℕ) (t : Elements) → (tree_of text ≡ Ok t) ↔ IsText t text
 
--- a text that has tokens, which are no template from this place on
+-- a text that tokens spell, which are no template from this place on
 pub record IsNoTemplate (text : List ℕ) (at : ℕ) : Type 0 where
   pub tokens : List Token
-  pub scanned : scan_of text ≡ Ok tokens
+  pub spelled : Spells text tokens
   pub place : IsFirstBad text tokens at ⊎ EndsEarly text tokens at
 
 -- the place of a text's fault: that of its tokens, else that of its template
 abbrev pub TellsThePlaceOfTexts : Type 0
-TellsThePlaceOfTexts = (text : List ℕ) (at : ℕ) → tree_of text ≡ Err at → (scan_of text ≡ Err at) ⊎ IsNoTemplate text at
+TellsThePlaceOfTexts = (text : List ℕ) (at : ℕ) → tree_of text ≡ Err at → IsFaultAt text at ⊎ IsNoTemplate text at
+
+-- a text is the template of one tree at most
+abbrev pub TextsAreOne : Type 0
+TextsAreOne = (text : List ℕ) (t u : Elements) → IsText t text → IsText u text → t ≡ u

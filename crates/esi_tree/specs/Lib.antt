@@ -5,5 +5,5 @@ pub mod Items
 pub mod Attributes
 pub mod Template
 pub mod Reading
-pub mod Laws
 pub mod State
+pub mod Laws

@@ -1,26 +1,44 @@
 -- The tree of a text, read token by token from the left.
-use Rattle.std.specs.Prelude.{ℕ, Bool, true, false, nat_lt, List, [], ◌∷◌, ◌++◌, length, Option, Some, None, Result, Ok, Err, if◌then◌else◌}
+use Rattle.std.specs.Prelude.{ℕ, Bool, true, false, not, nat_lt, List, [], ◌∷◌, ◌++◌, length, Option, Some, None, is_none, is_some, Result, Ok, Err, if◌then◌else◌}
+use Rattle.std.specs.List.{list_any}
 use Rattle.esi_scanner.specs.declared.attribute.Attribute.{Attribute}
-use Rattle.esi_scanner.specs.declared.attribute.KnownAttribute.TheVariants as known
 use Rattle.esi_scanner.specs.declared.element_name.ElementName.{ElementName}
 use Rattle.esi_scanner.specs.declared.element_name.ElementName.TheVariants as element
 use Rattle.esi_scanner.specs.declared.tag.Tag.{Tag}
 use Rattle.esi_scanner.specs.declared.token.Token.{Token}
 use Rattle.esi_scanner.specs.Bytes.{◌>>=◌}
 use Rattle.esi_scanner.specs.Scan.{scan_of}
+use Rattle.esi_vars.specs.declared.part.Part.{Part}
+use Rattle.esi_vars.specs.Parts.{parts_of}
+use Rattle.esi_expr.specs.Tree.{Test}
 use Rattle.esi_tree.specs.declared.open_elements.TheConstants.{OPEN_LIMIT}
 use Rattle.esi_tree.specs.Tree as tree
 use Rattle.esi_tree.specs.Tree.{Element, Elements}
-use Rattle.esi_tree.specs.Shown.{row}
+use Rattle.esi_tree.specs.Shown.{row, Arm, arms}
 use Rattle.esi_tree.specs.Items.{Item, Text, Open, Close, Remove, Block, item_of}
-use Rattle.esi_tree.specs.Attributes.{value_of, continues, is_white}
+use Rattle.esi_tree.specs.Attributes.{src_of, alt_of, continues, when_test, inline_name, is_white}
 
--- an element whose end hasn't come, with what its tag says
+-- the parts of a try that have been read
+pub data Halves : Type 0 where
+  Neither : Halves
+  AttemptAlone : (attempt : Elements) → Halves
+  ExceptAlone : (except : Elements) → Halves
+  Both : (attempt : Elements) (except : Elements) (swapped : Bool) → Halves
+
+-- an element whose end hasn't come, with what its tag says and what has been read inside
 pub data Frame : Type 0 where
-  Including : (src : List ℕ) (alt : Option (List ℕ)) (onward : Bool) → Frame
+  InInclude : (src : List Part) (alt : Option (List Part)) (onward : Bool) → Frame
+  InComment : Frame
+  InInline : (name : List ℕ) (content : List Element) → Frame
+  InVars : (content : List Element) → Frame
+  InChoose : (branches : List Arm) → Frame
+  InWhen : (test : Test) (content : List Element) → Frame
+  InOtherwise : (content : List Element) → Frame
+  InTry : (halves : Halves) → Frame
+  InAttempt : (content : List Element) → Frame
+  InExcept : (content : List Element) → Frame
 
--- what has been read so far: the elements that are open, the innermost first, and the elements of the run that is
--- being read
+-- what has been read so far: the elements that are open, the innermost first, and the elements that stand in none
 pub record State : Type 0 where
   pub frames : List Frame
   pub content : List Element
@@ -29,46 +47,241 @@ pub record State : Type 0 where
 abbrev pub start : State
 start = record { frames = []; content = [] }
 
--- one element more
-abbrev pub with_element : Element → State → State
-with_element one state = record { frames = state.frames; content = state.content ++ one ∷ [] }
+-- what an element gives to that in which it stands: an element of a run, a branch of a choose, or a part of a try
+pub data Piece : Type 0 where
+  AnElement : (e : Element) → Piece
+  ABranch : (branch : Arm) → Piece
+  AnAttempt : (content : Elements) → Piece
+  AnExcept : (content : Elements) → Piece
 
--- what text adds, by the innermost open element
-abbrev text_in : List Frame → List ℕ → State → Option State
-text_in [] bytes state = Some (with_element (tree.Text bytes) state)
-text_in (Including src alt onward ∷ outer) bytes state = if is_white bytes then Some state else None
+-- a try's parts with the attempt; a second one is never read
+abbrev pub with_attempt : Elements → Halves → Halves
+with_attempt content Neither = AttemptAlone content
+with_attempt content (ExceptAlone except) = Both content except true
+with_attempt content halves = halves
 
--- what has been read after a run of text: in an include white space alone may stand, and gives nothing
-unfoldable pub after_text : List ℕ → State → Option State
-after_text bytes state = text_in state.frames bytes state
+-- and with the except
+abbrev pub with_except : Elements → Halves → Halves
+with_except content Neither = ExceptAlone content
+with_except content (AttemptAlone attempt) = Both attempt content false
+with_except content halves = halves
 
--- an include that its tag opens; it needs a `src`
-unfoldable pub including : List Attribute → Option Frame
-including attributes = value_of known.Src attributes >>= λ src. Some (Including src (value_of known.Alt attributes) (continues attributes))
+-- an open element with one element more in its run
+abbrev pub with_element : Element → Frame → Frame
+with_element e (InInline name content) = InInline name (content ++ e ∷ [])
+with_element e (InVars content) = InVars (content ++ e ∷ [])
+with_element e (InWhen test content) = InWhen test (content ++ e ∷ [])
+with_element e (InOtherwise content) = InOtherwise (content ++ e ∷ [])
+with_element e (InAttempt content) = InAttempt (content ++ e ∷ [])
+with_element e (InExcept content) = InExcept (content ++ e ∷ [])
+with_element e frame = frame
 
--- whether any element may stand here
+-- a choose with one branch more
+abbrev pub with_branch : Arm → Frame → Frame
+with_branch branch (InChoose branches) = InChoose (branches ++ branch ∷ [])
+with_branch branch frame = frame
+
+-- a try with one part more
+abbrev pub with_half : (Halves → Halves) → Frame → Frame
+with_half more (InTry halves) = InTry (more halves)
+with_half more frame = frame
+
+-- an open element with one piece more
+abbrev pub grown : Piece → Frame → Frame
+grown (AnElement e) frame = with_element e frame
+grown (ABranch branch) frame = with_branch branch frame
+grown (AnAttempt content) frame = with_half (with_attempt content) frame
+grown (AnExcept content) frame = with_half (with_except content) frame
+
+-- what stands in no element, with one piece more
+abbrev pub grown_page : Piece → List Element → List Element
+grown_page (AnElement e) content = content ++ e ∷ []
+grown_page piece content = content
+
+-- one piece more at the innermost place
+abbrev pub put_in : Piece → List Frame → List Element → State
+put_in piece [] content = record { frames = []; content = grown_page piece content }
+put_in piece (frame ∷ outer) content = record { frames = grown piece frame ∷ outer; content = content }
+
+abbrev pub put : Piece → State → State
+put piece state = put_in piece state.frames state.content
+
+-- whether any element may stand in an open one
+abbrev pub holds_run : Frame → Bool
+holds_run (InInclude src alt onward) = false
+holds_run InComment = false
+holds_run (InChoose branches) = false
+holds_run (InTry halves) = false
+holds_run _ = true
+
+-- whether any element may stand at the innermost place
 abbrev pub is_run : List Frame → Bool
 is_run [] = true
-is_run (Including src alt onward ∷ outer) = false
+is_run (frame ∷ outer) = holds_run frame
+
+-- whether it is a vars element
+abbrev pub is_vars : Frame → Bool
+is_vars (InVars content) = true
+is_vars _ = false
+
+-- whether a vars element is open
+abbrev pub in_vars : List Frame → Bool
+in_vars frames = list_any is_vars frames
+
+-- a run of text as an element
+abbrev pub text_element : Bool → List ℕ → Element
+text_element false bytes = tree.Text bytes
+text_element true bytes = tree.VarsText (parts_of bytes)
+
+-- what has been read after a run of text: where no run stands, white space alone may stand, and gives nothing
+unfoldable pub after_text : List ℕ → State → Option State
+after_text bytes state =
+    if is_run state.frames then Some (put (AnElement (text_element (in_vars state.frames) bytes)) state)
+    else (if is_white bytes then Some state else None)
+
+-- what has been read after a remove
+unfoldable pub after_remove : State → Option State
+after_remove state = if is_run state.frames then Some (put (AnElement tree.Nothing) state) else None
+
+-- whether a branch is the otherwise
+abbrev pub is_otherwise : Arm → Bool
+is_otherwise branch = is_none branch.test
+
+-- whether it is a `when`
+abbrev pub is_when : Arm → Bool
+is_when branch = is_some branch.test
+
+-- whether a try's attempt may still come, and whether its except may
+abbrev pub lacks_attempt : Halves → Bool
+lacks_attempt Neither = true
+lacks_attempt (ExceptAlone except) = true
+lacks_attempt _ = false
+
+abbrev pub lacks_except : Halves → Bool
+lacks_except Neither = true
+lacks_except (AttemptAlone attempt) = true
+lacks_except _ = false
+
+-- whether an element of this name may stand in a run
+abbrev pub stands_in_run : ElementName → Bool
+stands_in_run element.Include = true
+stands_in_run element.Inline = true
+stands_in_run element.Choose = true
+stands_in_run element.Try = true
+stands_in_run element.Comment = true
+stands_in_run element.Vars = true
+stands_in_run _ = false
+
+-- whether it may stand in a choose of these branches
+abbrev pub stands_in_choose : ElementName → List Arm → Bool
+stands_in_choose element.When branches = true
+stands_in_choose element.Otherwise branches = not (list_any is_otherwise branches)
+stands_in_choose _ branches = false
+
+-- whether it may stand in a try of these parts
+abbrev pub stands_in_try : ElementName → Halves → Bool
+stands_in_try element.Attempt halves = lacks_attempt halves
+stands_in_try element.Except halves = lacks_except halves
+stands_in_try _ halves = false
+
+-- whether it may stand in an open element
+abbrev pub stands_in : ElementName → Frame → Bool
+stands_in name (InInclude src alt onward) = false
+stands_in name InComment = false
+stands_in name (InChoose branches) = stands_in_choose name branches
+stands_in name (InTry halves) = stands_in_try name halves
+stands_in name _ = stands_in_run name
+
+-- whether it may stand at the innermost place
+abbrev pub may_stand : ElementName → List Frame → Bool
+may_stand name [] = stands_in_run name
+may_stand name (frame ∷ outer) = stands_in name frame
+
+-- the element that a tag opens, where the tag has the attributes that it needs
+unfoldable pub opened_by : ElementName → List Attribute → Option Frame
+opened_by element.Include attributes = src_of attributes >>= λ src. Some (InInclude src (alt_of attributes) (continues attributes))
+opened_by element.Inline attributes = inline_name attributes >>= λ name. Some (InInline name [])
+opened_by element.Choose attributes = Some (InChoose [])
+opened_by element.When attributes = when_test attributes >>= λ test. Some (InWhen test [])
+opened_by element.Otherwise attributes = Some (InOtherwise [])
+opened_by element.Try attributes = Some (InTry Neither)
+opened_by element.Attempt attributes = Some (InAttempt [])
+opened_by element.Except attributes = Some (InExcept [])
+opened_by element.Comment attributes = Some InComment
+opened_by element.Remove attributes = None
+opened_by element.Vars attributes = Some (InVars [])
 
 -- the same with an element open
 abbrev pub inside : Frame → State → State
 inside frame state = record { frames = frame ∷ state.frames; content = state.content }
 
--- what has been read once a tag of this name has opened its element
+-- what has been read once a tag has opened its element
 unfoldable pub entered : ElementName → List Attribute → State → Option State
-entered element.Include attributes state = if is_run state.frames then (including attributes >>= λ frame. Some (inside frame state)) else None
-entered _ attributes state = None
+entered name attributes state =
+    if may_stand name state.frames then (opened_by name attributes >>= λ frame. Some (inside frame state)) else None
 
--- what the end of an element adds, by the innermost open element
-abbrev left_in : List Frame → ElementName → List Element → Option State
-left_in (Including src alt onward ∷ outer) element.Include content =
-    Some (record { frames = outer; content = content ++ tree.Include src alt onward ∷ [] })
-left_in _ name content = None
+-- the name of an open element
+abbrev pub name_of : Frame → ElementName
+name_of (InInclude src alt onward) = element.Include
+name_of InComment = element.Comment
+name_of (InInline name content) = element.Inline
+name_of (InVars content) = element.Vars
+name_of (InChoose branches) = element.Choose
+name_of (InWhen test content) = element.When
+name_of (InOtherwise content) = element.Otherwise
+name_of (InTry halves) = element.Try
+name_of (InAttempt content) = element.Attempt
+name_of (InExcept content) = element.Except
+
+-- whether two names are the same
+abbrev pub is_same : ElementName → ElementName → Bool
+is_same element.Include element.Include = true
+is_same element.Inline element.Inline = true
+is_same element.Choose element.Choose = true
+is_same element.When element.When = true
+is_same element.Otherwise element.Otherwise = true
+is_same element.Try element.Try = true
+is_same element.Attempt element.Attempt = true
+is_same element.Except element.Except = true
+is_same element.Comment element.Comment = true
+is_same element.Remove element.Remove = true
+is_same element.Vars element.Vars = true
+is_same _ _ = false
+
+-- a choose with these branches, one of which must be a `when`
+abbrev pub choose_of : List Arm → Option Piece
+choose_of branches = if list_any is_when branches then Some (AnElement (tree.Choose (arms branches))) else None
+
+-- a try with these parts, both of which must be there
+abbrev pub try_of : Halves → Option Piece
+try_of (Both attempt except swapped) = Some (AnElement (tree.Try attempt except swapped))
+try_of _ = None
+
+-- what an open element gives at its end, where it may end
+unfoldable pub piece_of : Frame → Option Piece
+piece_of (InInclude src alt onward) = Some (AnElement (tree.Include src alt onward))
+piece_of InComment = Some (AnElement tree.Nothing)
+piece_of (InInline name content) = Some (AnElement (tree.Inline name (row content)))
+piece_of (InVars content) = Some (AnElement (tree.Vars (row content)))
+piece_of (InChoose branches) = choose_of branches
+piece_of (InWhen test content) = Some (ABranch (record { test = Some test; content = row content }))
+piece_of (InOtherwise content) = Some (ABranch (record { test = None; content = row content }))
+piece_of (InTry halves) = try_of halves
+piece_of (InAttempt content) = Some (AnAttempt (row content))
+piece_of (InExcept content) = Some (AnExcept (row content))
+
+-- what has been read once this element, the innermost, has ended by a name
+abbrev pub ended_by : ElementName → Frame → State → Option State
+ended_by name frame outside =
+    if is_same name (name_of frame) then (piece_of frame >>= λ piece. Some (put piece outside)) else None
+
+abbrev pub left_in : ElementName → List Frame → List Element → Option State
+left_in name [] content = None
+left_in name (frame ∷ outer) content = ended_by name frame (record { frames = outer; content = content })
 
 -- what has been read once the innermost element, which has this name, has ended
 unfoldable pub left : ElementName → State → Option State
-left name state = left_in state.frames name state.content
+left name state = left_in name state.frames state.content
 
 -- what has been read after an opening tag; a closed one stands for its end too
 unfoldable pub after_tag : Tag → State → Option State
@@ -82,7 +295,7 @@ unfoldable pub after : Item → State → Option State
 after (Text bytes) state = after_text bytes state
 after (Open tag) state = after_tag tag state
 after (Close name) state = left name state
-after Remove state = None
+after Remove state = after_remove state
 after Block state = Some state
 
 -- at the end no element may be open

@@ -1,7 +1,11 @@
 -- What contracts see of a template: its tree, without where it lies in memory.
-use Rattle.std.specs.Prelude.{◌≡◌, ℕ, List, [], ◌∷◌, map, Result, Ok, Err}
+use Rattle.std.specs.Prelude.{◌≡◌, ℕ, List, [], ◌∷◌, map, Option, Some, None, option_map, Result, Ok, Err}
+use Rattle.esi_expr.specs.Tree.{Test}
+use Rattle.esi_expr.specs.Shown.{test_of}
+use Rattle.esi_tree.specs.declared.node.Branch.{Branch}
 use Rattle.esi_tree.specs.declared.node.Node.{Node}
-use Rattle.esi_tree.specs.declared.node.Node.TheVariants as node
+use Rattle.esi_tree.specs.declared.node.Node.TheOpen as layer
+use Rattle.esi_tree.specs.declared.node.Node.TheFolds.{fold-Node, fold-Branch}
 use Rattle.esi_tree.specs.declared.node.Template.{Template}
 use Rattle.esi_tree.specs.declared.fault.TreeFault.{TreeFault}
 use Rattle.esi_tree.specs.declared.fault.TreeFault.TheVariants.{Bad, NoMemory}
@@ -12,14 +16,48 @@ abbrev pub row : List tree.Element → tree.Elements
 row [] = tree.End
 row (e ∷ es) = tree.Then e (row es)
 
--- the element of a node
-abbrev pub element_of : Node → tree.Element
-element_of (node.Text text) = tree.Text text
-element_of (node.Include src alt continues) = tree.Include src alt continues
+-- a branch of a choose: a `when`, or the otherwise, which has no test
+pub record Arm : Type 0 where
+  pub test : Option Test
+  pub content : tree.Elements
 
--- the elements of several nodes
+-- one branch before others
+abbrev pub arm : Option Test → tree.Elements → tree.Branches → tree.Branches
+arm None content rest = tree.Otherwise content rest
+arm (Some test) content rest = tree.When test content rest
+
+-- branches one after another
+abbrev pub arms : List Arm → tree.Branches
+arms [] = tree.NoBranch
+arms (b ∷ bs) = arm b.test b.content (arms bs)
+
+-- the element of a node, where those of the nodes in it are known
+abbrev pub element_step : layer.Node-F tree.Element Arm → tree.Element
+element_step (layer.Text text) = tree.Text text
+element_step (layer.VarsText parts) = tree.VarsText parts
+element_step (layer.Include src alt continues) = tree.Include src alt continues
+element_step (layer.Choose branches) = tree.Choose (arms branches.items)
+element_step (layer.Try attempt except swapped) = tree.Try (row attempt.items) (row except.items) swapped
+element_step (layer.Vars content) = tree.Vars (row content.items)
+element_step (layer.Inline name content) = tree.Inline name (row content.items)
+element_step layer.Nothing = tree.Nothing
+
+abbrev pub arm_step : layer.Branch-F tree.Element Arm → Arm
+arm_step b = record { test = option_map test_of b.test; content = row b.content.items }
+
+-- the element of a node, and those of several
+abbrev pub element_of : Node → tree.Element
+element_of = fold-Node tree.Element Arm element_step arm_step
+
 abbrev pub elements_of : List Node → tree.Elements
 elements_of nodes = row (map element_of nodes)
+
+-- a branch, and several
+abbrev pub arm_of : Branch → Arm
+arm_of = fold-Branch tree.Element Arm element_step arm_step
+
+abbrev pub branches_of : List Branch → tree.Branches
+branches_of bs = arms (map arm_of bs)
 
 -- the tree of a template
 abbrev pub tree_in : Template → tree.Elements

@@ -1,15 +1,44 @@
--- What contracts see of a reader at work.
+-- What contracts see of a reader at work: what has been read, without where it lies in memory.
 use Rattle.std.specs.Prelude.{List, map, reverse}
-use Rattle.esi_tree.specs.declared.open_elements.OpenElement.{OpenElement}
-use Rattle.esi_tree.specs.declared.open_elements.OpenElement.TheVariants as element
+use Rattle.esi_expr.specs.Shown.{test_of}
+use Rattle.esi_tree.specs.declared.halves.Halves as code
+use Rattle.esi_tree.specs.declared.halves.Halves.TheVariants as half
+use Rattle.esi_tree.specs.declared.piece.Piece as code_piece
+use Rattle.esi_tree.specs.declared.piece.Piece.TheVariants as given
+use Rattle.esi_tree.specs.declared.open_element.OpenElement.{OpenElement}
+use Rattle.esi_tree.specs.declared.open_element.OpenElement.TheVariants as unended
 use Rattle.esi_tree.specs.declared.open_elements.OpenElements.{OpenElements}
 use Rattle.esi_tree.specs.declared.reader.Reader.{Reader}
-use Rattle.esi_tree.specs.Shown.{element_of}
-use Rattle.esi_tree.specs.Reading.{Frame, Including, State}
+use Rattle.esi_tree.specs.Shown.{element_of, elements_of, arm_of}
+use Rattle.esi_tree.specs.Reading as reading
+use Rattle.esi_tree.specs.Reading.{Frame, State}
 
--- an open element, without where it lies in memory
+-- the parts of a try
+abbrev pub halves_of : code.Halves → reading.Halves
+halves_of half.Neither = reading.Neither
+halves_of (half.AttemptAlone attempt) = reading.AttemptAlone (elements_of attempt.items)
+halves_of (half.ExceptAlone except) = reading.ExceptAlone (elements_of except.items)
+halves_of (half.Both attempt except swapped) = reading.Both (elements_of attempt.items) (elements_of except.items) swapped
+
+-- what an element gives to that in which it stands
+abbrev pub shown_piece : code_piece.Piece → reading.Piece
+shown_piece (given.Element node) = reading.AnElement (element_of node)
+shown_piece (given.Arm branch) = reading.ABranch (arm_of branch)
+shown_piece (given.Attempt content) = reading.AnAttempt (elements_of content.items)
+shown_piece (given.Except content) = reading.AnExcept (elements_of content.items)
+
+-- an open element
 abbrev pub frame_of : OpenElement → Frame
-frame_of (element.Include src alt continues) = Including src alt continues
+frame_of (unended.Include src alt continues) = reading.InInclude src alt continues
+frame_of unended.Comment = reading.InComment
+frame_of (unended.Inline name content) = reading.InInline name (map element_of content.items)
+frame_of (unended.Vars content) = reading.InVars (map element_of content.items)
+frame_of (unended.Choose branches) = reading.InChoose (map arm_of branches.items)
+frame_of (unended.When test content) = reading.InWhen (test_of test) (map element_of content.items)
+frame_of (unended.Otherwise content) = reading.InOtherwise (map element_of content.items)
+frame_of (unended.Try halves) = reading.InTry (halves_of halves)
+frame_of (unended.Attempt content) = reading.InAttempt (map element_of content.items)
+frame_of (unended.Except content) = reading.InExcept (map element_of content.items)
 
 -- the open elements, the innermost first
 unfoldable pub frames_of : OpenElements → List Frame

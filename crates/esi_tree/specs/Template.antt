@@ -2,15 +2,17 @@
 use Rattle.std.specs.Prelude.{◌≡◌, ◌⊎◌, ℕ, ◌+◌, ◌-◌, ◌≤◌, max, Bool, true, false, List, [], ◌∷◌, ◌++◌, Option, Some, if◌then◌else◌}
 use Rattle.std.specs.List.{AllByRecursion}
 use Rattle.esi_scanner.specs.declared.attribute.Attribute.{Attribute}
-use Rattle.esi_scanner.specs.declared.attribute.KnownAttribute.TheVariants as known
 use Rattle.esi_scanner.specs.declared.element_name.ElementName.{ElementName}
 use Rattle.esi_scanner.specs.declared.element_name.ElementName.TheVariants as element
 use Rattle.esi_scanner.specs.declared.tag.Tag.{Tag}
+use Rattle.esi_vars.specs.declared.part.Part.{Part}
+use Rattle.esi_vars.specs.Parts.{parts_of}
+use Rattle.esi_expr.specs.Tree.{Test}
 use Rattle.esi_tree.specs.declared.open_elements.TheConstants.{OPEN_LIMIT}
 use Rattle.esi_tree.specs.Tree as tree
-use Rattle.esi_tree.specs.Tree.{Element, Elements, End, Then}
-use Rattle.esi_tree.specs.Items.{Item, Text, Open, Close, Block}
-use Rattle.esi_tree.specs.Attributes.{value_of, continues, is_white}
+use Rattle.esi_tree.specs.Tree.{Element, Elements, End, Then, Branches, NoBranch, When}
+use Rattle.esi_tree.specs.Items.{Item, Text, Open, Close, Remove, Block}
+use Rattle.esi_tree.specs.Attributes.{src_of, alt_of, continues, when_test, inline_name, is_white}
 
 -- the items without the marks of blocks, which are passed over wherever they stand
 abbrev pub struck : List Item → List Item
@@ -37,12 +39,6 @@ pub record Encloses (name : ElementName) (items : List Item) (Content : List Att
       ((tag.closed ≡ true) × (content ≡ []) × (items ≡ Open tag ∷ []))
       ⊎ ((tag.closed ≡ false) × (items ≡ Open tag ∷ (content ++ Close name ∷ [])))
 
--- what an include's tag says
-pub record IsIncludeTag (src : List ℕ) (alt : Option (List ℕ)) (onward : Bool) (attributes : List Attribute) : Type 0 where
-  pub src_is : value_of known.Src attributes ≡ Some src
-  pub alt_is : value_of known.Alt attributes ≡ alt
-  pub onward_is : continues attributes ≡ onward
-
 -- a front of which this holds, and a rest of which that holds
 pub record Splits (items : List Item) (P Q : List Item → Type 0) : Type 0 where
   pub front : List Item
@@ -51,16 +47,64 @@ pub record Splits (items : List Item) (P Q : List Item → Type 0) : Type 0 wher
   pub first : P front
   pub second : Q back
 
--- these items are this element, where `vars` says whether a vars element stands round it
-abbrev pub IsElement : Bool → Element → List Item → Type 0
-IsElement vars (tree.Text bytes) items = (vars ≡ false) × (items ≡ Text bytes ∷ [])
-IsElement vars (tree.Include src alt onward) items =
-    Encloses element.Include items (λ attributes content. AreWhite content × IsIncludeTag src alt onward attributes)
+-- white text before a part, and then a rest
+abbrev pub AfterWhite : List Item → (List Item → Type 0) → (List Item → Type 0) → Type 0
+AfterWhite items P Q = Splits items AreWhite (λ others. Splits others P Q)
 
--- these items are these elements
-abbrev pub IsRun : Bool → Elements → List Item → Type 0
-IsRun vars End items = items ≡ []
-IsRun vars (Then first rest) items = Splits items (IsElement vars first) (IsRun vars rest)
+-- what an include's tag says
+pub record IsIncludeTag (src : List Part) (alt : Option (List Part)) (onward : Bool) (attributes : List Attribute) : Type 0 where
+  pub src_is : src_of attributes ≡ Some src
+  pub alt_is : alt_of attributes ≡ alt
+  pub onward_is : continues attributes ≡ onward
+
+-- text inside a `vars`, in parts
+pub record IsVarsText (parts : List Part) (items : List Item) : Type 0 where
+  pub bytes : List ℕ
+  pub parts_are : parts_of bytes ≡ parts
+  pub items_are : items ≡ Text bytes ∷ []
+
+-- an element of this name round such content, which needs no attribute
+abbrev pub IsPart : ElementName → (List Item → Type 0) → List Item → Type 0
+IsPart name IsContent items = Encloses name items (λ _ content. IsContent content)
+
+-- a `when` of this test round such content
+abbrev pub IsWhen : Test → (List Item → Type 0) → List Item → Type 0
+IsWhen test IsContent items = Encloses element.When items (λ attributes content. (when_test attributes ≡ Some test) × IsContent content)
+
+-- at least one `when`
+abbrev pub HasWhen : Branches → Type 0
+HasWhen NoBranch = ⊥
+HasWhen (When test content rest) = Unit {0}
+HasWhen (tree.Otherwise content rest) = HasWhen rest
+
+abbrev mutual
+  -- these items are this element, where `vars` says whether a vars element stands round it
+  pub IsElement : Bool → Element → List Item → Type 0
+  IsElement vars (tree.Text bytes) items = (vars ≡ false) × (items ≡ Text bytes ∷ [])
+  IsElement vars (tree.VarsText parts) items = (vars ≡ true) × IsVarsText parts items
+  IsElement vars (tree.Include src alt onward) items =
+      Encloses element.Include items (λ attributes content. AreWhite content × IsIncludeTag src alt onward attributes)
+  IsElement vars (tree.Choose branches) items = IsPart element.Choose (λ content. HasWhen branches × AreBranches vars true branches content) items
+  IsElement vars (tree.Try attempt except false) items =
+      IsPart element.Try (λ content. AfterWhite content (IsPart element.Attempt (IsRun vars attempt)) (λ rest. AfterWhite rest (IsPart element.Except (IsRun vars except)) AreWhite)) items
+  IsElement vars (tree.Try attempt except true) items =
+      IsPart element.Try (λ content. AfterWhite content (IsPart element.Except (IsRun vars except)) (λ rest. AfterWhite rest (IsPart element.Attempt (IsRun vars attempt)) AreWhite)) items
+  IsElement vars (tree.Vars content) items = IsPart element.Vars (IsRun true content) items
+  IsElement vars (tree.Inline name content) items =
+      Encloses element.Inline items (λ attributes inner. (inline_name attributes ≡ Some name) × IsRun vars content inner)
+  IsElement vars tree.Nothing items = (items ≡ Remove ∷ []) ⊎ IsPart element.Comment AreWhite items
+
+  -- these items are these elements
+  pub IsRun : Bool → Elements → List Item → Type 0
+  IsRun vars End items = items ≡ []
+  IsRun vars (Then first rest) items = Splits items (IsElement vars first) (IsRun vars rest)
+
+  -- these items are these branches, where `free` says whether an otherwise may still come
+  pub AreBranches : Bool → Bool → Branches → List Item → Type 0
+  AreBranches vars free NoBranch items = AreWhite items
+  AreBranches vars free (When test content rest) items = AfterWhite items (IsWhen test (IsRun vars content)) (AreBranches vars free rest)
+  AreBranches vars free (tree.Otherwise content rest) items =
+      (free ≡ true) × AfterWhite items (IsPart element.Otherwise (IsRun vars content)) (AreBranches vars false rest)
 
 -- the most elements that are open at one place, where n are open before
 abbrev pub open_at_most : ℕ → List Item → ℕ

@@ -7,7 +7,8 @@ use std::alloc::AllocFailed;
 /// Why a text is no template.
 #[derive(Clone, Copy, Debug, Drop, PartialEq, Eq)]
 pub enum TreeFault {
-    /// The place, in bytes, at which the text stops beginning a template.
+    /// The place of the fault, in bytes: that of the tokens' fault, else of the first token with which no template
+    /// begins, else the text's length.
     Bad(usize),
     /// A growth was refused.
     NoMemory,

@@ -1,6 +1,9 @@
 //! What holds of templates and of their reading, whatever the text: each function has a law as its
 //! clause, and does nothing.
-ghost use Rattle.esi_tree.specs.Laws.{ReadsTemplates, OneTree, TellsThePlace, ReadsTexts, TellsThePlaceOfTexts};
+ghost use Rattle.std.specs.Prelude.{◌≡◌};
+ghost use Rattle.esi_tree.specs.Laws.{ReadsTemplates, OneTree, TellsThePlace, ReadsTexts, TellsThePlaceOfTexts, TextsAreOne};
+
+use crate::open_elements::OPEN_LIMIT;
 
 /// What is read of a text's tokens is their template, and what is their template is read. Takes no
 /// memory.
@@ -29,4 +32,16 @@ pub fn texts_are_read()
 /// that of its first token with which no template begins, else that of its end. Takes no memory.
 pub fn place_in_the_text()
     ensures { TellsThePlaceOfTexts }
+{}
+
+/// No text is the template of two trees. Takes no memory.
+pub fn one_tree_of_a_text()
+    ensures { TextsAreOne }
+{}
+
+/// The limit of open elements, in figures. Takes no memory.
+///
+/// Our profile.
+pub fn limit_of_open_elements()
+    ensures { OPEN_LIMIT ≡ 32 }
 {}

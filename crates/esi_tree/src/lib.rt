@@ -1,14 +1,24 @@
-//! Templates: the trees of texts. So far of text and `include` alone; a tag of any other element
-//! is a fault.
+//! Templates: the trees of texts.
+//!
+//! `template` is the one way in. Clauses see a template as its tree (`specs/Tree.antt`), without where it lies in
+//! memory. `specs/Template.antt` says which tokens are the template of a tree, `specs/Reading.antt` how the tree, or the
+//! place of the fault, is computed from the tokens, one after another; the code is that reading.
 #![tactic(auto)]
 
 pub mod fault;
+mod halves;
 pub mod laws;
 pub mod node;
+mod open_element;
 mod open_elements;
+pub mod parts;
+mod piece;
 pub mod reader;
 mod tag;
+#[cfg(test)]
+mod tests;
 
 pub use fault::TreeFault;
-pub use node::{Node, Template};
+pub use node::{Branch, Node, Template};
+pub use parts::Parts;
 pub use reader::template;

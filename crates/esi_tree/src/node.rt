@@ -1,22 +1,78 @@
 //! The elements of a template.
 ghost use Rattle.std.specs.Prelude.{◌≡◌};
 
+use crate::parts::Parts;
 use edge_types::Octets;
+use esi_expr::Expr;
 
 /// One element, or a run of text.
+#[cycle(tree)]
 #[derive(Drop)]
 pub enum Node {
     /// Text that is given out as it stands.
     Text(Octets),
+    /// Text inside a `vars`, which is given out with the values of its references.
+    VarsText(Parts),
     /// A resource that replaces the element.
     Include {
         /// Where the resource is.
-        src: Octets,
+        src: Parts,
         /// Where another one is, for when the first can't be had.
-        alt: Option<Octets>,
+        alt: Option<Parts>,
         /// The element is dropped where neither can be had.
         continues: bool,
     },
+    /// The branches, in the text's order, of which one is taken at most.
+    Choose(Vec<Branch>),
+    /// What is tried, and what stands for it where it fails.
+    Try {
+        /// What is tried.
+        attempt: Vec<Node>,
+        /// What stands for it where it fails.
+        except: Vec<Node>,
+        /// The except stands before the attempt in the text.
+        swapped: bool,
+    },
+    /// Elements in whose text references are replaced.
+    Vars(Vec<Node>),
+    /// Elements that stand here and can be included by their name.
+    Inline {
+        /// The name as it is written, decoded; no reference in it is replaced.
+        name: Octets,
+        /// The elements.
+        content: Vec<Node>,
+    },
+    /// A comment or a remove.
+    Nothing,
+}
+
+/// A `when`, or the otherwise, which has no test.
+#[cycle(tree)]
+#[derive(Drop)]
+pub struct Branch {
+    /// The test of a `when`.
+    pub test: Option<Expr>,
+    /// What is processed where the branch is taken.
+    pub content: Vec<Node>,
+}
+
+impl Branch {
+    ghost use Rattle.esi_tree.specs.Shown.{arm_of};
+    ghost use Rattle.esi_tree.specs.Reading.{is_otherwise, is_when};
+
+    // Whether it is the otherwise.
+    pub(crate) fn is_otherwise(&self) -> bool
+        ensures { result ≡ is_otherwise (arm_of self.now) }
+    {
+        self.test.is_none()
+    }
+
+    // Whether it is a `when`.
+    pub(crate) fn is_when(&self) -> bool
+        ensures { result ≡ is_when (arm_of self.now) }
+    {
+        self.test.is_some()
+    }
 }
 
 /// The elements of a template.
@@ -29,7 +85,7 @@ impl Template {
     ghost use Rattle.esi_tree.specs.Shown.{elements_of, tree_in};
 
     /// The template of these elements. Takes no memory.
-    pub fn of(nodes: Vec<Node>) -> Template
+    pub(crate) fn of(nodes: Vec<Node>) -> Template
         ensures { tree_in result ≡ elements_of nodes.items }
     {
         Template { nodes }

@@ -1,34 +1,28 @@
-// The elements that are open at a place of a text. Clauses see the list of them, the innermost
-// first.
-ghost use Rattle.std.specs.Prelude.{◌≡◌, [], ◌∷◌, length, IfOk, OnOk, MatchOption, option_map, slice_get};
+//! The elements that are open at a place of a text. Clauses see the list of them, the innermost
+//! first.
+ghost use Rattle.std.specs.Prelude.{◌≡◌, [], ◌∷◌, length, OnOk, IfNone, IfSome, option_map, slice_get};
 ghost use Rattle.std.specs.Option.{option_copied};
+ghost use Rattle.std.specs.List.{list_any};
+ghost use Rattle.esi_tree.specs.Reading.{is_run, is_vars, in_vars, may_stand};
+ghost use Rattle.esi_tree.specs.State.{frame_of, frames_of};
 
-use edge_types::{NoMemory, Octets};
+use crate::open_element::{OpenElement, stands_in_run};
+use edge_types::NoMemory;
+use esi_scanner::ElementName;
 use std::alloc::Global;
 
 /// The most elements that may be open at one place.
 ///
-/// Source: Our profile.
+/// Our profile.
 pub const OPEN_LIMIT: usize = 32;
 
-// An element whose end hasn't come.
-#[derive(Drop)]
-pub enum OpenElement {
-    Include {
-        src: Octets,
-        alt: Option<Octets>,
-        continues: bool,
-    },
-}
-
+// The innermost is the last.
 #[derive(Drop)]
 pub struct OpenElements {
     elements: Vec<OpenElement>,
 }
 
 impl OpenElements {
-    ghost use Rattle.esi_tree.specs.State.{frame_of, frames_of};
-
     #[tactic(auto, unfolding(crate::specs::State::frames_of))]
     pub fn new(alloc: Global) -> OpenElements
         ensures { frames_of result ≡ [] }
@@ -52,6 +46,33 @@ impl OpenElements {
         self.elements.last()
     }
 
+    // Whether any element may stand here.
+    pub fn is_run(&self) -> bool
+        ensures { result ≡ is_run (frames_of self.now) }
+    {
+        match self.innermost() {
+            Some(element) => element.holds_run(),
+            None => true,
+        }
+    }
+
+    // Whether an element of this name may stand here next.
+    pub fn admits(&self, name: ElementName) -> bool
+        ensures { result ≡ may_stand name (frames_of self.now) }
+    {
+        match self.innermost() {
+            Some(element) => element.admits(name),
+            None => stands_in_run(name),
+        }
+    }
+
+    // Whether a `vars` is open, at whatever depth.
+    pub fn in_vars(&self) -> bool
+        ensures { result ≡ in_vars (frames_of self.now) }
+    {
+        has_vars(self.elements.as_slice())
+    }
+
     // Opens one more, inside the others.
     pub fn push(&mut self, element: OpenElement) -> Result<(), NoMemory>
         ensures { OnOk result (frames_of self.new ≡ frame_of element ∷ frames_of self.old) }
@@ -62,8 +83,16 @@ impl OpenElements {
 
     // Ends the innermost.
     pub fn pop(&mut self) -> Option<OpenElement>
-        ensures { MatchOption result (frames_of self.old ≡ []) (λ element. frames_of self.old ≡ frame_of element ∷ frames_of self.new) }
+        ensures none { IfNone result ((frames_of self.old ≡ []) × (frames_of self.new ≡ [])) }
+        ensures some { IfSome result (λ element. frames_of self.old ≡ frame_of element ∷ frames_of self.new) }
     {
         self.elements.pop()
     }
+}
+
+// Whether one of the elements is a `vars`.
+fn has_vars(elements: &[OpenElement]) -> bool
+    ensures { result ≡ list_any (λ element. is_vars (frame_of element)) elements.now }
+{
+    elements.iter().any(|element| element.is_vars())
 }

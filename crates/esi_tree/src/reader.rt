@@ -1,19 +1,22 @@
 //! Reads the tree of a text from its tokens, one after another.
-ghost use Rattle.std.specs.Prelude.{◌≡◌, [], ◌∷◌, ◌++◌, length, IfOk, IfSome, option_map, MatchOption};
-ghost use Rattle.esi_tree.specs.Shown.{element_of, elements_of, tree_in, Gives};
-ghost use Rattle.esi_tree.specs.Reading.{start, with_element, after_text, is_run, inside, entered, left, after_tag, after, ended, tree_of_tokens, tree_of};
+ghost use Rattle.std.specs.Prelude.{◌≡◌, ◌+◌, ◌≤◌, map, IfOk, option_map};
+ghost use Rattle.esi_tree.specs.Tree.{depth};
+ghost use Rattle.esi_tree.specs.Shown.{element_of, tree_in, Gives};
+ghost use Rattle.esi_tree.specs.Reading.{start, grown_page, put, after_text, after_remove, inside, entered, left, after_tag, after, ended, tree_of_tokens, tree_of};
 ghost use Rattle.esi_tree.specs.Items.{item_of};
+ghost use Rattle.esi_tree.specs.State.{frame_of, shown_piece, state_of};
 
 use crate::fault::TreeFault;
 use crate::node::{Node, Template};
-use crate::open_elements::{OPEN_LIMIT, OpenElement, OpenElements};
-use crate::tag::{bytes_at, including, is_white};
-use edge_types::{NoMemory, Octets};
+use crate::open_element::OpenElement;
+use crate::open_elements::{OPEN_LIMIT, OpenElements};
+use crate::piece::Piece;
+use crate::tag::{bytes_at, is_white, opened_by, text_node};
+use edge_types::NoMemory;
 use esi_scanner::{ElementName, Kind, Tag, Token, scan};
 use std::alloc::Global;
 
-// What has been read so far: the elements that are open, and the nodes of the run that is being
-// read.
+// What has been read so far: the elements that are open, and the nodes that stand in none.
 #[derive(Drop)]
 struct Reader {
     open: OpenElements,
@@ -21,8 +24,6 @@ struct Reader {
 }
 
 impl Reader {
-    ghost use Rattle.esi_tree.specs.State.{frame_of, frames_of, state_of};
-
     fn new(alloc: Global) -> Reader
         ensures { state_of result ≡ start }
     {
@@ -32,11 +33,14 @@ impl Reader {
         }
     }
 
-    // With one element more.
-    fn with(mut self, node: Node) -> Result<Reader, NoMemory>
-        ensures { IfOk result (λ next. state_of next ≡ with_element (element_of node) (state_of self)) }
+    // With one piece more, at the innermost place.
+    fn with(mut self, piece: Piece) -> Result<Reader, NoMemory>
+        ensures { IfOk result (λ next. state_of next ≡ put (shown_piece piece) (state_of self)) }
     {
-        self.content.push(node)?;
+        match self.open.pop() {
+            Some(innermost) => self.open.push(innermost.with(piece)?)?,
+            None => self.content = grown_page(self.content, piece)?,
+        }
         Ok(self)
     }
 
@@ -48,33 +52,30 @@ impl Reader {
         Ok(self)
     }
 
-    // After a run of text.
+    // After a run of text. Where no run stands, white space alone may stand, and gives nothing.
     #[tactic(auto, unfolding(crate::specs::Reading::after_text))]
     fn after_text(self, alloc: Global, bytes: &[u8]) -> Result<Option<Reader>, NoMemory>
         ensures { IfOk result (λ next. option_map state_of next ≡ after_text bytes.now (state_of self)) }
     {
-        match self.open.innermost() {
-            None => {
-                let text = Octets::of(bytes.to_vec(alloc)?);
-                Ok(Some(self.with(Node::Text(text))?))
-            }
-            Some(OpenElement::Include { .. }) => {
-                if is_white(bytes) {
-                    Ok(Some(self))
-                } else {
-                    Ok(None)
-                }
-            }
+        if self.open.is_run() {
+            let node = text_node(alloc, self.open.in_vars(), bytes)?;
+            Ok(Some(self.with(Piece::Element(node))?))
+        } else if is_white(bytes) {
+            Ok(Some(self))
+        } else {
+            Ok(None)
         }
     }
 
-    // Whether any element may stand here.
-    fn is_run(&self) -> bool
-        ensures { result ≡ is_run (state_of self.now).frames }
+    // After a remove.
+    #[tactic(auto, unfolding(crate::specs::Reading::after_remove))]
+    fn after_remove(self) -> Result<Option<Reader>, NoMemory>
+        ensures { IfOk result (λ next. option_map state_of next ≡ after_remove (state_of self)) }
     {
-        match self.open.innermost() {
-            None => true,
-            Some(OpenElement::Include { .. }) => false,
+        if self.open.is_run() {
+            Ok(Some(self.with(Piece::Element(Node::Nothing))?))
+        } else {
+            Ok(None)
         }
     }
 
@@ -83,10 +84,10 @@ impl Reader {
     fn entered(self, alloc: Global, tag: &Tag) -> Result<Option<Reader>, NoMemory>
         ensures { IfOk result (λ next. option_map state_of next ≡ entered tag.now.name tag.now.attributes (state_of self)) }
     {
-        if tag.name != ElementName::Include || !self.is_run() {
+        if !self.open.admits(tag.name) {
             return Ok(None);
         }
-        match including(alloc, tag.attributes.as_slice())? {
+        match opened_by(alloc, tag)? {
             Some(element) => Ok(Some(self.inside(element)?)),
             None => Ok(None),
         }
@@ -100,23 +101,12 @@ impl Reader {
         let Some(element) = self.open.pop() else {
             return Ok(None);
         };
-        match (element, name) {
-            (
-                OpenElement::Include {
-                    src,
-                    alt,
-                    continues,
-                },
-                ElementName::Include,
-            ) => {
-                let node = Node::Include {
-                    src,
-                    alt,
-                    continues,
-                };
-                Ok(Some(self.with(node)?))
-            }
-            _ => Ok(None),
+        if name != element.name() {
+            return Ok(None);
+        }
+        match element.into_piece() {
+            Some(piece) => Ok(Some(self.with(piece)?)),
+            None => Ok(None),
         }
     }
 
@@ -143,7 +133,7 @@ impl Reader {
             Kind::Text => self.after_text(alloc, bytes_at(text, token.span)),
             Kind::Open(tag) => self.after_tag(alloc, tag),
             Kind::Close(name) => self.left(*name),
-            Kind::Remove => Ok(None),
+            Kind::Remove => self.after_remove(),
             Kind::BlockStart | Kind::BlockEnd => Ok(Some(self)),
         }
     }
@@ -157,6 +147,16 @@ impl Reader {
             Some(_) => Err(TreeFault::Bad(end)),
         }
     }
+}
+
+// What stands in no element, with one piece more; only an element can come there.
+fn grown_page(mut content: Vec<Node>, piece: Piece) -> Result<Vec<Node>, NoMemory>
+    ensures { IfOk result (λ longer. map element_of longer.items ≡ grown_page (shown_piece piece) (map element_of content.items)) }
+{
+    if let Piece::Element(node) = piece {
+        content.push(node)?;
+    }
+    Ok(content)
 }
 
 // The template of a text's tokens.
@@ -176,21 +176,20 @@ fn template_of(alloc: Global, text: &[u8], tokens: &[Token]) -> Result<Template,
 /// Reads the template that a text is.
 ///
 /// The place of a fault is in bytes: that of the first token with which no template begins, else
-/// the text's length. A tag without an attribute that it needs, and an element that is one too
-/// many open, are told at the start of their own tags; a text that has no tokens at the place of
-/// the first opener that begins none.
+/// the text's length. A tag without an attribute that it needs, a test that can't be read, and an
+/// element that is one too many open (`OPEN_LIMIT`), are told at the start of their own tags. Where
+/// a text has no tokens, the place is that of the first malformed tag, else of the `<!--esi` without
+/// its end.
 ///
-/// 1 `Bad`, 2 `NoMemory`; either leaves nothing behind.
+/// `Bad` tells the place; `NoMemory` comes where a growth is refused. Either leaves nothing behind.
 ///
 /// Source: ESI Language Specification 1.0, "ESI Language"; how the elements may stand in each
 /// other is our profile.
 #[tactic(auto, unfolding(crate::specs::Reading::tree_of))]
 pub fn template(alloc: Global, text: &[u8]) -> Result<Template, TreeFault>
-    ensures { Gives result (tree_of text.now) }
+    ensures tree { Gives result (tree_of text.now) }
+    ensures shallow { IfOk result (λ template. depth (tree_in template) ≤ OPEN_LIMIT + 1) }
 {
     let tokens = scan(alloc, text)?;
     template_of(alloc, text, tokens.as_slice())
 }
-
-#[cfg(test)]
-mod tests;

@@ -1,14 +1,19 @@
-// What the tags and the text of a template say.
-ghost use Rattle.std.specs.Prelude.{◌≡◌, slice_range, IfOk, option_map};
-ghost use Rattle.std.specs.Option.{option_copied};
+//! What the tags and the text of a template say.
+ghost use Rattle.std.specs.Prelude.{◌≡◌, IfOk, option_map};
+ghost use Rattle.esi_tree.specs.Shown.{element_of};
 ghost use Rattle.esi_tree.specs.Items.{bytes_at};
-ghost use Rattle.esi_tree.specs.Attributes.{value_of, continues, is_white};
-ghost use Rattle.esi_tree.specs.Reading.{including};
+ghost use Rattle.esi_tree.specs.Attributes.{continues, is_white};
+ghost use Rattle.esi_tree.specs.Reading.{opened_by, text_element};
 ghost use Rattle.esi_tree.specs.State.{frame_of};
+ghost use Rattle.esi_scanner.specs.declared.element_name.ElementName.TheVariants as element;
 
-use crate::open_elements::OpenElement;
+use crate::halves::Halves;
+use crate::node::Node;
+use crate::open_element::OpenElement;
+use crate::parts::Parts;
 use edge_types::{NoMemory, Octets};
-use esi_scanner::{Attribute, KnownAttribute, Span, is_ws};
+use esi_expr::{Expr, parse};
+use esi_scanner::{Attributes, ElementName, KnownAttribute, Span, Tag, is_ws};
 use std::alloc::Global;
 
 // The one value of `onerror` that says anything.
@@ -30,39 +35,39 @@ pub fn is_white(bytes: &[u8]) -> bool
     bytes.iter().all(|byte| is_ws(*byte))
 }
 
-// The value of the attribute of this name.
-#[tactic(auto, unfolding(crate::specs::Attributes::value_of))]
-fn value_of(name: KnownAttribute, attributes: &[Attribute]) -> Option<&Octets>
-    ensures { option_copied result ≡ value_of name attributes.now }
+// A run of text: inside a `vars` in parts, else as it stands.
+pub fn text_node(alloc: Global, in_vars: bool, bytes: &[u8]) -> Result<Node, NoMemory>
+    ensures { IfOk result (λ node. element_of node ≡ text_element in_vars bytes.now) }
 {
-    let found = attributes
-        .iter()
-        .find(|attribute| attribute.name.as_bytes() == name.as_bytes())?;
-    Some(&found.value)
+    if in_vars {
+        Ok(Node::VarsText(Parts::of(alloc, bytes)?))
+    } else {
+        Ok(Node::Text(Octets::of(bytes.to_vec(alloc)?)))
+    }
 }
 
 // Whether the page goes on without the element.
 #[tactic(auto, unfolding(crate::specs::Attributes::continues))]
-fn continues(attributes: &[Attribute]) -> bool
+fn continues(attributes: &Attributes) -> bool
     ensures { result ≡ continues attributes.now }
 {
-    match value_of(KnownAttribute::OnError, attributes) {
-        Some(value) => value.as_bytes() == CONTINUE,
+    match attributes.value(KnownAttribute::OnError) {
+        Some(value) => value == CONTINUE,
         None => false,
     }
 }
 
-// The include of these attributes, which need a `src`.
-#[tactic(auto, unfolding(crate::specs::Reading::including))]
-pub fn including(alloc: Global, attributes: &[Attribute]) -> Result<Option<OpenElement>, NoMemory>
-    ensures { IfOk result (λ found. option_map frame_of found ≡ including attributes.now) }
+// An include, which needs a `src`.
+#[tactic(auto, unfolding(crate::specs::Reading::opened_by))]
+fn include_of(alloc: Global, attributes: &Attributes) -> Result<Option<OpenElement>, NoMemory>
+    ensures { IfOk result (λ found. option_map frame_of found ≡ opened_by element.Include attributes.now) }
 {
-    let Some(src) = value_of(KnownAttribute::Src, attributes) else {
+    let Some(src) = attributes.value(KnownAttribute::Src) else {
         return Ok(None);
     };
-    let src = src.copy(alloc)?;
-    let alt = match value_of(KnownAttribute::Alt, attributes) {
-        Some(alt) => Some(alt.copy(alloc)?),
+    let src = Parts::of(alloc, src)?;
+    let alt = match attributes.value(KnownAttribute::Alt) {
+        Some(alt) => Some(Parts::of(alloc, alt)?),
         None => None,
     };
     Ok(Some(OpenElement::Include {
@@ -70,4 +75,55 @@ pub fn including(alloc: Global, attributes: &[Attribute]) -> Result<Option<OpenE
         alt,
         continues: continues(attributes),
     }))
+}
+
+// An inline, which needs a `name`.
+#[tactic(auto, unfolding(crate::specs::Reading::opened_by))]
+fn inline_of(alloc: Global, attributes: &Attributes) -> Result<Option<OpenElement>, NoMemory>
+    ensures { IfOk result (λ found. option_map frame_of found ≡ opened_by element.Inline attributes.now) }
+{
+    let Some(name) = attributes.value(KnownAttribute::Name) else {
+        return Ok(None);
+    };
+    Ok(Some(OpenElement::Inline {
+        name: Octets::of(name.to_vec(alloc)?),
+        content: Vec::new(alloc),
+    }))
+}
+
+// A `when`, which needs a test that can be read.
+#[tactic(auto, unfolding(crate::specs::Reading::opened_by))]
+fn when_of(alloc: Global, attributes: &Attributes) -> Result<Option<OpenElement>, NoMemory>
+    ensures { IfOk result (λ found. option_map frame_of found ≡ opened_by element.When attributes.now) }
+{
+    let Some(text) = attributes.value(KnownAttribute::Test) else {
+        return Ok(None);
+    };
+    let Some(test) = parse(alloc, text)? else {
+        return Ok(None);
+    };
+    Ok(Some(OpenElement::When {
+        test,
+        content: Vec::new(alloc),
+    }))
+}
+
+// The element that a tag opens; `None` where the tag lacks what it needs.
+#[tactic(auto, unfolding(crate::specs::Reading::opened_by))]
+pub fn opened_by(alloc: Global, tag: &Tag) -> Result<Option<OpenElement>, NoMemory>
+    ensures { IfOk result (λ found. option_map frame_of found ≡ opened_by tag.now.name tag.now.attributes) }
+{
+    Ok(match tag.name {
+        ElementName::Include => include_of(alloc, &tag.attributes)?,
+        ElementName::Inline => inline_of(alloc, &tag.attributes)?,
+        ElementName::When => when_of(alloc, &tag.attributes)?,
+        ElementName::Choose => Some(OpenElement::Choose(Vec::new(alloc))),
+        ElementName::Otherwise => Some(OpenElement::Otherwise(Vec::new(alloc))),
+        ElementName::Try => Some(OpenElement::Try(Halves::Neither)),
+        ElementName::Attempt => Some(OpenElement::Attempt(Vec::new(alloc))),
+        ElementName::Except => Some(OpenElement::Except(Vec::new(alloc))),
+        ElementName::Comment => Some(OpenElement::Comment),
+        ElementName::Remove => None,
+        ElementName::Vars => Some(OpenElement::Vars(Vec::new(alloc))),
+    })
 }

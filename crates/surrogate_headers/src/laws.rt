@@ -4,7 +4,7 @@ ghost use Rattle.surrogate_headers.specs.Spelling.{ReadsDirectives};
 
 /// The parts of a value are those that the commas outside quotes leave, and no others.
 ///
-/// Source: Our profile.
+/// Our profile.
 pub fn values_are_cut_outside_quotes()
     ensures { CutsValues }
 {}

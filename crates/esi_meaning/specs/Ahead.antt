@@ -1,0 +1,102 @@
+-- The URLs that a template names: those that are fetched ahead, and those that a log may have.
+use Rattle.std.specs.Prelude.{◌≡◌, ℕ, true, List, [], ◌∷◌, ◌++◌, filter_map, Any, Contains, Option, Some, None, Ok, if◌then◌else◌}
+use Rattle.edge_types.specs.declared.request.Request.{Request}
+use Rattle.edge_types.specs.Answered.{Answered, processed, body_of}
+use Rattle.edge_types.specs.Asked.{resolve}
+use Rattle.edge_types.specs.Table.{IsTable}
+use Rattle.esi_vars.specs.declared.part.Part.{Part}
+use Rattle.esi_vars.specs.Values.{substituted}
+use Rattle.esi_expr.specs.Truth.{holds}
+use Rattle.esi_tree.specs.Tree.{Element, Text, VarsText, Include, Choose, Try, Vars, Inline, Nothing, Elements, End, Then, Branches, NoBranch, When, Otherwise}
+use Rattle.esi_tree.specs.Reading.{tree_of}
+use Rattle.esi_meaning.specs.Inlines.{inline_for}
+
+-- the sources of an include: its src, then its alt
+abbrev pub include_sources : List Part → Option (List Part) → List (List Part)
+include_sources src None = src ∷ []
+include_sources src (Some alt) = src ∷ alt ∷ []
+
+-- the sources that a page may come to: of each choose those of the branch that is taken, of each try those of the
+-- attempt, then those of the except
+abbrev mutual
+  pub open_in : Request → Element → List (List Part)
+  open_in r (Text text) = []
+  open_in r (VarsText parts) = []
+  open_in r (Include src alt continues) = include_sources src alt
+  open_in r (Choose branches) = open_among r [] branches
+  open_in r (Try attempt except swapped) = open_sources r attempt ++ open_sources r except
+  open_in r (Vars content) = open_sources r content
+  open_in r (Inline name content) = open_sources r content
+  open_in r Nothing = []
+
+  pub open_sources : Request → Elements → List (List Part)
+  open_sources r End = []
+  open_sources r (Then first rest) = open_in r first ++ open_sources r rest
+
+  pub open_among : Request → List (List Part) → Branches → List (List Part)
+  open_among r otherwise NoBranch = otherwise
+  open_among r otherwise (When test content rest) = if holds r test then open_sources r content else open_among r otherwise rest
+  open_among r otherwise (Otherwise content rest) = open_among r (open_sources r content) rest
+
+-- the URL, unless an inline names it
+abbrev pub unless_inline : List ℕ → Option Elements → Option (List ℕ)
+unless_inline w (Some content) = None
+unless_inline w None = Some w
+
+-- the URL that a leg of this URL, or of none, asks in the template of the URL u with the tree t
+abbrev pub asked_url : List ℕ → Elements → Option (List ℕ) → Option (List ℕ)
+asked_url u t None = None
+asked_url u t (Some w) = unless_inline w (inline_for u w t)
+
+-- the URLs to fetch ahead for the template of the URL u with the tree t
+unfoldable pub ahead : Request → List ℕ → Elements → List (List ℕ)
+ahead r u t = filter_map (λ s. asked_url u t (resolve u (substituted r s))) (open_sources r t)
+
+-- all sources of a template, those of branches that aren't taken too
+abbrev mutual
+  pub sources_in : Element → List (List Part)
+  sources_in (Text text) = []
+  sources_in (VarsText parts) = []
+  sources_in (Include src alt continues) = include_sources src alt
+  sources_in (Choose branches) = sources_among branches
+  sources_in (Try attempt except swapped) = sources attempt ++ sources except
+  sources_in (Vars content) = sources content
+  sources_in (Inline name content) = sources content
+  sources_in Nothing = []
+
+  pub sources : Elements → List (List Part)
+  sources End = []
+  sources (Then first rest) = sources_in first ++ sources rest
+
+  pub sources_among : Branches → List (List Part)
+  sources_among NoBranch = []
+  sources_among (When test content rest) = sources content ++ sources_among rest
+  sources_among (Otherwise content rest) = sources content ++ sources_among rest
+
+-- a source of the template of the URL u with the tree t stands for the URL w
+pub record Names (r : Request) (u : List ℕ) (t : Elements) (w : List ℕ) : Type 0 where
+  pub source : List Part
+  pub stands : Contains (sources t) source
+  pub is_url : resolve u (substituted r source) ≡ Some w
+
+-- the answer's body is a template that is processed, and a source of it stands for the URL w
+pub record Leads (r : Request) (w : List ℕ) (answer : Answered) : Type 0 where
+  pub t : Elements
+  pub is_processed : processed answer.reply ≡ true
+  pub is_tree : tree_of (body_of answer.reply) ≡ Ok t
+  pub names : Names r answer.url t w
+
+-- and no inline of this template names the URL: its leg there asks the origin for it
+pub record AsksFor (r : Request) (w : List ℕ) (answer : Answered) : Type 0 where
+  pub leads : Leads r w answer
+  pub unnamed : inline_for answer.url w leads.t ≡ None
+
+-- the URL w may be asked next, after these answers: the page's own is the first
+abbrev pub MayFollow : Request → List ℕ → List Answered → List ℕ → Type 0
+MayFollow r u [] w = w ≡ u
+MayFollow r u (first ∷ more) w = Any (Leads r w) (first ∷ more)
+
+-- a log that a page at the URL u may have
+pub record IsLegal (r : Request) (u : List ℕ) (log : List Answered) : Type 0 where
+  pub once : IsTable log
+  pub each : (front : List Answered) (answer : Answered) (back : List Answered) → log ≡ front ++ answer ∷ back → MayFollow r u front answer.url

@@ -1,0 +1,106 @@
+use super::*;
+use std::test::Fail;
+
+// A front, a text so many times after it, and a back.
+type Repeated = (&'static str, &'static str, u16, &'static str);
+
+const TO_X: &str = "<esi:include src=\"/x\"/>";
+
+const TO_X_OR_NOTHING: &str = "<esi:include src=\"/x\" onerror=\"continue\"/>";
+
+const ATTEMPT: &str = "<esi:try><esi:attempt>";
+
+const NONE_THEN_X: &str =
+    "<esi:include src=\"/none\"/></esi:attempt><esi:except><esi:include src=\"/x\"/></esi:except></esi:try>";
+
+const OTHER_EXCEPT: &str =
+    "</esi:attempt><esi:except><esi:include src=\"/z\"/></esi:except></esi:try>";
+
+// The answer of `/x`, the page's body, and what is wanted.
+const MANY: [(&str, Repeated, Repeated, Repeated); 9] = [
+    (
+        "a thousand legs",
+        ("plain ", "1", 1, ""),
+        ("", TO_X, 1000, ""),
+        ("200 ", "1", 1000, ""),
+    ),
+    (
+        "one leg more",
+        ("plain ", "1", 1, ""),
+        ("", TO_X, 1001, ""),
+        ("fault 4", "", 0, ""),
+    ),
+    (
+        "one leg more, which would fail",
+        ("plain ", "1", 1, ""),
+        ("", TO_X, 1000, "<esi:include src=\"/none\"/>"),
+        ("fault 4", "", 0, ""),
+    ),
+    (
+        "one leg more, which has no URL",
+        ("plain ", "1", 1, ""),
+        (
+            "",
+            TO_X,
+            1000,
+            "<esi:include src=\"https://a.test/\" onerror=\"continue\"/>",
+        ),
+        ("fault 4", "", 0, ""),
+    ),
+    (
+        "an except that isn't tried",
+        ("plain ", "1", 1, ""),
+        (ATTEMPT, TO_X, 1000, OTHER_EXCEPT),
+        ("200 ", "1", 1000, ""),
+    ),
+    (
+        "the legs of a dropped attempt leave room for one",
+        ("plain ", "1", 1, ""),
+        (ATTEMPT, TO_X, 998, NONE_THEN_X),
+        ("200 ", "1", 1, ""),
+    ),
+    (
+        "the legs of a dropped attempt leave no room",
+        ("plain ", "1", 1, ""),
+        (ATTEMPT, TO_X, 999, NONE_THEN_X),
+        ("fault 4", "", 0, ""),
+    ),
+    (
+        "fragments that go on",
+        ("esi ", TO_X_OR_NOTHING, 10, ""),
+        ("", TO_X, 10, ""),
+        ("fault 4", "", 0, ""),
+    ),
+    (
+        "fragments that fail",
+        ("esi ", TO_X, 10, ""),
+        ("", TO_X, 10, ""),
+        ("fault 3", "", 0, ""),
+    ),
+];
+
+fn push_repeated(out: &mut String, repeated: Repeated) -> Result<(), NoMemory> {
+    let (front, text, times, back) = repeated;
+    out.push_str(front)?;
+    for _ in 0..times {
+        out.push_str(text)?;
+    }
+    out.push_str(back)?;
+    Ok(())
+}
+
+#[test]
+fn a_page_tries_a_thousand_legs(rt: HostRuntime) -> Result<(), Fail> {
+    for (name, fragment, page, want) in MANY {
+        let mut case = String::new(rt.alloc());
+        case.push_str("/x 200 ")?;
+        push_repeated(&mut case, fragment)?;
+        case.push_str("\n/p 200 esi ")?;
+        push_repeated(&mut case, page)?;
+        let mut wanted = String::new(rt.alloc());
+        push_repeated(&mut wanted, want)?;
+        let got = told_of(rt.alloc(), case.as_str(), NO_FIELDS, 4)?.ok_or("a case")?;
+        assert_eq!(rt; got.as_str(), wanted.as_str(), "{name}");
+    }
+    Ok(())
+}

@@ -1,0 +1,166 @@
+-- What an opening tag begins, and what an open element is at its end.
+use Rattle.std.proofs.Common.{◌≡◌, inr, ℕ, Bool, true, false, List, [], ◌∷◌, ◌++◌, Option, Some, None, unwrap_or, refl, sym, ◌∙◌, ap, subst}
+use Rattle.std.proofs.lemmas.List.{append-nil}
+use Rattle.std.proofs.lemmas.Option.{option_and_then_some}
+use Rattle.std.specs.List.{list_any}
+use Rattle.esi_scanner.specs.declared.attribute.Attribute.{Attribute}
+use Rattle.esi_scanner.specs.declared.element_name.ElementName.{ElementName}
+use Rattle.esi_scanner.specs.declared.element_name.ElementName.TheVariants as element
+use Rattle.esi_scanner.specs.declared.tag.Tag.{Tag}
+use Rattle.esi_vars.specs.declared.part.Part.{Part}
+use Rattle.esi_expr.specs.Tree.{Test}
+use Rattle.esi_tree.specs.Tree as tree
+use Rattle.esi_tree.specs.Tree.{Element, Elements, Branches, NoBranch}
+use Rattle.esi_tree.specs.Shown.{row, Arm, arm, arms}
+use Rattle.esi_tree.specs.Items.{Item}
+use Rattle.esi_tree.specs.Attributes.{src_of, alt_of, continues, when_test, inline_name}
+use Rattle.esi_tree.specs.Template.{IsIncludeTag, HasWhen, AreBranches}
+use Rattle.esi_tree.specs.Reading.{Halves, Neither, AttemptAlone, ExceptAlone, Both, Frame, InInclude, InComment, InInline, InVars, InChoose, InWhen, InOtherwise, InTry, InAttempt, InExcept, Piece, AnElement, ABranch, AnAttempt, AnExcept, is_when, may_stand, opened_by, name_of, piece_of}
+use Rattle.esi_tree.proofs.Runs.{chosen_some}
+use Rattle.esi_tree.proofs.Places.{emptied, is_run-may_stand}
+use Rattle.esi_tree.proofs.Rounds.{Shape}
+use Rattle.esi_tree.proofs.Inside.{IsPiece, Fits, Inside, BeginBranches, arms_then, branch_of}
+
+-- what a tag opens: an element of its name, in which nothing has been read
+pub record IsFresh (name : ElementName) (attributes : List Attribute) (frame : Frame) : Type 0 where
+  pub named : name ≡ name_of frame
+  pub says : opened_by (name_of frame) attributes ≡ Some (emptied frame)
+  pub starts : (vars : Bool) → Inside vars frame []
+
+fresh-is : (name : ElementName) (attributes : List Attribute) (frame other : Frame) → Some frame ≡ Some other → IsFresh name attributes frame → IsFresh name attributes other
+fresh-is name attributes frame other e is =
+    let P : Frame → Type 0 = λ f. IsFresh name attributes f in
+    let same : frame ≡ other = ap (λ o. unwrap_or o other) e in
+    subst P same is
+
+pub fresh : (name : ElementName) (attributes : List Attribute) (frame : Frame) → opened_by name attributes ≡ Some frame → IsFresh name attributes frame
+unfolding opened_by
+fresh element.Include attributes frame e =
+    option_and_then_some (λ src. Some (InInclude src (alt_of attributes) (continues attributes))) (src_of attributes) frame e (λ src is rest.
+    fresh-is element.Include attributes (InInclude src (alt_of attributes) (continues attributes)) frame rest (record { named = refl; says = e ∙ sym rest; starts = λ vars. tt }))
+fresh element.Inline attributes frame e =
+    option_and_then_some (λ label. Some (InInline label [])) (inline_name attributes) frame e (λ label is rest.
+    fresh-is element.Inline attributes (InInline label []) frame rest (record { named = refl; says = e ∙ sym rest; starts = λ vars. refl }))
+fresh element.Choose attributes frame e = fresh-is element.Choose attributes (InChoose []) frame e (record { named = refl; says = refl; starts = λ vars rest more are. are })
+fresh element.When attributes frame e =
+    option_and_then_some (λ test. Some (InWhen test [])) (when_test attributes) frame e (λ test is rest.
+    fresh-is element.When attributes (InWhen test []) frame rest (record { named = refl; says = e ∙ sym rest; starts = λ vars. refl }))
+fresh element.Otherwise attributes frame e = fresh-is element.Otherwise attributes (InOtherwise []) frame e (record { named = refl; says = refl; starts = λ vars. refl })
+fresh element.Try attributes frame e = fresh-is element.Try attributes (InTry Neither) frame e (record { named = refl; says = refl; starts = λ vars. tt })
+fresh element.Attempt attributes frame e = fresh-is element.Attempt attributes (InAttempt []) frame e (record { named = refl; says = refl; starts = λ vars. refl })
+fresh element.Except attributes frame e = fresh-is element.Except attributes (InExcept []) frame e (record { named = refl; says = refl; starts = λ vars. refl })
+fresh element.Comment attributes frame e = fresh-is element.Comment attributes InComment frame e (record { named = refl; says = refl; starts = λ vars. tt })
+fresh element.Remove attributes frame e = absurd (cc)
+fresh element.Vars attributes frame e = fresh-is element.Vars attributes (InVars []) frame e (record { named = refl; says = refl; starts = λ vars. refl })
+
+says-include : (src : List Part) (alt : Option (List Part)) (onward : Bool) (attributes : List Attribute) → opened_by element.Include attributes ≡ Some (InInclude src alt onward) → IsIncludeTag src alt onward attributes
+unfolding opened_by
+says-include src alt onward attributes e =
+    option_and_then_some (λ s. Some (InInclude s (alt_of attributes) (continues attributes))) (src_of attributes) (InInclude src alt onward) e (λ s is rest.
+    let src_is : s ≡ src = cc in
+    record { src_is = is ∙ ap Some src_is; alt_is = cc; onward_is = cc })
+
+says-inline : (label : List ℕ) (attributes : List Attribute) → opened_by element.Inline attributes ≡ Some (InInline label []) → inline_name attributes ≡ Some label
+unfolding opened_by
+says-inline label attributes e =
+    option_and_then_some (λ s. Some (InInline s [])) (inline_name attributes) (InInline label []) e (λ s is rest.
+    let same : s ≡ label = cc in
+    is ∙ ap Some same)
+
+says-when : (test : Test) (attributes : List Attribute) → opened_by element.When attributes ≡ Some (InWhen test []) → when_test attributes ≡ Some test
+unfolding opened_by
+says-when test attributes e =
+    option_and_then_some (λ t. Some (InWhen t [])) (when_test attributes) (InWhen test []) e (λ t is rest.
+    let same : t ≡ test = cc in
+    is ∙ ap Some same)
+
+has_when-arm : (test : Option Test) (content : Elements) (bs : List Arm) → (list_any is_when bs ≡ true → HasWhen (arms bs)) → list_any is_when (branch_of test content ∷ bs) ≡ true → HasWhen (arm test content (arms bs))
+has_when-arm None content bs behind e = behind e
+has_when-arm (Some test) content bs behind e = tt
+
+has_when-arms : (bs : List Arm) → list_any is_when bs ≡ true → HasWhen (arms bs)
+has_when-arms [] e = absurd (cc)
+has_when-arms (b ∷ bs) e = has_when-arm b.test b.content bs (λ behind. has_when-arms bs behind) e
+
+arms_then-none : (bs : List Arm) → arms_then bs NoBranch ≡ arms bs
+arms_then-none [] = refl
+arms_then-none (b ∷ bs) = ap (λ rest. arm b.test b.content rest) (arms_then-none bs)
+
+all-branches : (vars : Bool) (bs : List Arm) (items : List Item) → BeginBranches vars bs items → AreBranches vars true (arms bs) items
+all-branches vars bs items inside =
+    let P : Branches → Type 0 = λ all. AreBranches vars true all (items ++ []) in
+    let Q : List Item → Type 0 = λ us. AreBranches vars true (arms bs) us in
+    subst Q (append-nil items) (subst P (arms_then-none bs) (inside NoBranch [] tt))
+
+given : (vars : Bool) (a b : Piece) (items : List Item) → Some a ≡ Some b → IsPiece vars a items → IsPiece vars b items
+given vars a b items e is =
+    let P : Piece → Type 0 = λ p. IsPiece vars p items in
+    let same : a ≡ b = ap (λ o. unwrap_or o b) e in
+    subst P same is
+
+whole-try : (vars : Bool) (halves : Halves) (piece : Piece) (tag : Tag) (inner items : List Item) → tag.name ≡ element.Try → Inside vars (InTry halves) inner → piece_of (InTry halves) ≡ Some piece → Shape tag element.Try inner items → IsPiece vars piece items
+unfolding piece_of
+whole-try vars Neither piece tag inner items named inside is shape = absurd (cc)
+whole-try vars (AttemptAlone attempt) piece tag inner items named inside is shape = absurd (cc)
+whole-try vars (ExceptAlone except) piece tag inner items named inside is shape = absurd (cc)
+whole-try vars (Both attempt except false) piece tag inner items named inside is shape =
+    given vars (AnElement (tree.Try attempt except false)) piece items is (record { tag = tag; content = inner; named = named; fits = inside; shape = shape })
+whole-try vars (Both attempt except true) piece tag inner items named inside is shape =
+    given vars (AnElement (tree.Try attempt except true)) piece items is (record { tag = tag; content = inner; named = named; fits = inside; shape = shape })
+
+-- the tag, what has been read inside and the end are what the element gives
+pub whole : (vars : Bool) (frame : Frame) (piece : Piece) (tag : Tag) (inner items : List Item) → tag.name ≡ name_of frame → opened_by (name_of frame) tag.attributes ≡ Some (emptied frame)
+    → Inside vars frame inner → piece_of frame ≡ Some piece → Shape tag (name_of frame) inner items → IsPiece vars piece items
+unfolding piece_of
+whole vars (InInclude src alt onward) piece tag inner items named says inside is shape =
+    given vars (AnElement (tree.Include src alt onward)) piece items is
+    (record { tag = tag; content = inner; named = named; fits = (inside, says-include src alt onward tag.attributes says); shape = shape })
+whole vars InComment piece tag inner items named says inside is shape =
+    given vars (AnElement tree.Nothing) piece items is (inr (record { tag = tag; content = inner; named = named; fits = inside; shape = shape }))
+whole vars (InInline label content) piece tag inner items named says inside is shape =
+    given vars (AnElement (tree.Inline label (row content))) piece items is
+    (record { tag = tag; content = inner; named = named; fits = (says-inline label tag.attributes says, inside); shape = shape })
+whole vars (InVars content) piece tag inner items named says inside is shape =
+    given vars (AnElement (tree.Vars (row content))) piece items is (record { tag = tag; content = inner; named = named; fits = inside; shape = shape })
+whole vars (InChoose bs) piece tag inner items named says inside is shape =
+    let parts = chosen_some (list_any is_when bs) (Some (AnElement (tree.Choose (arms bs)))) piece is in
+    given vars (AnElement (tree.Choose (arms bs))) piece items parts.1
+    (record { tag = tag; content = inner; named = named; fits = (has_when-arms bs parts.0, all-branches vars bs inner inside); shape = shape })
+whole vars (InWhen test content) piece tag inner items named says inside is shape =
+    given vars (ABranch (branch_of (Some test) (row content))) piece items is
+    (record { tag = tag; content = inner; named = named; fits = (says-when test tag.attributes says, inside); shape = shape })
+whole vars (InOtherwise content) piece tag inner items named says inside is shape =
+    given vars (ABranch (branch_of None (row content))) piece items is (record { tag = tag; content = inner; named = named; fits = inside; shape = shape })
+whole vars (InTry halves) piece tag inner items named says inside is shape = whole-try vars halves piece tag inner items named inside is shape
+whole vars (InAttempt content) piece tag inner items named says inside is shape =
+    given vars (AnAttempt (row content)) piece items is (record { tag = tag; content = inner; named = named; fits = inside; shape = shape })
+whole vars (InExcept content) piece tag inner items named says inside is shape =
+    given vars (AnExcept (row content)) piece items is (record { tag = tag; content = inner; named = named; fits = inside; shape = shape })
+
+fits-is : (a b : Piece) (frames : List Frame) → Some a ≡ Some b → Fits a frames → Fits b frames
+fits-is a b frames e fit =
+    let P : Piece → Type 0 = λ p. Fits p frames in
+    let same : a ≡ b = ap (λ o. unwrap_or o b) e in
+    subst P same fit
+
+fits-try : (halves : Halves) (piece : Piece) (frames : List Frame) → piece_of (InTry halves) ≡ Some piece → may_stand element.Try frames ≡ true → Fits piece frames
+unfolding piece_of
+fits-try Neither piece frames is may = absurd (cc)
+fits-try (AttemptAlone attempt) piece frames is may = absurd (cc)
+fits-try (ExceptAlone except) piece frames is may = absurd (cc)
+fits-try (Both attempt except swapped) piece frames is may = fits-is (AnElement (tree.Try attempt except swapped)) piece frames is (is_run-may_stand element.Try frames refl may)
+
+-- where an element may stand, what it gives may stand
+pub fits-piece : (frame : Frame) (piece : Piece) (frames : List Frame) → piece_of frame ≡ Some piece → may_stand (name_of frame) frames ≡ true → Fits piece frames
+unfolding piece_of
+fits-piece (InInclude src alt onward) piece frames is may = fits-is (AnElement (tree.Include src alt onward)) piece frames is (is_run-may_stand element.Include frames refl may)
+fits-piece InComment piece frames is may = fits-is (AnElement tree.Nothing) piece frames is (is_run-may_stand element.Comment frames refl may)
+fits-piece (InInline label content) piece frames is may = fits-is (AnElement (tree.Inline label (row content))) piece frames is (is_run-may_stand element.Inline frames refl may)
+fits-piece (InVars content) piece frames is may = fits-is (AnElement (tree.Vars (row content))) piece frames is (is_run-may_stand element.Vars frames refl may)
+fits-piece (InChoose bs) piece frames is may =
+    fits-is (AnElement (tree.Choose (arms bs))) piece frames (chosen_some (list_any is_when bs) (Some (AnElement (tree.Choose (arms bs)))) piece is).1 (is_run-may_stand element.Choose frames refl may)
+fits-piece (InWhen test content) piece frames is may = fits-is (ABranch (branch_of (Some test) (row content))) piece frames is may
+fits-piece (InOtherwise content) piece frames is may = fits-is (ABranch (branch_of None (row content))) piece frames is may
+fits-piece (InTry halves) piece frames is may = fits-try halves piece frames is may
+fits-piece (InAttempt content) piece frames is may = fits-is (AnAttempt (row content)) piece frames is may
+fits-piece (InExcept content) piece frames is may = fits-is (AnExcept (row content)) piece frames is may

@@ -1,0 +1,43 @@
+//! The parts of a text, ready for a request's values. Clauses see the list of them.
+ghost use Rattle.std.specs.Prelude.{◌≡◌, IfOk};
+ghost use Rattle.esi_vars.specs.Parts.{parts_of};
+
+use edge_types::NoMemory;
+use esi_vars::{Part, parts};
+use std::alloc::Global;
+use std::marker::Model;
+
+/// The parts of a text: its references, and the text between them.
+#[derive(Drop)]
+pub struct Parts {
+    parts: Vec<Part>,
+}
+
+impl Model for Parts {
+    ghost use Rattle.std.specs.Prelude.{List};
+    ghost use Rattle.esi_vars.specs.declared.part.Part.{Part};
+
+    ghost Value = { List Part };
+
+    ghost view = { λ p. p.parts.items };
+}
+
+impl Parts {
+    /// The parts of this text. `NoMemory` where a growth is refused; none are made then.
+    ///
+    /// Source: ESI Language Specification 1.0, "Variables".
+    pub fn of(alloc: Global, text: &[u8]) -> Result<Parts, NoMemory>
+        ensures { IfOk result (λ made. made ≡ parts_of text.now) }
+    {
+        Ok(Parts {
+            parts: parts(alloc, text)?,
+        })
+    }
+
+    /// Lends the parts, in the text's order. Takes no memory.
+    pub fn as_slice(&self) -> &[Part]
+        ensures { result.now ≡ self.now }
+    {
+        self.parts.as_slice()
+    }
+}
