@@ -12,6 +12,7 @@ pub mod page_url;
 pub mod request;
 pub mod shared_answer;
 pub mod table;
+pub mod white_space;
 
 pub use answer::{Answer, Reply};
 pub use control::Control;
@@ -23,6 +24,7 @@ pub use page_url::PageUrl;
 pub use request::{Request, query_of};
 pub use shared_answer::SharedAnswer;
 pub use table::{InsertFault, Table};
+pub use white_space::is_ws;
 
 #[cfg(test)]
 mod tests;

@@ -1,7 +1,7 @@
 // Worked examples: expected values come from the URL Standard and from the edge's own rules.
 use crate::{
     Answer, Control, InsertFault, NoMemory, Octets, PageBody, PageFault, PageUrl, Reply, Request,
-    SharedAnswer, Table, query_of,
+    SharedAnswer, Table, is_ws, query_of,
 };
 use std::alloc::Global;
 use std::process::Abort;
@@ -146,6 +146,18 @@ fn queries_stand_between_two_marks(rt: HostRuntime) -> Result<(), Fail> {
 }
 
 #[test]
+fn four_bytes_are_white_space(rt: HostRuntime) -> Result<(), Fail> {
+    for byte in 0..=u8::MAX {
+        assert_eq!(rt;
+            is_ws(byte),
+            [0x20, 0x09, 0x0d, 0x0a].contains(&byte),
+            "{byte}"
+        );
+    }
+    Ok(())
+}
+
+#[test]
 fn answers_have_limits(rt: HostRuntime) -> Result<(), Fail> {
     let alloc = rt.alloc();
     for (status, byte, type_len, body_len, want) in [
@@ -189,10 +201,11 @@ fn answers_tell_what_came(rt: HostRuntime) -> Result<(), Fail> {
         assert_eq!(rt; found.succeeded(), succeeded, "{status}");
         assert_eq!(rt; found.processed(), processed, "{status}");
         assert_eq!(rt; found.url().as_bytes(), b"http://a.test/x".as_slice());
+        assert_eq!(rt; found.body(), b"1".as_slice());
     }
     let failed = Answer::failed(url(&rt, alloc, "http://a.test/x")?);
     assert!(rt; !failed.succeeded() && !failed.processed());
-    assert!(rt; matches!(failed.reply(), Reply::Failed));
+    assert!(rt; matches!(failed.reply(), Reply::Failed) && failed.body().is_empty());
     Ok(())
 }
 
