@@ -41,6 +41,7 @@ found_is word (b ∷ bs) rest found = by_test (starts_with nat_eq (b ∷ bs) wor
         → (i : ℕ) (after : List ℕ) → i < suc (length before) → drop i (b ∷ bs) ≢ word ++ after
     nowhere before clear is zero after h = begins_not word (b ∷ bs) after is
     nowhere before clear is (suc i) after h = clear i after (omega arith)
+
     by_test : (t : Bool) → starts_with nat_eq (b ∷ bs) word ≡ t → (behind word bs ≡ Some rest → IsBehind word bs rest) → IsBehind word (b ∷ bs) rest
     by_test true is go =
         let same : Some (drop (length word) (b ∷ bs)) ≡ Some rest = sym (here word b bs is) ∙ found in

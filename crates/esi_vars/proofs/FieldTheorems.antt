@@ -152,6 +152,7 @@ end_again middle right all stops =
     passes : (k : ℕ) → length middle ≤ k → k < length (middle ++ right) → is_blank (get_or (middle ++ right) k 0) ≡ true
     passes k past within =
         ap is_blank (get_or-append_right middle right (length middle) k 0 refl past) ∙ all (k - length middle) 0 (omega (arith, length-append middle right))
+
     last : 0 < length middle → is_blank (get_or (middle ++ right) (length middle - 1) 0) ≡ false
     last some =
         let at : get_or (middle ++ right) (length middle - 1) 0 ≡ get_or middle (length middle - 1) 0 = get_or_append_left middle right 0 (length middle - 1) (omega arith) in

@@ -172,11 +172,15 @@ fn a_text_longer_than_the_limit_is_given_up(rt: HostRuntime) -> Result<(), Fail>
     ];
     for (text, limit, fits) in rows {
         let parts = parts(rt.alloc(), text.as_bytes()).map_err(|_| "no memory")?;
-        let found = substitute_within(rt.alloc(), &request, parts.as_slice(), limit)
-            .map_err(|_| "no memory")?;
+        let found = substitute_within(rt.alloc(), &request, parts.as_slice(), limit).map_err(
+            |_| "no memory",
+        )?;
         let whole = substitute(rt.alloc(), &request, parts.as_slice()).map_err(|_| "no memory")?;
         assert_eq!(rt; found.is_some(), fits, "{text}");
-        assert!(rt; found.is_none_or(|found| found.as_slice() == whole.as_slice()), "{text}");
+        assert!(rt;
+            found.is_none_or(|found| found.as_slice() == whole.as_slice()),
+            "{text}"
+        );
     }
     Ok(())
 }

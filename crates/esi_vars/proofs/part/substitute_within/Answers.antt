@@ -8,8 +8,7 @@ returns-then-value-limit c =
 
 pub loop-part-preserved : goal.loop-part-preserved
 loop-part-preserved c =
-    let added = c.in_ok-extend_from_slice.ensures.items ∙ ap (λ bytes. c.loop-part.text.items ++ bytes) c.part_value-value.ensures in
-    (
+    let added = c.in_ok-extend_from_slice.ensures.items ∙ ap (λ bytes. c.loop-part.text.items ++ bytes) c.part_value-value.ensures in (
       omega (arith, ap length c.in_ok-extend_from_slice.ensures.items, length-append c.loop-part.text.items c.part_value-value.result.now),
       substituted_turn c.args.request.now _ _ c.args.parts.now c.loop-part.part-index c.part-item.result _ (omega arith) c.part-item.is added c.loop-part.invariant.1,
     )
