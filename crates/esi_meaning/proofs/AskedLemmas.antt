@@ -17,7 +17,7 @@ use Rattle.esi_tree.specs.Tree.{Element, Text, VarsText, Include, Choose, Try, V
 use Rattle.esi_meaning.specs.Ahead.{sources_in, sources, sources_among, Names, AsksFor}
 use Rattle.esi_meaning.specs.Inlines.{names, inline_in, inline_for, inline_in_branches}
 use Rattle.esi_meaning.specs.Laws.{AskedIsNamed}
-use Rattle.esi_meaning.specs.Meaning.{on_error, element_run, elements_run, chosen_run, template_run, plain_run, named_run, resolved_run, leg_run, urls, most_legs, tree_legs, reply_legs, asked}
+use Rattle.esi_meaning.specs.Meaning.{on_error, element_run, elements_run, chosen_run, template_run, unprocessed_run, named_run, resolved_run, leg_run, urls, most_legs, tree_legs, reply_legs, asked}
 use Rattle.esi_meaning.specs.Run.{Leg, Run, gives, followed, joined, behind, or_else, instead}
 
 -- what holds of the URL of a leg, where it has one
@@ -202,7 +202,7 @@ module _ (r : Request) (T : List Answered) where
   named_template below h w p (Err place) e = tt
 
   named_reply : (below : List ℕ → Elements → List Part → Run) → Below below → (w : List ℕ) → (b : Bool) → processed (reply_of T w) ≡ b
-      → OfLegs (Named r T) (if b then template_run r below w (tree_of (body_of (reply_of T w))) else plain_run (reply_of T w))
+      → OfLegs (Named r T) (if b then template_run r below w (tree_of (body_of (reply_of T w))) else unprocessed_run (reply_of T w))
   named_reply below h w true p = named_template below h w p (tree_of (body_of (reply_of T w))) refl
   named_reply below h w false p = tt
 

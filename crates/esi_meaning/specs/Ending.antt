@@ -19,12 +19,12 @@ pub record Adds (text : List ℕ) (old new : List (List ℕ)) : Type 0 where
   pub spell : joined pieces ≡ text
 
 -- the run's text stands after what was there
-pub record Gives (run : Run) (old new : List (List ℕ)) : Type 0 where
+pub record GivesText (run : Run) (old new : List (List ℕ)) : Type 0 where
   pub text : List ℕ
   pub gave : run.text ≡ Some text
   pub added : Adds text old new
 
 abbrev pub Ends : Run → Progress → Progress → Ending → Type 0
-Ends run old new Complete = Gives run old.body new.body × Counts run old.legs new.legs
+Ends run old new Complete = GivesText run old.body new.body × Counts run old.legs new.legs
 Ends run old new Failed = (run.text ≡ None) × (new.body ≡ old.body) × Counts run old.legs new.legs
 Ends run old new TooManyLegs = MAX_LEGS < old.legs + length run.legs

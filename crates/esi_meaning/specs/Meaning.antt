@@ -60,19 +60,20 @@ chosen_content r otherwise (When test content rest) = if holds r test then conte
 chosen_content r otherwise (Otherwise content rest) = chosen_content r content rest
 
 -- an answer that isn't processed: its body as it stands, where the fetch succeeded
-abbrev pub plain_run : Reply → Run
-plain_run reply = gives (if succeeded reply then Some (body_of reply) else None)
+abbrev pub unprocessed_run : Reply → Run
+unprocessed_run reply = gives (if succeeded reply then Some (body_of reply) else None)
 
 -- A leg, one level down: `below` says what the legs of a template of the URL and the tree come to.
 module _ (r : Request) (below : List ℕ → Elements → List Part → Run) where
-  -- a template's text, processed
+  -- A text of the URL w, processed. Which tree a text has is told by esi_tree's `Template`; its law `ReadsTexts` says
+  -- that `tree_of` reads just this tree.
   abbrev pub template_run : List ℕ → Result Elements ℕ → Run
   template_run w (Ok t) = elements_run r (below w t) t
   template_run w (Err place) = gives None
 
   -- what an origin's reply comes to
   abbrev pub reply_run : List ℕ → Reply → Run
-  reply_run w reply = if processed reply then template_run w (tree_of (body_of reply)) else plain_run reply
+  reply_run w reply = if processed reply then template_run w (tree_of (body_of reply)) else unprocessed_run reply
 
   -- a leg of the URL w in the template of the URL u with the tree t: the content of an inline of this template, which
   -- asks nobody, or else what the origin replies
