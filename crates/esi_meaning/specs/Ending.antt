@@ -15,7 +15,7 @@ pub record Counts (run : Run) (old new : ℕ) : Type 0 where
 -- pieces of this text stand after those that were there
 pub record Adds (text : List ℕ) (old new : List (List ℕ)) : Type 0 where
   pub pieces : List (List ℕ)
-  pub behind : new ≡ old ++ pieces
+  pub appended : new ≡ old ++ pieces
   pub spell : joined pieces ≡ text
 
 -- the run's text stands after what was there

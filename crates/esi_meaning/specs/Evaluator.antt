@@ -1,5 +1,5 @@
 -- What the evaluator's arguments stand for, in the words of the meaning.
-use Rattle.std.specs.Prelude.{ℕ, ◌+◌, ◌≤◌, Bool, List, [], Option, Some, None}
+use Rattle.std.specs.Prelude.{ℕ, suc, ◌+◌, ◌≤◌, Bool, List, [], Option, Some, None}
 use Rattle.std.specs.Borrow.{Bor}
 use Rattle.edge_types.specs.declared.answer.Reply.{Reply}
 use Rattle.edge_types.specs.Outcome.{Shown}
@@ -13,7 +13,7 @@ use Rattle.esi_tree.specs.Shown.{elements_of, tree_in}
 use Rattle.esi_meaning.specs.declared.evaluator.Setting.{Setting}
 use Rattle.esi_meaning.specs.declared.evaluator.Standing.{Standing}
 use Rattle.esi_meaning.specs.Meaning.{alt_run, on_error, element_run, elements_run, chosen_run, template_run, reply_run, resolved_run, leg_run, reply_outcome, tree_outcome}
-use Rattle.esi_meaning.specs.Run.{Run, gives, tries, or_else}
+use Rattle.esi_meaning.specs.Run.{Asks, Run, gives, tries, or_else}
 
 -- as deep as a template may be: its open elements, and one run of text in the innermost
 abbrev pub FitsDepth : ℕ → Type 0
@@ -51,9 +51,9 @@ include_at s here src alt continues = or_else (leg_at s here src) (alternative_a
 abbrev pub below : Setting → ℕ → List ℕ → Elements → List Part → Run
 below s level = leg_run s.request.now s.table.now level
 
--- a leg of this URL in the template at this place
+-- a leg of this URL in this template, with so many levels below the leg as are left here
 abbrev pub named_at : Setting → Standing → List ℕ → Run
-named_at s here w = resolved_run s.request.now (below s here.level) s.table.now here.url.now (tree_in here.template.now) (Some w)
+named_at s here w = resolved_run s.request.now (below s here.level) s.table.now (suc here.level) here.url.now (tree_in here.template.now) (Some w)
 
 -- the body of a fragment of this URL, processed
 abbrev pub body_at : Setting → ℕ → List ℕ → List ℕ → Run
@@ -65,7 +65,7 @@ reply_at s level w reply = reply_run s.request.now (below s level) w reply
 
 -- a leg of this URL that its origin is asked for
 abbrev pub fetched_at : Setting → ℕ → List ℕ → Run
-fetched_at s level w = tries (Some w) (reply_at s level w (reply_of s.table.now w))
+fetched_at s level w = tries (Asks (suc level) w) (reply_at s level w (reply_of s.table.now w))
 
 -- the outcome of a page of this reply, and of one whose body is processed
 abbrev pub answered_page : Setting → ℕ → List ℕ → Reply → Shown

@@ -1,5 +1,5 @@
 // The evaluator: it goes over a template's tree as the meaning does.
-ghost use Rattle.std.specs.Prelude.{◌≤◌, IfOk, None};
+ghost use Rattle.std.specs.Prelude.{◌≤◌, IfOk};
 ghost use Rattle.std.specs.Arc.{arc_value};
 ghost use Rattle.esi_tree.specs.Shown.{element_of, elements_of, branches_of};
 ghost use Rattle.esi_tree.specs.Tree.{depth, element_depth, branches_depth};
@@ -7,7 +7,7 @@ ghost use Rattle.esi_meaning.specs.Ending.{Ends};
 ghost use Rattle.esi_meaning.specs.Evaluator.{FitsDepth, IsShallowTemplate};
 ghost use Rattle.esi_meaning.specs.Evaluator.{leg_at, elements_at, element_at, choice_at, try_at, include_at, alternative_at};
 ghost use Rattle.esi_meaning.specs.Evaluator.{named_at, fetched_at, reply_at, body_at};
-ghost use Rattle.esi_meaning.specs.Run.{tries};
+ghost use Rattle.esi_meaning.specs.Run.{AsksNobody, tries};
 
 use crate::choice::chosen;
 use crate::inlines::inline_for;
@@ -189,7 +189,7 @@ fn alternative(
     }
 }
 
-// A leg of a template at this standing.
+// A leg of this template.
 #[cycle(evaluator)]
 #[tactic(auto, using(crate::proofs::Legs::leg_above))]
 fn leg(
@@ -212,8 +212,7 @@ fn leg(
     };
     let below = Standing {
         level: standing.level - 1,
-        url: standing.url,
-        template: standing.template,
+        ..standing
     };
     named(setting, below, &url, progress)
 }
@@ -249,7 +248,7 @@ fn inlined(
     requires shallow_tree { IsShallowTemplate standing }
     requires shallow { FitsDepth (depth (elements_of content.now)) }
     ensures { IfOk result
-        (Ends (tries None (elements_at setting.now standing.entry (elements_of content.now))) progress.old progress.new) }
+        (Ends (tries AsksNobody (elements_at setting.now standing.entry (elements_of content.now))) progress.old progress.new) }
 {
     if !count_leg(&mut progress.legs) {
         return Ok(Ending::TooManyLegs);

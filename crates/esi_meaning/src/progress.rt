@@ -6,7 +6,7 @@ ghost use Rattle.edge_types.specs.Answered.{body_of};
 ghost use Rattle.esi_vars.specs.Values.{substituted};
 ghost use Rattle.esi_meaning.specs.Ending.{Adds, Ends};
 ghost use Rattle.esi_meaning.specs.Meaning.{on_error, unprocessed_run};
-ghost use Rattle.esi_meaning.specs.Run.{gives, tries};
+ghost use Rattle.esi_meaning.specs.Run.{AsksNobody, gives, tries};
 
 use crate::limits::MAX_LEGS;
 use edge_types::{Answer, NoMemory, Octets, PageBody, Request};
@@ -74,7 +74,7 @@ pub(crate) fn on_error(continues: bool) -> Ending
 /// A leg that asks nobody and has no text.
 pub(crate) fn no_leg(progress: &mut Progress) -> Ending
     requires { progress.old.legs ≤ MAX_LEGS }
-    ensures { Ends (tries None (gives None)) progress.old progress.new result }
+    ensures { Ends (tries AsksNobody (gives None)) progress.old progress.new result }
 {
     if !count_leg(&mut progress.legs) {
         return Ending::TooManyLegs;
