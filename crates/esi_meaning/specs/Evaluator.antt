@@ -1,5 +1,5 @@
--- What the plain evaluator's arguments stand for, in the words of the meaning.
-use Rattle.std.specs.Prelude.{ℕ, ◌+◌, ◌≤◌, Bool, List, [], Option, Some, None}
+-- What the evaluator's arguments stand for, in the words of the meaning.
+use Rattle.std.specs.Prelude.{ℕ, suc, ◌+◌, ◌≤◌, Bool, List, [], Option, Some, None}
 use Rattle.std.specs.Borrow.{Bor}
 use Rattle.edge_types.specs.declared.answer.Reply.{Reply}
 use Rattle.edge_types.specs.Outcome.{Shown}
@@ -10,50 +10,50 @@ use Rattle.esi_tree.specs.declared.open_elements.TheConstants.{OPEN_LIMIT}
 use Rattle.esi_tree.specs.Tree.{Element, Elements, Branches, depth}
 use Rattle.esi_tree.specs.Reading.{tree_of}
 use Rattle.esi_tree.specs.Shown.{elements_of, tree_in}
-use Rattle.esi_meaning.specs.declared.plain.Setting.{Setting}
-use Rattle.esi_meaning.specs.declared.plain.Place.{Place}
+use Rattle.esi_meaning.specs.declared.evaluator.Setting.{Setting}
+use Rattle.esi_meaning.specs.declared.evaluator.Standing.{Standing}
 use Rattle.esi_meaning.specs.Meaning.{alt_run, on_error, element_run, elements_run, chosen_run, template_run, reply_run, resolved_run, leg_run, reply_outcome, tree_outcome}
-use Rattle.esi_meaning.specs.Run.{Run, gives, tries, or_else}
+use Rattle.esi_meaning.specs.Run.{Asks, Run, gives, tries, or_else}
 
 -- as deep as a template may be: its open elements, and one run of text in the innermost
 abbrev pub FitsDepth : ℕ → Type 0
 FitsDepth d = d ≤ OPEN_LIMIT + 1
 
--- the template at a place is so
-abbrev pub IsShallow : Place → Type 0
-IsShallow p = FitsDepth (depth (tree_in p.tree.now))
+-- the template is so
+abbrev pub IsShallowTemplate : Standing → Type 0
+IsShallowTemplate here = FitsDepth (depth (tree_in here.template.now))
 
 -- a leg, several elements, one element
-abbrev pub leg_at : Setting → Place → List Part → Run
-leg_at s p = leg_run s.request.now s.table.now p.level p.url.now (tree_in p.tree.now)
+abbrev pub leg_at : Setting → Standing → List Part → Run
+leg_at s here = leg_run s.request.now s.table.now here.level here.url.now (tree_in here.template.now)
 
-abbrev pub elements_at : Setting → Place → Elements → Run
-elements_at s p nodes = elements_run s.request.now (leg_at s p) nodes
+abbrev pub elements_at : Setting → Standing → Elements → Run
+elements_at s here nodes = elements_run s.request.now (leg_at s here) nodes
 
-abbrev pub element_at : Setting → Place → Element → Run
-element_at s p node = element_run s.request.now (leg_at s p) node
+abbrev pub element_at : Setting → Standing → Element → Run
+element_at s here node = element_run s.request.now (leg_at s here) node
 
 -- the branch that is taken, and the attempt or what stands for it
-abbrev pub choice_at : Setting → Place → Branches → Run
-choice_at s p branches = chosen_run s.request.now (leg_at s p) (gives (Some [])) branches
+abbrev pub choice_at : Setting → Standing → Branches → Run
+choice_at s here branches = chosen_run s.request.now (leg_at s here) (gives (Some [])) branches
 
-abbrev pub try_at : Setting → Place → Elements → Elements → Run
-try_at s p attempt except = or_else (elements_at s p attempt) (elements_at s p except)
+abbrev pub try_at : Setting → Standing → Elements → Elements → Run
+try_at s here attempt except = or_else (elements_at s here attempt) (elements_at s here except)
 
 -- what stands for an include whose src can't be had
-abbrev pub alternative_at : Setting → Place → Option (List Part) → Bool → Run
-alternative_at s p alt continues = or_else (alt_run (leg_at s p) alt) (on_error continues)
+abbrev pub alternative_at : Setting → Standing → Option (List Part) → Bool → Run
+alternative_at s here alt continues = or_else (alt_run (leg_at s here) alt) (on_error continues)
 
-abbrev pub include_at : Setting → Place → List Part → Option (List Part) → Bool → Run
-include_at s p src alt continues = or_else (leg_at s p src) (alternative_at s p alt continues)
+abbrev pub include_at : Setting → Standing → List Part → Option (List Part) → Bool → Run
+include_at s here src alt continues = or_else (leg_at s here src) (alternative_at s here alt continues)
 
 -- the legs of a template with so many levels under it
 abbrev pub below : Setting → ℕ → List ℕ → Elements → List Part → Run
 below s level = leg_run s.request.now s.table.now level
 
--- a leg of this URL in the template at this place
-abbrev pub named_at : Setting → Place → List ℕ → Run
-named_at s p w = resolved_run s.request.now (below s p.level) s.table.now p.url.now (tree_in p.tree.now) (Some w)
+-- a leg of this URL in this template, with so many levels below the leg as are left here
+abbrev pub named_at : Setting → Standing → List ℕ → Run
+named_at s here w = resolved_run s.request.now (below s here.level) s.table.now (suc here.level) here.url.now (tree_in here.template.now) (Some w)
 
 -- the body of a fragment of this URL, processed
 abbrev pub body_at : Setting → ℕ → List ℕ → List ℕ → Run
@@ -65,7 +65,7 @@ reply_at s level w reply = reply_run s.request.now (below s level) w reply
 
 -- a leg of this URL that its origin is asked for
 abbrev pub fetched_at : Setting → ℕ → List ℕ → Run
-fetched_at s level w = tries (Some w) (reply_at s level w (reply_of s.table.now w))
+fetched_at s level w = tries (Asks (suc level) w) (reply_at s level w (reply_of s.table.now w))
 
 -- the outcome of a page of this reply, and of one whose body is processed
 abbrev pub answered_page : Setting → ℕ → List ℕ → Reply → Shown
