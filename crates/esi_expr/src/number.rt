@@ -1,4 +1,4 @@
-//! Texts that are numbers.
+// Texts that are numbers.
 
 ghost use Rattle.std.specs.Prelude.{◌≡◌, ◌<◌, ◌^◌, true};
 ghost use Rattle.std.specs.Char.{is_ascii_digit};

@@ -5,7 +5,10 @@ pub mod NearRuns
 pub mod NearMeanings
 pub mod OutcomeLemmas
 pub mod StateLemmas
+pub mod StateLaws
+pub mod ChoiceLaws
 pub mod LawLemmas
 pub mod AskedLemmas
+pub mod LegalLaws
 pub mod InlineLemmas
 pub mod TextLemmas

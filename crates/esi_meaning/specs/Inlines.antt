@@ -1,4 +1,4 @@
--- Which inline of a template a URL names.
+-- Which inline of a template a URL names: our profile.
 use Rattle.std.specs.Prelude.{ℕ, Bool, true, false, List, [], ◌∷◌, ◌++◌, bytes_eq, Option, Some, None, if◌then◌else◌}
 use Rattle.std.specs.Option.{option_or}
 use Rattle.edge_types.specs.Asked.{resolve}

@@ -1,4 +1,4 @@
--- How far a page has come, by the answers that are in: the log.
+-- How far a page has come, by the answers that are in: the log. Our profile.
 use Rattle.std.specs.Prelude.{ℕ, Bool, List, find, Option, Some, None, is_none}
 use Rattle.edge_types.specs.declared.request.Request.{Request}
 use Rattle.edge_types.specs.Answered.{Answered}

@@ -11,9 +11,9 @@ use crate::halves::Halves;
 use crate::node::Node;
 use crate::open_element::OpenElement;
 use crate::parts::Parts;
-use edge_types::{NoMemory, Octets};
+use edge_types::{NoMemory, Octets, is_ws};
 use esi_expr::{Expr, parse};
-use esi_scanner::{Attributes, ElementName, KnownAttribute, Span, Tag, is_ws};
+use esi_scanner::{Attributes, ElementName, KnownAttribute, Span, Tag};
 use std::alloc::Global;
 
 // The one value of `onerror` that says anything.

@@ -1,4 +1,4 @@
--- What the code's readers return.
+-- What the code's readers lend, as the lists that the definitions speak of.
 use Rattle.std.specs.Prelude.{ℕ, List, [], ◌∷◌, Option, Some, None}
 use Rattle.std.specs.Option.{option_copied}
 use Rattle.std.specs.Borrow.{Bor}
