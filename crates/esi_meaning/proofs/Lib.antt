@@ -6,6 +6,8 @@ pub mod NearMeanings
 pub mod OutcomeLemmas
 pub mod StateLemmas
 pub mod StateLaws
+pub mod LegLemmas
+pub mod WaitLaws
 pub mod ChoiceLaws
 pub mod LawLemmas
 pub mod AskedLemmas

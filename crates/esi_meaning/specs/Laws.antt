@@ -1,5 +1,5 @@
 -- What the meaning keeps to, whatever the template.
-use Rattle.std.specs.Prelude.{◌≡◌, ◌⊎◌, ℕ, ◌+◌, ◌≤◌, Bool, true, false, List, [], ◌∷◌, ◌++◌, length, Any, Contains, None, Some, Ok}
+use Rattle.std.specs.Prelude.{◌≡◌, ◌⊎◌, ℕ, ◌+◌, ◌≤◌, Bool, true, false, List, [], ◌∷◌, ◌++◌, length, Any, Contains, Option, None, Some, Ok}
 use Rattle.std.specs.List.{AllByRecursion, find}
 use Rattle.std.specs.Option.{option_map, unwrap_or}
 use Rattle.edge_types.specs.declared.request.Request.{Request}
@@ -19,8 +19,8 @@ use Rattle.esi_meaning.specs.declared.limits.TheConstants.{MAX_LEGS}
 use Rattle.esi_meaning.specs.Ahead.{ahead_in, ahead_sources, ahead, HasSource, AsksFor, MayFollow, IsLegal}
 use Rattle.esi_meaning.specs.Inlines.{names, inline_for, NamedBody, inlines}
 use Rattle.esi_meaning.specs.Meaning.{element_run, elements_run, outcome, asked}
-use Rattle.esi_meaning.specs.Run.{Run}
-use Rattle.esi_meaning.specs.State.{Waiting, Done, is_missing, state_over, state}
+use Rattle.esi_meaning.specs.Run.{Leg, Asks, AsksNobody, Run}
+use Rattle.esi_meaning.specs.State.{Waiting, Done, is_missing, state_over, state, waits_at}
 
 -- two tables reply alike to a URL
 abbrev pub SameReply : List Answered → List Answered → List ℕ → Type 0
@@ -58,6 +58,29 @@ abbrev pub DoneIsOutcome : Type 0
 DoneIsOutcome =
     (r : Request) (log T : List Answered) (L : ℕ) (u : List ℕ) (done : Shown) → IsTable log → Agrees log T → state r log L u ≡ Done done
     → (outcome r T L u ≡ done) × AllByRecursion (IsLogged log) (asked r T L u)
+
+-- this is a leg that asks the URL w, at one of the L levels under a page
+pub record IsLegOf (L : ℕ) (w : List ℕ) (found : Option Leg) : Type 0 where
+  pub level : ℕ
+  pub asks : found ≡ Some (Asks level w)
+  pub above : 1 ≤ level
+  pub within : level ≤ L
+
+-- A page that waits for a URL waits for its own and at no leg, or at a leg of this URL.
+abbrev pub WaitsAtLeg : Type 0
+WaitsAtLeg =
+    (r : Request) (log : List Answered) (L : ℕ) (u w : List ℕ) → state r log L u ≡ Waiting w
+    → ((w ≡ u) × (waits_at r log L u ≡ None)) ⊎ IsLegOf L w (waits_at r log L u)
+
+-- the page waits for the URL that the leg asks
+abbrev pub IsWaitedFor : Request → List Answered → ℕ → List ℕ → Leg → Type 0
+IsWaitedFor r log L u (Asks level w) = state r log L u ≡ Waiting w
+IsWaitedFor r log L u AsksNobody = ⊥
+
+-- A page that waits at a leg waits for the URL of this leg.
+abbrev pub LegIsWaitedFor : Type 0
+LegIsWaitedFor =
+    (r : Request) (log : List Answered) (L : ℕ) (u : List ℕ) (leg : Leg) → waits_at r log L u ≡ Some leg → IsWaitedFor r log L u leg
 
 -- A page has one outcome with and without an answer of a URL that isn't asked for it.
 abbrev pub UnaskedChangesNothing : Type 0

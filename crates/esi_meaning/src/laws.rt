@@ -1,7 +1,7 @@
 //! Laws of the meaning: each is the contract of a function that does nothing.
 ghost use Rattle.std.specs.Prelude.{◌≡◌};
 ghost use Rattle.esi_meaning.specs.Laws.{OutcomeRestsOnAsked, StateRestsOnLog, LoggedAnswersSuffice, WaitsForAsked, DoneIsOutcome};
-ghost use Rattle.esi_meaning.specs.Laws.{UnaskedChangesNothing, AsksFew, FailedAttemptLeavesNoText, AttemptWithTextStands};
+ghost use Rattle.esi_meaning.specs.Laws.{WaitsAtLeg, LegIsWaitedFor, UnaskedChangesNothing, AsksFew, FailedAttemptLeavesNoText, AttemptWithTextStands};
 ghost use Rattle.esi_meaning.specs.Laws.{FirstWhenCounts, FirstWhenIsAhead, FirstInlineCounts, AheadHasSource, AskedHasSource};
 ghost use Rattle.esi_meaning.specs.Laws.{NothingIsLegal, LegalGrows, StillFollows, WaitedForFollows, AheadFollows};
 ghost use Rattle.esi_meaning.specs.Laws.{OneListOfTokens, OneTreeOfTokens};
@@ -46,6 +46,21 @@ pub fn waits_for_asked()
 /// Our profile.
 pub fn done_is_outcome()
     ensures { DoneIsOutcome }
+{}
+
+/// A page that waits for a URL waits for its own and at no leg, or at a leg that asks this URL, at
+/// one of the levels under the page. Takes no memory.
+///
+/// Our profile.
+pub fn waits_at_leg()
+    ensures { WaitsAtLeg }
+{}
+
+/// A page that waits at a leg waits for the URL of this leg. Takes no memory.
+///
+/// Our profile.
+pub fn leg_is_waited_for()
+    ensures { LegIsWaitedFor }
 {}
 
 /// What was fetched and isn't asked changes no outcome: a table with one answer more, of a URL
