@@ -1,9 +1,9 @@
 -- What the meaning keeps to, whatever the template.
-use Rattle.std.specs.Prelude.{◌≡◌, ◌⊎◌, ℕ, ◌+◌, ◌≤◌, Bool, true, false, List, [], ◌∷◌, ◌++◌, length, Any, Contains, Option, None, Some, Ok}
+use Rattle.std.specs.Prelude.{◌≡◌, ◌⊎◌, ℕ, ◌+◌, ◌≤◌, Bool, false, List, [], ◌∷◌, ◌++◌, length, Any, Contains, Option, None, Some}
 use Rattle.std.specs.List.{AllByRecursion, find}
 use Rattle.std.specs.Option.{option_map, unwrap_or}
 use Rattle.edge_types.specs.declared.request.Request.{Request}
-use Rattle.edge_types.specs.Answered.{Answered, processed, body_of}
+use Rattle.edge_types.specs.Answered.{Answered}
 use Rattle.edge_types.specs.Table.{answer_of, reply_of, IsTable, Agrees}
 use Rattle.edge_types.specs.Outcome.{Shown}
 use Rattle.esi_vars.specs.declared.part.Part.{Part}
@@ -12,11 +12,10 @@ use Rattle.esi_expr.specs.Truth.{holds}
 use Rattle.esi_scanner.specs.declared.token.Token.{Token}
 use Rattle.esi_scanner.specs.Spelling.{Spells}
 use Rattle.esi_tree.specs.Items.{items_of}
-use Rattle.esi_tree.specs.Reading.{tree_of}
 use Rattle.esi_tree.specs.Template.{IsTemplate}
 use Rattle.esi_tree.specs.Tree.{Elements, End, Choose, Try, Branches, NoBranch, When, Otherwise}
 use Rattle.esi_meaning.specs.declared.limits.TheConstants.{MAX_LEGS}
-use Rattle.esi_meaning.specs.Ahead.{ahead_in, ahead_sources, ahead, HasSource, AsksFor, MayFollow, IsLegal}
+use Rattle.esi_meaning.specs.Ahead.{ahead_in, ahead_sources, ahead, ahead_of, HasSource, AsksFor, MayFollow, IsLegal}
 use Rattle.esi_meaning.specs.Inlines.{names, inline_for, NamedBody, inlines}
 use Rattle.esi_meaning.specs.Meaning.{element_run, elements_run, outcome, asked}
 use Rattle.esi_meaning.specs.Run.{Leg, Asks, AsksNobody, Run}
@@ -170,11 +169,10 @@ StillFollows = (r : Request) (u : List ℕ) (first : Answered) (log more : List 
 abbrev pub WaitedForFollows : Type 0
 WaitedForFollows = (r : Request) (log : List Answered) (L : ℕ) (u w : List ℕ) → IsLegal r u log → state r log L u ≡ Waiting w → MayFollow r u log w
 
--- What is fetched ahead for the template of a logged answer may follow the log.
+-- What is fetched ahead for a logged answer may follow the log.
 abbrev pub AheadFollows : Type 0
 AheadFollows =
-    (r : Request) (u : List ℕ) (log : List Answered) (answer : Answered) (t : Elements) (w : List ℕ) → Contains log answer → processed answer.reply ≡ true
-    → tree_of (body_of answer.reply) ≡ Ok t → Contains (ahead r answer.url t) w → MayFollow r u log w
+    (r : Request) (u : List ℕ) (log : List Answered) (answer : Answered) (w : List ℕ) → Contains log answer → Contains (ahead_of r answer) w → MayFollow r u log w
 
 -- A text is spelled by one list of tokens at most.
 abbrev pub OneListOfTokens : Type 0

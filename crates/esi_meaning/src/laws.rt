@@ -129,8 +129,8 @@ pub fn asked_has_source()
 {}
 
 /// No answers are a legal log; a legal log grows by the answer of a URL that may follow and isn't
-/// logged; such a URL is the one that a page waits for, and each that is fetched ahead for the
-/// template of a logged answer, then and later. Takes no memory.
+/// logged; such a URL is the one that a page waits for, and each that is fetched ahead for a logged
+/// answer, then and later. Takes no memory.
 ///
 /// Our profile.
 pub fn legal_logs()
