@@ -1,5 +1,5 @@
 -- What the meaning keeps to, whatever the template.
-use Rattle.std.specs.Prelude.{◌≡◌, ◌⊎◌, ℕ, ◌+◌, ◌≤◌, Bool, false, List, [], ◌∷◌, ◌++◌, length, Any, Contains, Option, None, Some}
+use Rattle.std.specs.Prelude.{◌≡◌, ◌⊎◌, ℕ, ◌+◌, ◌≤◌, Bool, false, List, [], ◌∷◌, ◌++◌, length, bytes_eq, Any, Contains, Option, None, Some}
 use Rattle.std.specs.List.{AllByRecursion, find}
 use Rattle.std.specs.Option.{option_map, unwrap_or}
 use Rattle.edge_types.specs.declared.request.Request.{Request}
@@ -16,7 +16,7 @@ use Rattle.esi_tree.specs.Template.{IsTemplate}
 use Rattle.esi_tree.specs.Tree.{Elements, End, Choose, Try, Branches, NoBranch, When, Otherwise}
 use Rattle.esi_meaning.specs.declared.limits.TheConstants.{MAX_LEGS}
 use Rattle.esi_meaning.specs.Ahead.{ahead_in, ahead_sources, ahead, ahead_of, HasSource, AsksFor, MayFollow, IsLegal}
-use Rattle.esi_meaning.specs.Inlines.{names, inline_for, NamedBody, inlines}
+use Rattle.esi_meaning.specs.Inlines.{names, inline_for, NamedBody, inlines, UrlBody, inline_urls}
 use Rattle.esi_meaning.specs.Meaning.{element_run, elements_run, outcome, asked}
 use Rattle.esi_meaning.specs.Run.{Leg, Asks, AsksNobody, Run}
 use Rattle.esi_meaning.specs.State.{Waiting, Done, is_missing, state_over, state, waits_at}
@@ -140,6 +140,11 @@ FirstWhenIsAhead = (r : Request) (branches : Branches) → ahead_in r (Choose br
 abbrev pub FirstInlineCounts : Type 0
 FirstInlineCounts =
     (u w : List ℕ) (t : Elements) → inline_for u w t ≡ option_map (λ (i : NamedBody). i.content) (find (λ (i : NamedBody). names u w i.name) (inlines t))
+
+-- The same, looked up by URL among the inlines of which each name is resolved once.
+abbrev pub InlinesByUrl : Type 0
+InlinesByUrl =
+    (u w : List ℕ) (t : Elements) → inline_for u w t ≡ option_map (λ (i : UrlBody). i.content) (find (λ (i : UrlBody). bytes_eq i.url w) (inline_urls u t))
 
 -- What is fetched ahead for a template is a URL that a source of it stands for, and that no inline of it names.
 abbrev pub AheadHasSource : Type 0

@@ -2,7 +2,7 @@
 ghost use Rattle.std.specs.Prelude.{◌≡◌};
 ghost use Rattle.esi_meaning.specs.Laws.{OutcomeRestsOnAsked, StateRestsOnLog, LoggedAnswersSuffice, WaitsForAsked, DoneIsOutcome};
 ghost use Rattle.esi_meaning.specs.Laws.{WaitsAtLeg, LegIsWaitedFor, UnaskedChangesNothing, AsksFew, FailedAttemptLeavesNoText, AttemptWithTextStands};
-ghost use Rattle.esi_meaning.specs.Laws.{FirstWhenCounts, FirstWhenIsAhead, FirstInlineCounts, AheadHasSource, AskedHasSource};
+ghost use Rattle.esi_meaning.specs.Laws.{FirstWhenCounts, FirstWhenIsAhead, FirstInlineCounts, InlinesByUrl, AheadHasSource, AskedHasSource};
 ghost use Rattle.esi_meaning.specs.Laws.{NothingIsLegal, LegalGrows, StillFollows, WaitedForFollows, AheadFollows};
 ghost use Rattle.esi_meaning.specs.Laws.{OneListOfTokens, OneTreeOfTokens};
 
@@ -110,6 +110,14 @@ pub fn first_when_counts()
 /// Our profile.
 pub fn first_inline_counts()
     ensures { FirstInlineCounts }
+{}
+
+/// The inline that counts for a URL is the first of this URL in the list of the template's inlines
+/// in which each name is resolved once. Takes no memory.
+///
+/// Our profile.
+pub fn inlines_by_url()
+    ensures { InlinesByUrl }
 {}
 
 /// What is fetched ahead for a template is a URL that a `src` or an `alt` of it stands for, and
