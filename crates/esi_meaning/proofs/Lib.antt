@@ -1,3 +1,4 @@
+pub mod RunLemmas
 pub mod Endings
 pub mod Depths
 pub mod Legs
