@@ -1,5 +1,5 @@
 -- What the code's loop over elements keeps.
-use Rattle.std.proofs.Common.{◌≡◌, ℕ, ◌+◌, ◌<◌, ◌≤◌, List, ◌∷◌, ◌++◌, length, Option, Some, None, refl, sym, ◌∙◌, ap, append_assoc, length-append, arith, subst, drop, get_or, drop-cons, add-one}
+use Rattle.std.proofs.Common.{◌≡◌, ℕ, ◌+◌, ◌<◌, ◌≤◌, List, ◌∷◌, ◌++◌, length, refl, sym, ◌∙◌, ap, append_assoc, length-append, arith, subst, drop, get_or, drop-cons, add-one}
 use Rattle.std.proofs.lemmas.List.Folds.{concat-append}
 use Rattle.edge_types.specs.Pieces.{joined}
 use Rattle.edge_types.specs.declared.request.Request.{Request}
@@ -13,6 +13,7 @@ use Rattle.esi_meaning.specs.declared.limits.TheConstants.{MAX_LEGS}
 use Rattle.esi_meaning.specs.declared.progress.Ending.{Ending}
 use Rattle.esi_meaning.specs.declared.progress.Ending.TheVariants.{Complete}
 use Rattle.esi_meaning.specs.declared.progress.Progress.{Progress}
+use Rattle.esi_meaning.proofs.RunLemmas.{with_front-with_front}
 
 -- what is left of a run, after these legs and this text
 pub record Leaves (whole rest : Run) (start now : Progress) : Type 0 where
@@ -28,10 +29,6 @@ adds-more x y a b c first second = record {
   appended = second.appended ∙ ap (λ (ps : List (List ℕ)). ps ++ second.pieces) first.appended ∙ append_assoc a first.pieces second.pieces;
   spell = concat-append first.pieces second.pieces ∙ ap (λ (bytes : List ℕ). bytes ++ joined second.pieces) first.spell ∙ ap (λ (bytes : List ℕ). x ++ bytes) second.spell;
 }
-
-with_front-with_front : (a b : List ℕ) (o : Option (List ℕ)) → with_front a (with_front b o) ≡ with_front (a ++ b) o
-with_front-with_front a b None = refl
-with_front-with_front a b (Some c) = ap Some (sym (append_assoc a b c))
 
 module _ (whole a b : Run) (start old new : Progress) (left : Leaves whole (in_turn a b) start old) where
   pub leaves-more : Ends a old new Complete → Leaves whole b start new

@@ -19,6 +19,7 @@ use Rattle.esi_meaning.specs.Inlines.{inline_for}
 use Rattle.esi_meaning.specs.Laws.{SameReply, UnaskedChangesNothing, AsksFew, FailedAttemptLeavesNoText, AttemptWithTextStands, AheadHasSource}
 use Rattle.esi_meaning.specs.Meaning.{elements_run, urls, most_legs, reply_legs, asked}
 use Rattle.esi_meaning.specs.Run.{Leg, Asks, AsksNobody, Run, or_else}
+use Rattle.esi_meaning.proofs.LegLemmas.{all_mapped}
 use Rattle.esi_meaning.proofs.OutcomeLemmas.{rests_on_asked}
 use Rattle.esi_meaning.proofs.StateLemmas.{false_if_not}
 
@@ -29,10 +30,6 @@ no_later y xs x none h = none (Contains-append_right (y ∷ []) xs x h)
 all_others : {X : Type 0} (xs : List X) (x : X) → ¬ Contains xs x → AllByRecursion (λ y. y ≢ x) xs
 all_others [] x none = tt
 all_others (y ∷ xs) x none = (λ e. none (0, omega arith, e), all_others xs x (no_later y xs x none))
-
-all_mapped : {X : Type 0} (P Q : X → Type 0) → ((x : X) → P x → Q x) → (xs : List X) → AllByRecursion P xs → AllByRecursion Q xs
-all_mapped P Q f [] all = tt
-all_mapped P Q f (x ∷ xs) all = (f x all.0, all_mapped P Q f xs all.1)
 
 -- an answer of another URL changes no reply
 found_after : (x : Answered) (w : List ℕ) (old new : Option Answered) → old ≡ new → (b : Bool) → cond b (Some x) old ≡ cond b (Some x) new

@@ -1,5 +1,5 @@
 -- How a legal log grows: by the URL that a page waits for, and by those that are fetched ahead.
-use Rattle.std.proofs.Common.{◌≡◌, ◌⊎◌, ◌≢◌, ℕ, zero, suc, ◌<◌, Bool, true, false, cond, List, [], ◌∷◌, ◌++◌, length, get_or, find, Option, Some, None, refl, sym, ◌∙◌, ap, subst, inl, inr, arith}
+use Rattle.std.proofs.Common.{◌≡◌, ◌⊎◌, ◌≢◌, ℕ, zero, suc, ◌<◌, Bool, true, false, cond, List, [], ◌∷◌, ◌++◌, length, get_or, find, Some, None, Result, Ok, Err, refl, sym, ap, subst, inl, inr, arith, if◌then◌else◌}
 use Rattle.std.specs.List.{Contains, Any}
 use Rattle.std.proofs.lemmas.List.{length-append}
 use Rattle.std.proofs.lemmas.List.Quantifiers.{all_pairs_push}
@@ -7,8 +7,9 @@ use Rattle.std.proofs.lemmas.Slice.Eq.{bytes_eq-Decides}
 use Rattle.edge_types.specs.declared.request.Request.{Request}
 use Rattle.edge_types.specs.Answered.{Answered, processed, body_of}
 use Rattle.edge_types.specs.Table.{is_of, answer_of}
+use Rattle.esi_tree.specs.Reading.{tree_of}
 use Rattle.esi_tree.specs.Tree.{Elements}
-use Rattle.esi_meaning.specs.Ahead.{AsksFor, HasSource, IsLegal, LeadsTo, MayFollow}
+use Rattle.esi_meaning.specs.Ahead.{ahead_of_tree, ahead_of, AsksFor, IsLegal, LeadsTo, MayFollow}
 use Rattle.esi_meaning.specs.Laws.{LegalGrows, WaitedForFollows, AheadFollows}
 use Rattle.esi_meaning.proofs.AskedLemmas.{any_contained, asked_has_source}
 use Rattle.esi_meaning.proofs.LawLemmas.{ahead_has_source}
@@ -89,7 +90,15 @@ ahead_step : (r : Request) (u w : List ℕ) (log : List Answered) (answer : Answ
 ahead_step r u w [] answer c leads = absurd (omega (arith, c.1))
 ahead_step r u w (first ∷ log) answer c leads = any_contained (LeadsTo r w) (first ∷ log) answer c leads
 
+module _ (r : Request) (w : List ℕ) (answer : Answered) where
+  leads_tree : processed answer.reply ≡ true → (read : Result Elements ℕ) → tree_of (body_of answer.reply) ≡ read → Contains (ahead_of_tree r answer.url read) w → LeadsTo r w answer
+  leads_tree is (Ok t) tree c = record { t = t; is_processed = is; is_tree = tree; has_source = (ahead_has_source r answer.url t w c).0 }
+  leads_tree is (Err place) tree c = absurd (omega (arith, c.1))
+
+  leads_if : (b : Bool) → processed answer.reply ≡ b → Contains (if b then ahead_of_tree r answer.url (tree_of (body_of answer.reply)) else []) w → LeadsTo r w answer
+  leads_if true is c = leads_tree is (tree_of (body_of answer.reply)) refl c
+  leads_if false is c = absurd (omega (arith, c.1))
+
 pub ahead_follows : AheadFollows
-ahead_follows r u log answer t w stands is_processed is_tree c =
-    let source = ahead_has_source r answer.url t w c in
-    ahead_step r u w log answer stands (record { t = t; is_processed = is_processed; is_tree = is_tree; has_source = source.0 })
+unfolding ahead_of
+ahead_follows r u log answer w stands c = ahead_step r u w log answer stands (leads_if r w answer (processed answer.reply) refl c)

@@ -38,7 +38,7 @@ none_if : (found : Option Answered) → is_none found ≡ true → found ≡ Non
 none_if None e = refl
 none_if (Some answer) e = absurd (cc)
 
-waits_for : (found : Option (List ℕ)) (result : Shown) (w : List ℕ) → state_from found result ≡ Waiting w → found ≡ Some w
+pub waits_for : (found : Option (List ℕ)) (result : Shown) (w : List ℕ) → state_from found result ≡ Waiting w → found ≡ Some w
 waits_for None result w e = absurd (cc)
 waits_for (Some v) result w e = let same : v ≡ w = cc in ap Some same
 

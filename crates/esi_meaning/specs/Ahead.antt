@@ -1,6 +1,6 @@
 -- The URLs that the sources of a template stand for: those that are fetched ahead, and those that a log may have. Which
 -- are fetched ahead is our profile.
-use Rattle.std.specs.Prelude.{◌≡◌, ℕ, true, List, [], ◌∷◌, ◌++◌, filter_map, Any, Contains, Option, Some, None, Ok, if◌then◌else◌}
+use Rattle.std.specs.Prelude.{◌≡◌, ℕ, true, List, [], ◌∷◌, ◌++◌, filter_map, Any, Contains, Option, Some, None, Result, Ok, Err, if◌then◌else◌}
 use Rattle.edge_types.specs.declared.request.Request.{Request}
 use Rattle.edge_types.specs.Answered.{Answered, processed, body_of}
 use Rattle.edge_types.specs.Asked.{resolve}
@@ -53,6 +53,14 @@ asked_url u t (Some w) = unless_inline w (inline_for u w t)
 -- the URLs to fetch ahead for the template of the URL u with the tree t
 unfoldable pub ahead : Request → List ℕ → Elements → List (List ℕ)
 ahead r u t = filter_map (λ s. asked_url u t (resolve u (substituted r s))) (ahead_sources r t)
+
+-- the URLs to fetch ahead for an answer: none where its body isn't processed or is no template
+abbrev pub ahead_of_tree : Request → List ℕ → Result Elements ℕ → List (List ℕ)
+ahead_of_tree r u (Ok t) = ahead r u t
+ahead_of_tree r u (Err place) = []
+
+unfoldable pub ahead_of : Request → Answered → List (List ℕ)
+ahead_of r answer = if processed answer.reply then ahead_of_tree r answer.url (tree_of (body_of answer.reply)) else []
 
 -- all sources of a template, those of branches that aren't taken too
 abbrev mutual

@@ -1,9 +1,9 @@
 -- What the meaning keeps to, whatever the template.
-use Rattle.std.specs.Prelude.{◌≡◌, ◌⊎◌, ℕ, ◌+◌, ◌≤◌, Bool, true, false, List, [], ◌∷◌, ◌++◌, length, Any, Contains, None, Some, Ok}
+use Rattle.std.specs.Prelude.{◌≡◌, ◌⊎◌, ℕ, ◌+◌, ◌≤◌, Bool, false, List, [], ◌∷◌, ◌++◌, length, bytes_eq, Any, Contains, Option, None, Some}
 use Rattle.std.specs.List.{AllByRecursion, find}
 use Rattle.std.specs.Option.{option_map, unwrap_or}
 use Rattle.edge_types.specs.declared.request.Request.{Request}
-use Rattle.edge_types.specs.Answered.{Answered, processed, body_of}
+use Rattle.edge_types.specs.Answered.{Answered}
 use Rattle.edge_types.specs.Table.{answer_of, reply_of, IsTable, Agrees}
 use Rattle.edge_types.specs.Outcome.{Shown}
 use Rattle.esi_vars.specs.declared.part.Part.{Part}
@@ -12,15 +12,14 @@ use Rattle.esi_expr.specs.Truth.{holds}
 use Rattle.esi_scanner.specs.declared.token.Token.{Token}
 use Rattle.esi_scanner.specs.Spelling.{Spells}
 use Rattle.esi_tree.specs.Items.{items_of}
-use Rattle.esi_tree.specs.Reading.{tree_of}
 use Rattle.esi_tree.specs.Template.{IsTemplate}
 use Rattle.esi_tree.specs.Tree.{Elements, End, Choose, Try, Branches, NoBranch, When, Otherwise}
 use Rattle.esi_meaning.specs.declared.limits.TheConstants.{MAX_LEGS}
-use Rattle.esi_meaning.specs.Ahead.{ahead_in, ahead_sources, ahead, HasSource, AsksFor, MayFollow, IsLegal}
-use Rattle.esi_meaning.specs.Inlines.{names, inline_for, NamedBody, inlines}
+use Rattle.esi_meaning.specs.Ahead.{ahead_in, ahead_sources, ahead, ahead_of, HasSource, AsksFor, MayFollow, IsLegal}
+use Rattle.esi_meaning.specs.Inlines.{names, inline_for, NamedBody, inlines, UrlBody, inline_urls}
 use Rattle.esi_meaning.specs.Meaning.{element_run, elements_run, outcome, asked}
-use Rattle.esi_meaning.specs.Run.{Run}
-use Rattle.esi_meaning.specs.State.{Waiting, Done, is_missing, state_over, state}
+use Rattle.esi_meaning.specs.Run.{Leg, Asks, AsksNobody, Run}
+use Rattle.esi_meaning.specs.State.{Waiting, Done, is_missing, state_over, state, waits_at}
 
 -- two tables reply alike to a URL
 abbrev pub SameReply : List Answered → List Answered → List ℕ → Type 0
@@ -58,6 +57,29 @@ abbrev pub DoneIsOutcome : Type 0
 DoneIsOutcome =
     (r : Request) (log T : List Answered) (L : ℕ) (u : List ℕ) (done : Shown) → IsTable log → Agrees log T → state r log L u ≡ Done done
     → (outcome r T L u ≡ done) × AllByRecursion (IsLogged log) (asked r T L u)
+
+-- this is a leg that asks the URL w, at one of the L levels under a page
+pub record IsLegOf (L : ℕ) (w : List ℕ) (found : Option Leg) : Type 0 where
+  pub level : ℕ
+  pub asks : found ≡ Some (Asks level w)
+  pub above : 1 ≤ level
+  pub within : level ≤ L
+
+-- A page that waits for a URL waits for its own and at no leg, or at a leg of this URL.
+abbrev pub WaitsAtLeg : Type 0
+WaitsAtLeg =
+    (r : Request) (log : List Answered) (L : ℕ) (u w : List ℕ) → state r log L u ≡ Waiting w
+    → ((w ≡ u) × (waits_at r log L u ≡ None)) ⊎ IsLegOf L w (waits_at r log L u)
+
+-- the page waits for the URL that the leg asks
+abbrev pub IsWaitedFor : Request → List Answered → ℕ → List ℕ → Leg → Type 0
+IsWaitedFor r log L u (Asks level w) = state r log L u ≡ Waiting w
+IsWaitedFor r log L u AsksNobody = ⊥
+
+-- A page that waits at a leg waits for the URL of this leg.
+abbrev pub LegIsWaitedFor : Type 0
+LegIsWaitedFor =
+    (r : Request) (log : List Answered) (L : ℕ) (u : List ℕ) (leg : Leg) → waits_at r log L u ≡ Some leg → IsWaitedFor r log L u leg
 
 -- A page has one outcome with and without an answer of a URL that isn't asked for it.
 abbrev pub UnaskedChangesNothing : Type 0
@@ -119,6 +141,11 @@ abbrev pub FirstInlineCounts : Type 0
 FirstInlineCounts =
     (u w : List ℕ) (t : Elements) → inline_for u w t ≡ option_map (λ (i : NamedBody). i.content) (find (λ (i : NamedBody). names u w i.name) (inlines t))
 
+-- The same, looked up by URL among the inlines of which each name is resolved once.
+abbrev pub InlinesByUrl : Type 0
+InlinesByUrl =
+    (u w : List ℕ) (t : Elements) → inline_for u w t ≡ option_map (λ (i : UrlBody). i.content) (find (λ (i : UrlBody). bytes_eq i.url w) (inline_urls u t))
+
 -- What is fetched ahead for a template is a URL that a source of it stands for, and that no inline of it names.
 abbrev pub AheadHasSource : Type 0
 AheadHasSource =
@@ -147,11 +174,10 @@ StillFollows = (r : Request) (u : List ℕ) (first : Answered) (log more : List 
 abbrev pub WaitedForFollows : Type 0
 WaitedForFollows = (r : Request) (log : List Answered) (L : ℕ) (u w : List ℕ) → IsLegal r u log → state r log L u ≡ Waiting w → MayFollow r u log w
 
--- What is fetched ahead for the template of a logged answer may follow the log.
+-- What is fetched ahead for a logged answer may follow the log.
 abbrev pub AheadFollows : Type 0
 AheadFollows =
-    (r : Request) (u : List ℕ) (log : List Answered) (answer : Answered) (t : Elements) (w : List ℕ) → Contains log answer → processed answer.reply ≡ true
-    → tree_of (body_of answer.reply) ≡ Ok t → Contains (ahead r answer.url t) w → MayFollow r u log w
+    (r : Request) (u : List ℕ) (log : List Answered) (answer : Answered) (w : List ℕ) → Contains log answer → Contains (ahead_of r answer) w → MayFollow r u log w
 
 -- A text is spelled by one list of tokens at most.
 abbrev pub OneListOfTokens : Type 0

@@ -140,9 +140,13 @@ module _ (r : Request) (T : List Answered) (L : ℕ) (u : List ℕ) where
   unfoldable pub outcome : Shown
   outcome = reply_outcome (reply_of T u)
 
-  -- the URLs that the outcome rests on: the page's, and those among the legs that a page may try
+  -- the first of its legs, as many as a page may try
+  abbrev pub page_legs : List Leg
+  page_legs = take most_legs (reply_legs (reply_of T u))
+
+  -- the URLs that the outcome rests on: the page's, and those that these legs ask
   unfoldable pub asked : List (List ℕ)
-  asked = u ∷ urls (take most_legs (reply_legs (reply_of T u)))
+  asked = u ∷ urls page_legs
 
 -- a number of levels under a page
 pub record AreLevels (levels : ℕ) : Type 0 where

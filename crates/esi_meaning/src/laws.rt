@@ -1,8 +1,8 @@
 //! Laws of the meaning: each is the contract of a function that does nothing.
 ghost use Rattle.std.specs.Prelude.{◌≡◌};
 ghost use Rattle.esi_meaning.specs.Laws.{OutcomeRestsOnAsked, StateRestsOnLog, LoggedAnswersSuffice, WaitsForAsked, DoneIsOutcome};
-ghost use Rattle.esi_meaning.specs.Laws.{UnaskedChangesNothing, AsksFew, FailedAttemptLeavesNoText, AttemptWithTextStands};
-ghost use Rattle.esi_meaning.specs.Laws.{FirstWhenCounts, FirstWhenIsAhead, FirstInlineCounts, AheadHasSource, AskedHasSource};
+ghost use Rattle.esi_meaning.specs.Laws.{WaitsAtLeg, LegIsWaitedFor, UnaskedChangesNothing, AsksFew, FailedAttemptLeavesNoText, AttemptWithTextStands};
+ghost use Rattle.esi_meaning.specs.Laws.{FirstWhenCounts, FirstWhenIsAhead, FirstInlineCounts, InlinesByUrl, AheadHasSource, AskedHasSource};
 ghost use Rattle.esi_meaning.specs.Laws.{NothingIsLegal, LegalGrows, StillFollows, WaitedForFollows, AheadFollows};
 ghost use Rattle.esi_meaning.specs.Laws.{OneListOfTokens, OneTreeOfTokens};
 
@@ -46,6 +46,21 @@ pub fn waits_for_asked()
 /// Our profile.
 pub fn done_is_outcome()
     ensures { DoneIsOutcome }
+{}
+
+/// A page that waits for a URL waits for its own and at no leg, or at a leg that asks this URL, at
+/// one of the levels under the page. Takes no memory.
+///
+/// Our profile.
+pub fn waits_at_leg()
+    ensures { WaitsAtLeg }
+{}
+
+/// A page that waits at a leg waits for the URL of this leg. Takes no memory.
+///
+/// Our profile.
+pub fn leg_is_waited_for()
+    ensures { LegIsWaitedFor }
 {}
 
 /// What was fetched and isn't asked changes no outcome: a table with one answer more, of a URL
@@ -97,6 +112,14 @@ pub fn first_inline_counts()
     ensures { FirstInlineCounts }
 {}
 
+/// The inline that counts for a URL is the first of this URL in the list of the template's inlines
+/// in which each name is resolved once. Takes no memory.
+///
+/// Our profile.
+pub fn inlines_by_url()
+    ensures { InlinesByUrl }
+{}
+
 /// What is fetched ahead for a template is a URL that a `src` or an `alt` of it stands for, and
 /// that no inline of it names. Takes no memory.
 ///
@@ -114,8 +137,8 @@ pub fn asked_has_source()
 {}
 
 /// No answers are a legal log; a legal log grows by the answer of a URL that may follow and isn't
-/// logged; such a URL is the one that a page waits for, and each that is fetched ahead for the
-/// template of a logged answer, then and later. Takes no memory.
+/// logged; such a URL is the one that a page waits for, and each that is fetched ahead for a logged
+/// answer, then and later. Takes no memory.
 ///
 /// Our profile.
 pub fn legal_logs()
