@@ -231,11 +231,40 @@ fn a_table_takes_each_url_once(rt: HostRuntime) -> Result<(), Fail> {
         ("http://a.test/4", None),
     ] {
         let asked = url(&rt, alloc, at)?;
-        let body = match table.get(&asked).map(|a| a.reply()) {
-            Some(Reply::Got { body, .. }) => Some(body.as_bytes()),
-            _ => None,
-        };
+        let body = table.get(&asked).map(|a| a.body());
         assert_eq!(rt; body, want.map(|w| w.as_bytes()), "{at}");
+    }
+    Ok(())
+}
+
+#[test]
+fn urls_of_one_fingerprint_keep_apart(rt: HostRuntime) -> Result<(), Fail> {
+    let alloc = rt.alloc();
+    let mut table = Table::new(alloc);
+    let urls = [
+        "http://a.test/000000000000038444PdcYU2Hd11111111",
+        "http://a.test/000000000000038444PdcYU2Hd22222222",
+        "http://a.test/000000000000038444PdcYU2Hd33333333",
+    ];
+    for at in urls {
+        let asked = url(&rt, alloc, at)?;
+        assert!(rt; table.get(&asked).is_none(), "{at}");
+        assert!(rt;
+            table
+                .insert(answer(&rt, alloc, at, 200, PLAIN, at)?)
+                .is_ok()
+        );
+    }
+    for at in urls {
+        let asked = url(&rt, alloc, at)?;
+        let body = table.get(&asked).map(|a| a.body());
+        assert_eq!(rt; body, Some(at.as_bytes()), "{at}");
+        assert!(rt;
+            table
+                .insert(answer(&rt, alloc, at, 200, PLAIN, at)?)
+                .is_err(),
+            "{at}"
+        );
     }
     Ok(())
 }
