@@ -1,5 +1,5 @@
 -- A choose is the content of its first `when` whose test holds, else that of its otherwise.
-use Rattle.std.proofs.Common.{◌≡◌, Bool, true, false, cond, List, [], Option, Some, refl, sym, ◌∙◌, ap, if◌then◌else◌}
+use Rattle.std.proofs.Common.{◌≡◌, Bool, true, false, cond, List, Option, Some, refl, sym, ◌∙◌, ap, if◌then◌else◌}
 use Rattle.std.specs.List.{find}
 use Rattle.std.specs.Option.{option_map, unwrap_or}
 use Rattle.edge_types.specs.declared.request.Request.{Request}
@@ -7,7 +7,7 @@ use Rattle.esi_vars.specs.declared.part.Part.{Part}
 use Rattle.esi_expr.specs.Truth.{holds}
 use Rattle.esi_tree.specs.Tree.{Elements, End, Branches, NoBranch, When, Otherwise}
 use Rattle.esi_meaning.specs.Ahead.{ahead_sources, ahead_among}
-use Rattle.esi_meaning.specs.Laws.{Guarded, whens, otherwise_or, taken, FirstWhenCounts, FirstWhenIsAhead}
+use Rattle.esi_meaning.specs.Laws.{Guarded, whens, otherwise_or, FirstWhenCounts, FirstWhenIsAhead}
 use Rattle.esi_meaning.specs.Meaning.{elements_run, chosen_content}
 use Rattle.esi_meaning.proofs.Legs.{chosen_run_content}
 

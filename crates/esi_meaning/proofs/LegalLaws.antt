@@ -1,14 +1,13 @@
 -- How a legal log grows: by the URL that a page waits for, and by those that are fetched ahead.
-use Rattle.std.proofs.Common.{◌≡◌, ◌⊎◌, ◌≢◌, ℕ, zero, suc, ◌<◌, Bool, true, false, cond, List, [], ◌∷◌, ◌++◌, length, get_or, find, Option, Some, None, refl, sym, ◌∙◌, ap, subst, inl, inr, arith}
+use Rattle.std.proofs.Common.{◌≡◌, ◌⊎◌, ◌≢◌, ℕ, zero, suc, ◌<◌, Bool, true, false, cond, List, [], ◌∷◌, ◌++◌, length, get_or, find, Some, None, refl, sym, ap, subst, inl, inr, arith}
 use Rattle.std.specs.List.{Contains, Any}
 use Rattle.std.proofs.lemmas.List.{length-append}
 use Rattle.std.proofs.lemmas.List.Quantifiers.{all_pairs_push}
 use Rattle.std.proofs.lemmas.Slice.Eq.{bytes_eq-Decides}
 use Rattle.edge_types.specs.declared.request.Request.{Request}
-use Rattle.edge_types.specs.Answered.{Answered, processed, body_of}
+use Rattle.edge_types.specs.Answered.{Answered}
 use Rattle.edge_types.specs.Table.{is_of, answer_of}
-use Rattle.esi_tree.specs.Tree.{Elements}
-use Rattle.esi_meaning.specs.Ahead.{AsksFor, HasSource, IsLegal, LeadsTo, MayFollow}
+use Rattle.esi_meaning.specs.Ahead.{AsksFor, IsLegal, LeadsTo, MayFollow}
 use Rattle.esi_meaning.specs.Laws.{LegalGrows, WaitedForFollows, AheadFollows}
 use Rattle.esi_meaning.proofs.AskedLemmas.{any_contained, asked_has_source}
 use Rattle.esi_meaning.proofs.LawLemmas.{ahead_has_source}

@@ -1,5 +1,5 @@
 -- An outcome rests on what was asked for it.
-use Rattle.std.proofs.Common.{◌≡◌, ◌⊎◌, ℕ, zero, suc, ◌<◌, ◌≤◌, Bool, true, false, List, [], ◌∷◌, length, take, Some, None, Result, Ok, Err, refl, sym, ◌∙◌, ap, inl, inr, arith, nat_lt, lt-ltb, if◌then◌else◌}
+use Rattle.std.proofs.Common.{◌≡◌, ◌⊎◌, ℕ, zero, suc, ◌<◌, ◌≤◌, Bool, true, false, List, [], ◌∷◌, length, take, Result, Ok, Err, refl, sym, ◌∙◌, ap, inl, inr, arith, nat_lt, lt-ltb, if◌then◌else◌}
 use Rattle.std.proofs.lemmas.List.{length-take, take-take}
 use Rattle.std.specs.List.{AllByRecursion}
 use Rattle.edge_types.specs.declared.request.Request.{Request}

@@ -12,7 +12,9 @@ ghost use Rattle.esi_meaning.specs.Run.{AsksNobody, tries};
 use crate::choice::chosen;
 use crate::inlines::inline_for;
 use crate::limits::MAX_LEGS;
-use crate::progress::{Ending, Progress, count_leg, no_leg, on_error, push_text, push_values, unprocessed};
+use crate::progress::{
+    Ending, Progress, count_leg, no_leg, on_error, push_text, push_values, unprocessed,
+};
 use edge_types::{Answer, NoMemory, PageUrl, Request, Table};
 use esi_tree::{Branch, Node, Parts, Template, TreeFault, template};
 use esi_vars::{Part, substitute};
@@ -79,7 +81,12 @@ fn element(
 {
     match node {
         Node::Text(text) => push_text(setting.alloc, text, progress),
-        Node::VarsText(parts) => push_values(setting.alloc, setting.request, parts.as_slice(), progress),
+        Node::VarsText(parts) => push_values(
+            setting.alloc,
+            setting.request,
+            parts.as_slice(),
+            progress,
+        ),
         Node::Include {
             src,
             alt,

@@ -35,7 +35,11 @@ pub(crate) struct Progress {
 }
 
 /// A text that is given out as it stands.
-pub(crate) fn push_text(alloc: Global, text: &Octets, progress: &mut Progress) -> Result<Ending, NoMemory>
+pub(crate) fn push_text(
+    alloc: Global,
+    text: &Octets,
+    progress: &mut Progress,
+) -> Result<Ending, NoMemory>
     requires { progress.old.legs ≤ MAX_LEGS }
     ensures { IfOk result
         (Ends (gives (Some text.now)) progress.old progress.new) }

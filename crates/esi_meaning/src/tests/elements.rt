@@ -199,7 +199,11 @@ fn a_choose_goes_by_its_tests(rt: HostRuntime) -> Result<(), Fail> {
             "/p 200 esi <esi:choose><esi:when test=\"{test}\">Y</esi:when><esi:otherwise>N</esi:otherwise></esi:choose>"
         )?;
         let got = told_of(rt.alloc(), case.as_str(), NO_FIELDS, 4)?.ok_or("a case")?;
-        let want = if holds { "200 text/p Y" } else { "200 text/p N" };
+        let want = if holds {
+            "200 text/p Y"
+        } else {
+            "200 text/p N"
+        };
         assert_eq!(rt; got.as_str(), want, "{test}");
     }
     Ok(())
