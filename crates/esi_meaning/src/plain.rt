@@ -4,7 +4,7 @@ ghost use Rattle.std.specs.Arc.{arc_value};
 ghost use Rattle.esi_tree.specs.Shown.{element_of, elements_of, branches_of};
 ghost use Rattle.esi_tree.specs.Tree.{depth, element_depth, branches_depth};
 ghost use Rattle.esi_meaning.specs.Ending.{Ends};
-ghost use Rattle.esi_meaning.specs.Plain.{FitsDepth, IsShallow};
+ghost use Rattle.esi_meaning.specs.Plain.{FitsDepth};
 ghost use Rattle.esi_meaning.specs.Plain.{leg_at, elements_at, element_at, choice_at, try_at, include_at, alternative_at};
 ghost use Rattle.esi_meaning.specs.Plain.{named_at, fetched_at, reply_at, body_at};
 ghost use Rattle.esi_meaning.specs.Run.{tries};
@@ -45,7 +45,6 @@ pub fn elements(
     progress: &mut Progress,
 ) -> Result<Ending, NoMemory>
     requires few { progress.old.legs ≤ MAX_LEGS }
-    requires shallow_tree { IsShallow place }
     requires shallow { FitsDepth (depth (elements_of nodes.now)) }
     ensures { IfOk result
         (Ends (elements_at setting.now place.entry (elements_of nodes.now)) progress.old progress.new) }
@@ -72,7 +71,6 @@ fn element(
     progress: &mut Progress,
 ) -> Result<Ending, NoMemory>
     requires few { progress.old.legs ≤ MAX_LEGS }
-    requires shallow_tree { IsShallow place }
     requires shallow { FitsDepth (element_depth (element_of node.now)) }
     ensures { IfOk result
         (Ends (element_at setting.now place.entry (element_of node.now)) progress.old progress.new) }
@@ -114,7 +112,6 @@ fn choose(
     progress: &mut Progress,
 ) -> Result<Ending, NoMemory>
     requires few { progress.old.legs ≤ MAX_LEGS }
-    requires shallow_tree { IsShallow place }
     requires shallow { FitsDepth (branches_depth (branches_of branches.now)) }
     ensures { IfOk result
         (Ends (choice_at setting.now place.entry (branches_of branches.now)) progress.old progress.new) }
@@ -133,7 +130,6 @@ fn one_of(
     progress: &mut Progress,
 ) -> Result<Ending, NoMemory>
     requires few { progress.old.legs ≤ MAX_LEGS }
-    requires shallow_tree { IsShallow place }
     requires shallow_attempt { FitsDepth (depth (elements_of attempt.now)) }
     requires shallow_except { FitsDepth (depth (elements_of except.now)) }
     ensures { IfOk result
@@ -157,7 +153,6 @@ fn include(
     progress: &mut Progress,
 ) -> Result<Ending, NoMemory>
     requires few { progress.old.legs ≤ MAX_LEGS }
-    requires shallow_tree { IsShallow place }
     ensures { IfOk result
         (Ends (include_at setting.now place.entry src.now alt.now continues) progress.old progress.new) }
 {
@@ -178,7 +173,6 @@ fn alternative(
     progress: &mut Progress,
 ) -> Result<Ending, NoMemory>
     requires few { progress.old.legs ≤ MAX_LEGS }
-    requires shallow_tree { IsShallow place }
     ensures { IfOk result
         (Ends (alternative_at setting.now place.entry alt.now continues) progress.old progress.new) }
 {
@@ -202,7 +196,6 @@ fn leg(
     progress: &mut Progress,
 ) -> Result<Ending, NoMemory>
     requires few { progress.old.legs ≤ MAX_LEGS }
-    requires shallow_tree { IsShallow place }
     ensures { IfOk result
         (Ends (leg_at setting.now place.entry text.now) progress.old progress.new) }
 {
@@ -230,7 +223,6 @@ fn named(
     progress: &mut Progress,
 ) -> Result<Ending, NoMemory>
     requires few { progress.old.legs ≤ MAX_LEGS }
-    requires shallow_tree { IsShallow place }
     ensures { IfOk result
         (Ends (named_at setting.now place.entry url.now) progress.old progress.new) }
 {
@@ -249,7 +241,6 @@ fn inlined(
     progress: &mut Progress,
 ) -> Result<Ending, NoMemory>
     requires few { progress.old.legs ≤ MAX_LEGS }
-    requires shallow_tree { IsShallow place }
     requires shallow { FitsDepth (depth (elements_of content.now)) }
     ensures { IfOk result
         (Ends (tries None (elements_at setting.now place.entry (elements_of content.now))) progress.old progress.new) }
