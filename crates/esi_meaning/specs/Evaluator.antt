@@ -7,9 +7,10 @@ use Rattle.edge_types.specs.Table.{reply_of}
 use Rattle.esi_vars.specs.declared.part.Part.{Part}
 use Rattle.esi_tree.specs.declared.node.Node.{Node}
 use Rattle.esi_tree.specs.declared.open_elements.TheConstants.{OPEN_LIMIT}
-use Rattle.esi_tree.specs.Tree.{Element, Elements, Branches, depth}
+use Rattle.esi_tree.specs.Tree.{Element, Elements, Branches}
 use Rattle.esi_tree.specs.Reading.{tree_of}
-use Rattle.esi_tree.specs.Shown.{elements_of, tree_in}
+use Rattle.esi_tree.specs.Answer.{tree_in}
+use Rattle.esi_tree.specs.Shown.{elements_of}
 use Rattle.esi_meaning.specs.declared.evaluator.Setting.{Setting}
 use Rattle.esi_meaning.specs.declared.evaluator.Standing.{Standing}
 use Rattle.esi_meaning.specs.Meaning.{alt_run, on_error, element_run, elements_run, chosen_run, template_run, reply_run, resolved_run, leg_run, reply_outcome, tree_outcome}
@@ -18,10 +19,6 @@ use Rattle.esi_meaning.specs.Run.{Asks, Run, gives, tries, or_else}
 -- as deep as a template may be: its open elements, and one run of text in the innermost
 abbrev pub FitsDepth : ℕ → Type 0
 FitsDepth d = d ≤ OPEN_LIMIT + 1
-
--- the template is so
-abbrev pub IsShallowTemplate : Standing → Type 0
-IsShallowTemplate here = FitsDepth (depth (tree_in here.template.now))
 
 -- a leg, several elements, one element
 abbrev pub leg_at : Setting → Standing → List Part → Run

@@ -4,7 +4,7 @@ ghost use Rattle.std.specs.Arc.{arc_value};
 ghost use Rattle.esi_tree.specs.Shown.{element_of, elements_of, branches_of};
 ghost use Rattle.esi_tree.specs.Tree.{depth, element_depth, branches_depth};
 ghost use Rattle.esi_meaning.specs.Ending.{Ends};
-ghost use Rattle.esi_meaning.specs.Evaluator.{FitsDepth, IsShallowTemplate};
+ghost use Rattle.esi_meaning.specs.Evaluator.{FitsDepth};
 ghost use Rattle.esi_meaning.specs.Evaluator.{leg_at, elements_at, element_at, choice_at, try_at, include_at, alternative_at};
 ghost use Rattle.esi_meaning.specs.Evaluator.{named_at, fetched_at, reply_at, body_at};
 ghost use Rattle.esi_meaning.specs.Run.{AsksNobody, tries};
@@ -47,7 +47,6 @@ pub(crate) fn elements(
     progress: &mut Progress,
 ) -> Result<Ending, NoMemory>
     requires few { progress.old.legs ≤ MAX_LEGS }
-    requires shallow_tree { IsShallowTemplate standing }
     requires shallow { FitsDepth (depth (elements_of nodes.now)) }
     ensures { IfOk result
         (Ends (elements_at setting.now standing.entry (elements_of nodes.now)) progress.old progress.new) }
@@ -74,7 +73,6 @@ fn element(
     progress: &mut Progress,
 ) -> Result<Ending, NoMemory>
     requires few { progress.old.legs ≤ MAX_LEGS }
-    requires shallow_tree { IsShallowTemplate standing }
     requires shallow { FitsDepth (element_depth (element_of node.now)) }
     ensures { IfOk result
         (Ends (element_at setting.now standing.entry (element_of node.now)) progress.old progress.new) }
@@ -121,7 +119,6 @@ fn choose(
     progress: &mut Progress,
 ) -> Result<Ending, NoMemory>
     requires few { progress.old.legs ≤ MAX_LEGS }
-    requires shallow_tree { IsShallowTemplate standing }
     requires shallow { FitsDepth (branches_depth (branches_of branches.now)) }
     ensures { IfOk result
         (Ends (choice_at setting.now standing.entry (branches_of branches.now)) progress.old progress.new) }
@@ -140,7 +137,6 @@ fn one_of(
     progress: &mut Progress,
 ) -> Result<Ending, NoMemory>
     requires few { progress.old.legs ≤ MAX_LEGS }
-    requires shallow_tree { IsShallowTemplate standing }
     requires shallow_attempt { FitsDepth (depth (elements_of attempt.now)) }
     requires shallow_except { FitsDepth (depth (elements_of except.now)) }
     ensures { IfOk result
@@ -163,7 +159,6 @@ fn include(
     progress: &mut Progress,
 ) -> Result<Ending, NoMemory>
     requires few { progress.old.legs ≤ MAX_LEGS }
-    requires shallow_tree { IsShallowTemplate standing }
     ensures { IfOk result
         (Ends (include_at setting.now standing.entry src.now alt.now continues) progress.old progress.new) }
 {
@@ -183,7 +178,6 @@ fn alternative(
     progress: &mut Progress,
 ) -> Result<Ending, NoMemory>
     requires few { progress.old.legs ≤ MAX_LEGS }
-    requires shallow_tree { IsShallowTemplate standing }
     ensures { IfOk result
         (Ends (alternative_at setting.now standing.entry alt.now continues) progress.old progress.new) }
 {
@@ -206,7 +200,6 @@ fn leg(
     progress: &mut Progress,
 ) -> Result<Ending, NoMemory>
     requires few { progress.old.legs ≤ MAX_LEGS }
-    requires shallow_tree { IsShallowTemplate standing }
     ensures { IfOk result
         (Ends (leg_at setting.now standing.entry text.now) progress.old progress.new) }
 {
@@ -233,7 +226,6 @@ fn named(
     progress: &mut Progress,
 ) -> Result<Ending, NoMemory>
     requires few { progress.old.legs ≤ MAX_LEGS }
-    requires shallow_tree { IsShallowTemplate standing }
     ensures { IfOk result
         (Ends (named_at setting.now standing.entry url.now) progress.old progress.new) }
 {
@@ -252,7 +244,6 @@ fn inlined(
     progress: &mut Progress,
 ) -> Result<Ending, NoMemory>
     requires few { progress.old.legs ≤ MAX_LEGS }
-    requires shallow_tree { IsShallowTemplate standing }
     requires shallow { FitsDepth (depth (elements_of content.now)) }
     ensures { IfOk result
         (Ends (tries AsksNobody (elements_at setting.now standing.entry (elements_of content.now))) progress.old progress.new) }

@@ -4,9 +4,9 @@ use crate::node::{Branch, Node};
 
 // An element of a run, a branch of a choose, or a part of a try.
 #[derive(Drop)]
-pub enum Piece {
+pub(crate) enum Child {
     Element(Node),
-    Arm(Branch),
+    Branch(Branch),
     Attempt(Vec<Node>),
     Except(Vec<Node>),
 }
