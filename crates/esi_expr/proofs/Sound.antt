@@ -9,7 +9,7 @@ use Rattle.std.proofs.lemmas.List.Sums.{list_all-from_AllPass, prefix_len_passes
 use Rattle.std.proofs.lemmas.Option.{cond_some, option_and_then_some, some_pair_parts}
 use Rattle.esi_vars.specs.declared.reference.Reference.{Reference}
 use Rattle.edge_types.specs.WhiteSpace.{is_ws}
-use Rattle.esi_vars.specs.Reading.{◌>>=◌, cut_at, reference_at}
+use Rattle.esi_vars.specs.Reading.{◌>>=◌, after_byte, cut_at, reference_at}
 use Rattle.esi_vars.proofs.Sound.{Stands, after_sound, cut_sound}
 use Rattle.esi_vars.proofs.Theorems.{reads_references}
 use Rattle.esi_expr.specs.declared.expr.Comparison.{Comparison}

@@ -6,7 +6,7 @@ ghost use Rattle.std.specs.List.{prefix_len};
 ghost use Rattle.std.specs.Option.{option_copied};
 ghost use Rattle.esi_vars.specs.Reading.{cut_at, reference_at};
 ghost use Rattle.esi_vars.specs.Shown.{shown_run};
-ghost use Rattle.esi_expr.specs.Reading.{after_ws, after_sign, paired, alone, comparison_at, digits_at, referred, quoted, numbered, operand_by, operand_at};
+ghost use Rattle.esi_expr.specs.Reading.{after_ws, after_sign, paired, alone, symbol_at, comparison_at, digits_at, referred, quoted, numbered, operand_by, operand_at};
 ghost use Rattle.esi_expr.specs.Shown.{shown};
 
 use crate::expr::{Comparison, Operand};

@@ -1,9 +1,9 @@
 //! Reads tests. Each reader gives what it read and what follows it.
 
-ghost use Rattle.std.specs.Prelude.{◌≡◌, suc, IfOk, option_map};
+ghost use Rattle.std.specs.Prelude.{◌≡◌, ◌≤◌, suc, length, IfOk, IfSome, option_map};
 ghost use Rattle.std.specs.Option.{option_copied};
-ghost use Rattle.esi_expr.specs.Reading.{plain_at, conj_with, test_with, not_with, group_with, closed, neg_at, read_test, after_sign, after_ws};
-ghost use Rattle.esi_expr.specs.Shown.{shown_by, test_of, conj_of, neg_of};
+ghost use Rattle.esi_expr.specs.Reading.{compared, plain_at, conj_with, test_with, not_with, group_with, closed, neg_at, ended, read_test, after_sign, after_ws};
+ghost use Rattle.esi_expr.specs.Shown.{shown, shown_by, test_of, conj_of, neg_of};
 
 use crate::expr::{Conjunction, Expr, Negation, Operand};
 use crate::part::{after_sign, after_ws, comparison_at, operand_at};
