@@ -1,16 +1,16 @@
 -- A field's parts, their names and values are those that stand in it.
-use Rattle.std.proofs.Common.{◌≡◌, ◌≢◌, ℕ, zero, suc, ◌+◌, ◌-◌, ◌<◌, ◌≤◌, ◌==◌, not, Bool, true, false, List, [], ◌∷◌, ◌++◌, length, take, drop, get_or, reverse, Option, Some, None, nat_lt, bytes_eq, refl, sym, ◌∙◌, ap, subst, inl, inr, ◌⊎◌, append_assoc, arith}
+use Rattle.std.proofs.Common.{◌≡◌, ℕ, zero, suc, ◌+◌, ◌-◌, ◌<◌, ◌≤◌, ◌==◌, Bool, true, false, List, [], ◌∷◌, ◌++◌, length, take, drop, get_or, reverse, nat_lt, bytes_eq, refl, sym, ◌∙◌, ap, subst, inl, inr, append_assoc, arith}
 use Rattle.std.specs.List.{All, AllPass, Contains, join_with_byte, position_or_len, prefix_len, suffix_len, slice_split, onto_first}
 use Rattle.std.proofs.lemmas.Bool.{eqb-true, eq-eqb, lt-ltb, le-ltb}
-use Rattle.std.proofs.lemmas.List.{take_at, drop_at, take_all, drop_all, take_more, take-append-drop, length-append, length-take, length-drop, length-reverse, get_or-take, get_or-drop, get_or-reverse, get_or_default, get_or_at, get_or_append_left, get_or-append_right, append-nil, length_push}
+use Rattle.std.proofs.lemmas.List.{take_at, drop_at, take_all, take_more, take-append-drop, length-append, length-take, length-drop, length-reverse, get_or-take, get_or-drop, get_or-reverse, get_or_default, get_or_at, get_or_append_left, get_or-append_right, append-nil, length_push}
 use Rattle.std.proofs.lemmas.List.Elements.{All-nil, All-cons, All-head, All-tail, All-append}
 use Rattle.std.proofs.lemmas.List.Splits.{slice_split_none, slice_split_at, length-slice_split, join_with_byte-slice_split}
-use Rattle.std.proofs.lemmas.List.Sums.{split_at_first, fails_before_first, passes_at_first, position_or_len_is, prefix_len_passes, prefix_len_stops, prefix_len-le-length, suffix_len-le-length, suffix_len_is, prefix_len_is}
+use Rattle.std.proofs.lemmas.List.Sums.{split_at_first, fails_before_first, passes_at_first, position_or_len_is, prefix_len_passes, prefix_len_stops, suffix_len_is}
 use Rattle.std.proofs.lemmas.Slice.Eq.{bytes_eq-Decides}
 use Rattle.esi_vars.specs.Reference.{is_blank}
 use Rattle.esi_vars.specs.Reading.{cut_at}
 use Rattle.esi_vars.specs.Field.{parts_between, trimmed_front, trimmed_end, trimmed, halves, named}
-use Rattle.esi_vars.specs.Finds.{AreParts, IsTrimmed, AreHalves, HasName, IsFirstNamed, IsNamed}
+use Rattle.esi_vars.specs.Finds.{AreParts, IsTrimmed, AreHalves, HasName, IsNamed}
 use Rattle.esi_vars.proofs.Complete.{prefix_len-run}
 use Rattle.esi_vars.specs.Laws.{CutsFields, TrimsTexts, CutsOnce, LooksUp}
 

@@ -1,4 +1,5 @@
--- References, and how they are spelled.
+-- References, and how they are spelled (ESI Language Specification 1.0, "Variables"; names, keys and defaults byte by
+-- byte are our profile).
 use Rattle.std.specs.Prelude.{◌≡◌, ◌⊎◌, ℕ, ◌<◌, Bool, not, ◌||◌, ◌==◌, List, [], ◌++◌, length, codes, bytes_eq, Option, Some, None, if◌then◌else◌}
 use Rattle.std.specs.List.{AllPass}
 use Rattle.std.specs.Char.{is_ascii_alphanumeric, is_ascii_digit, char_set_contains}

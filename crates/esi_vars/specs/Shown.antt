@@ -23,7 +23,7 @@ abbrev pub shown_optional : Option (Option (Bor (List ℕ)) × Bor (List ℕ)) �
 shown_optional None = None
 shown_optional (Some x) = Some (option_copied x.0, x.1.now)
 
--- the same, where there is one, and what follows it
+-- a reference as it is written, where there is one, and what follows it
 abbrev pub shown_found : Option (code.Written × Bor (List ℕ)) → Option (Written × List ℕ)
 shown_found None = None
 shown_found (Some x) = Some (shown_written x.0, x.1.now)

@@ -1,4 +1,5 @@
--- What references stand for, and the text in which each is replaced by its value.
+-- What references stand for, and the text in which each is replaced by its value (ESI Language Specification 1.0,
+-- "Variables"; the parts of fields are our profile).
 use Rattle.std.specs.Prelude.{ℕ, nat_le, List, [], ◌∷◌, length, Option, Some, None, if◌then◌else◌}
 use Rattle.std.specs.List.{flat_map}
 use Rattle.edge_types.specs.declared.request.Request.{Request}
