@@ -2,6 +2,7 @@
 ghost use Rattle.std.specs.Prelude.{◌≡◌, ◌+◌, ◌≤◌};
 ghost use Rattle.esi_tree.specs.Tree.{depth};
 ghost use Rattle.esi_tree.specs.Shown.{elements_of};
+ghost use Rattle.esi_tree.specs.declared.open_elements.TheConstants.{OPEN_LIMIT};
 
 use crate::node::Node;
 use crate::open_elements::OPEN_LIMIT;
