@@ -1,5 +1,5 @@
 -- What several writes leave, one after another.
-use Rattle.std.proofs.Common.{◌≡◌, ◌≢◌, arith, ℕ, ◌+◌, ◌<◌, List, [], ◌∷◌, ◌++◌, length, take, drop, get_or, slice_get, refl, sym, ◌∙◌, ap, subst, Option, Some, None, Result, Ok, Err, OnErr, append_assoc, append-nil, take-append-drop}
+use Rattle.std.proofs.Common.{◌≡◌, ℕ, ◌+◌, ◌<◌, List, [], ◌∷◌, ◌++◌, length, take, drop, get_or, slice_get, refl, sym, ◌∙◌, ap, subst, Option, Some, None, Result, Ok, Err, OnErr, arith, length-append, append_assoc, append-nil, take-append-drop}
 use Rattle.std.proofs.KnownBytes.{Appends-nil, Appends-trans, Appends-kept}
 use Rattle.std.proofs.lemmas.List.{take_more}
 use Rattle.std.proofs.lemmas.List.Folds.{concat-append}
@@ -24,45 +24,33 @@ upto_more a b c bytes rest n u w = record {
 pub upto_kept : (a b c : Option (List ℕ)) (bytes rest : List ℕ) → AppendsUpTo a b bytes rest → Keeps b c → AppendsUpTo a c bytes rest
 upto_kept a b c bytes rest u k = record { part = u.part; whole = u.whole; written = Appends-kept a b c u.part u.written k }
 
--- a write that fails where something is left to write
-pub part_kept : (a b c : Option (List ℕ)) (bytes rest : List ℕ) → AppendsUpTo a b bytes rest → rest ≢ [] → Keeps b c → AppendsPart a c bytes
-part_kept a b c bytes rest u left k = (rest, not_empty rest left, upto_kept a b c bytes rest u k)
-  where
-    not_empty : (xs : List ℕ) → xs ≢ [] → 0 < length xs
-    not_empty [] h = absurd (h refl)
-    not_empty (x ∷ xs) h = omega arith
-
 -- nothing is left to write
 pub upto_all : (a b : Option (List ℕ)) (bytes rest : List ℕ) → AppendsUpTo a b bytes rest → rest ≡ [] → Appends a b bytes
 upto_all a b bytes rest u e =
     subst (λ (t : List ℕ). Appends a b t) (sym (u.whole ∙ ap (λ (r : List ℕ). u.part ++ r) e ∙ append-nil u.part)) u.written
 
-longer : (xs ys : List ℕ) → 0 < length xs → 0 < length (xs ++ ys)
-longer [] ys h = absurd (omega arith)
-longer (x ∷ xs) ys h = omega arith
-
 -- a first part of what stands before more
 pub part_front : (a b : Option (List ℕ)) (bytes back : List ℕ) → AppendsPart a b bytes → AppendsPart a b (bytes ++ back)
 part_front a b bytes back p = (
   p.0 ++ back,
-  longer p.0 back p.1,
   record {
-    part = p.2.part;
-    whole = ap (λ (t : List ℕ). t ++ back) p.2.whole ∙ append_assoc p.2.part p.0 back;
-    written = p.2.written;
+    part = p.1.part;
+    whole = ap (λ (t : List ℕ). t ++ back) p.1.whole ∙ append_assoc p.1.part p.0 back;
+    written = p.1.written;
   },
+  omega (arith, p.2, length-append p.0 back),
 )
 
 -- a first part of what stands behind what is written
 pub part_behind : (a b c : Option (List ℕ)) (front bytes : List ℕ) → Appends a b front → AppendsPart b c bytes → AppendsPart a c (front ++ bytes)
 part_behind a b c front bytes w p = (
   p.0,
-  p.1,
   record {
-    part = front ++ p.2.part;
-    whole = ap (λ (t : List ℕ). front ++ t) p.2.whole ∙ sym (append_assoc front p.2.part p.0);
-    written = Appends-trans a b c front p.2.part w p.2.written;
+    part = front ++ p.1.part;
+    whole = ap (λ (t : List ℕ). front ++ t) p.1.whole ∙ sym (append_assoc front p.1.part p.0);
+    written = Appends-trans a b c front p.1.part w p.1.written;
   },
+  p.2,
 )
 
 -- ---- pieces

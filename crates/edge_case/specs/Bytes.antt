@@ -33,4 +33,4 @@ pub record AppendsUpTo (before after : Option (List ℕ)) (bytes rest : List ℕ
 
 -- the known bytes grew by a first part of these, and not by all
 abbrev pub AppendsPart : Option (List ℕ) → Option (List ℕ) → List ℕ → Type 0
-AppendsPart before after bytes = (rest : List ℕ) × (0 < length rest) × AppendsUpTo before after bytes rest
+AppendsPart before after bytes = (rest : List ℕ) × AppendsUpTo before after bytes rest × (0 < length rest)
