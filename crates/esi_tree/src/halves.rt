@@ -4,8 +4,8 @@ ghost use Rattle.esi_tree.specs.Shown.{elements_of};
 ghost use Rattle.esi_tree.specs.State.{halves_of, shown_child};
 ghost use Rattle.esi_tree.specs.Reading.{with_attempt, with_except, lacks_attempt, lacks_except, stands_in_try, try_of};
 
-use crate::node::Node;
 use crate::child::Child;
+use crate::node::Node;
 use esi_scanner::ElementName;
 use std::mem;
 

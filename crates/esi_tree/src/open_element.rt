@@ -6,10 +6,10 @@ ghost use Rattle.esi_tree.specs.Shown.{element_of, elements_of, branch_of, branc
 ghost use Rattle.esi_tree.specs.State.{frame_of, shown_child};
 ghost use Rattle.esi_tree.specs.Reading.{AnElement, with_element, with_branch, with_attempt, with_except, with_half, grown, holds_run, is_vars, is_when, is_otherwise, stands_in_run, stands_in_choose, stands_in, name_of, choose_of, child_of};
 
+use crate::child::Child;
 use crate::halves::Halves;
 use crate::node::{Branch, Node};
 use crate::parts::Parts;
-use crate::child::Child;
 use edge_types::{NoMemory, Octets};
 use esi_expr::Expr;
 use esi_scanner::ElementName;

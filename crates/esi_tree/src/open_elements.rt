@@ -6,8 +6,8 @@ ghost use Rattle.std.specs.List.{list_any};
 ghost use Rattle.esi_tree.specs.Reading.{is_run, is_vars, in_vars, may_stand};
 ghost use Rattle.esi_tree.specs.State.{frame_of, frames_of, shown_child, grown_innermost, is_none_open};
 
-use crate::open_element::{OpenElement, stands_in_run};
 use crate::child::Child;
+use crate::open_element::{OpenElement, stands_in_run};
 use edge_types::NoMemory;
 use esi_scanner::ElementName;
 use std::alloc::Global;

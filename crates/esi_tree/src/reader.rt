@@ -7,11 +7,11 @@ ghost use Rattle.esi_tree.specs.Reading.{start, grown_page, put, after_text, aft
 ghost use Rattle.esi_tree.specs.Items.{item_of};
 ghost use Rattle.esi_tree.specs.State.{shown_child, state_of, some_if, EndsShallow};
 
+use crate::child::Child;
 use crate::fault::TreeFault;
 use crate::node::Node;
 use crate::open_element::push_node;
 use crate::open_elements::{OPEN_LIMIT, OpenElements};
-use crate::child::Child;
 use crate::tag::{bytes_at, is_white, opened_by, text_node};
 use crate::tree::Template;
 use edge_types::NoMemory;
