@@ -1,6 +1,7 @@
 //! The cache: the calls of a shard beside `lru` alone, and flights beside fewer flights.
 
-use crate::timing::ratio;
+use crate::inputs::{or_io_error, url};
+use crate::timing::{Least, nanoseconds_each, ratio};
 use edge_types::{Answer, Control, Octets, PageUrl, SharedAnswer};
 use fragment_cache::{Begun, Flight, MAX_CAPACITY, MAX_FLIGHTS, Picked, Shard};
 use lru::LruCache;
@@ -8,7 +9,7 @@ use std::alloc::Global;
 use std::io;
 use std::num::NonZeroUsize;
 use std::sync::Arc;
-use std::time::{Duration, Instant};
+use std::time::Duration;
 
 // How many answers there are to ask for: twice as many as a shard stores.
 const URLS: usize = 2 * MAX_CAPACITY;
@@ -54,19 +55,43 @@ fn answer(alloc: Global, number: usize) -> io::Result<Arc<Answer>> {
         esi: false,
     };
     let text = format!(in alloc; "http://a.test/fragments/{number}")?;
-    let Ok(Some(url)) = PageUrl::parse(alloc, text.as_bytes()) else {
-        return Err(no_memory());
-    };
+    let url = url(alloc, text.as_bytes())?;
     let content_type = Octets::of(Vec::new(alloc));
     let body = Octets::of(text.into_bytes());
     match Answer::got(url, 200, content_type, control, body) {
         Some(answer) => Ok(Arc::new(alloc, answer)?),
-        None => Err(no_memory()),
+        None => Err(io::Error::from(io::ErrorKind::InvalidInput)),
     }
 }
 
-fn no_memory() -> io::Error {
-    io::Error::from(io::ErrorKind::OutOfMemory)
+// What stores answers by their URLs.
+trait Store: Drop {
+    // Whether the answer is stored; it is fetched and stored where it isn't.
+    fn ask(&mut self, answer: &Arc<Answer>) -> io::Result<bool>;
+}
+
+impl Store for Shard {
+    fn ask(&mut self, answer: &Arc<Answer>) -> io::Result<bool> {
+        match self.begin(answer.url(), 0) {
+            Begun::Hit(_) => Ok(true),
+            Begun::Lead(flight, _) => {
+                self.land(flight, Arc::try_clone(answer)?, 0);
+                Ok(false)
+            }
+            Begun::Join(_) | Begun::Bypass => Ok(false),
+        }
+    }
+}
+
+impl Store for LruCache<PageUrl, SharedAnswer> {
+    fn ask(&mut self, answer: &Arc<Answer>) -> io::Result<bool> {
+        if self.get(answer.url()).is_some() {
+            return Ok(true);
+        }
+        let url = or_io_error(answer.url().share())?;
+        self.put(url, SharedAnswer::of(Arc::try_clone(answer)?))?;
+        Ok(false)
+    }
 }
 
 // Prints the times of a shard and of `lru` on the same answers in the same order, in which each
@@ -78,34 +103,52 @@ fn beside_lru(
     every: usize,
 ) -> io::Result<()> {
     let asked = asked(rt.alloc(), every)?;
-    let mut shard = Duration::from_secs(1000);
-    let mut lru = Duration::from_secs(1000);
+    let mut shard = Least::new();
+    let mut lru = Least::new();
     let mut hits = (0, 0);
     for _ in 0..TURNS {
-        let (took, found) = shard_turn(rt, answers, asked.as_slice())?;
-        shard = shard.min(took);
-        hits.0 = found;
-        let (took, found) = lru_turn(rt, answers, asked.as_slice())?;
-        lru = lru.min(took);
-        hits.1 = found;
+        let store = or_io_error(Shard::new(rt.alloc(), MAX_CAPACITY))?;
+        hits.0 = turn(rt, &mut shard, store, answers, asked.as_slice())?;
+        let store = LruCache::new(rt.alloc(), capacity())?;
+        hits.1 = turn(rt, &mut lru, store, answers, asked.as_slice())?;
     }
     println!(rt;
         "caching, {name}: {STEPS} steps, shard {} us ({} hits), lru {} us ({} hits): {:.2} times",
-        shard.as_micros(),
+        shard.get().as_micros(),
         hits.0,
-        lru.as_micros(),
+        lru.get().as_micros(),
         hits.1,
-        ratio(shard, lru)
+        ratio(shard.get(), lru.get())
     )
+}
+
+// Fills the store, and times how long it takes to ask for the answers; the hits are counted.
+fn turn<S: Store>(
+    rt: &HostRuntime,
+    least: &mut Least,
+    mut store: S,
+    answers: &[Arc<Answer>],
+    asked: &[usize],
+) -> io::Result<usize> {
+    for answer in answers.iter().take(MAX_CAPACITY) {
+        store.ask(answer)?;
+    }
+    least.time(rt, || hits(&mut store, answers, asked))?
+}
+
+// How many of the answers that are asked for are stored.
+fn hits<S: Store>(store: &mut S, answers: &[Arc<Answer>], asked: &[usize]) -> io::Result<usize> {
+    let mut hits: usize = 0;
+    for answer in asked.iter().filter_map(|at| answers.get(*at)) {
+        hits = hits.wrapping_add(usize::from(store.ask(answer)?));
+    }
+    Ok(hits)
 }
 
 // Which answers are asked for: stored ones in scattered order, and each of so many times one that
 // isn't stored.
 fn asked(alloc: Global, every: usize) -> io::Result<Vec<usize>> {
-    let mut stored = LruCache::new(alloc, capacity())?;
-    for at in 0..MAX_CAPACITY {
-        stored.put(at, ())?;
-    }
+    let mut stored = first_stored(alloc)?;
     let mut asked = Vec::with_capacity(alloc, STEPS)?;
     for step in 1..=STEPS {
         let hit = step.checked_rem(every) != Some(0);
@@ -114,6 +157,15 @@ fn asked(alloc: Global, every: usize) -> io::Result<Vec<usize>> {
         asked.push(at)?;
     }
     Ok(asked)
+}
+
+// The answers that are stored at first.
+fn first_stored(alloc: Global) -> io::Result<LruCache<usize, ()>> {
+    let mut stored = LruCache::new(alloc, capacity())?;
+    for at in 0..MAX_CAPACITY {
+        stored.put(at, ())?;
+    }
+    Ok(stored)
 }
 
 // The next answer from a place on that is stored, or isn't.
@@ -132,102 +184,44 @@ fn capacity() -> NonZeroUsize {
     NonZeroUsize::new(MAX_CAPACITY).unwrap_or(NonZeroUsize::MIN)
 }
 
-// Asks a shard for the answers, and fetches those that it hasn't; the hits are counted.
-fn shard_turn(
-    rt: &HostRuntime,
-    answers: &[Arc<Answer>],
-    asked: &[usize],
-) -> io::Result<(Duration, usize)> {
-    let Ok(mut shard) = Shard::new(rt.alloc(), MAX_CAPACITY) else {
-        return Err(no_memory());
-    };
-    for answer in answers.iter().take(MAX_CAPACITY) {
-        ask_shard(&mut shard, answer)?;
-    }
-    let mut hits: usize = 0;
-    let start = Instant::now(rt)?;
-    for at in asked.iter() {
-        if let Some(answer) = answers.get(*at) {
-            hits = hits.wrapping_add(usize::from(ask_shard(&mut shard, answer)?));
-        }
-    }
-    Ok((start.elapsed(rt)?, hits))
-}
-
-// Whether the answer is stored; it is fetched where it isn't.
-fn ask_shard(shard: &mut Shard, answer: &Arc<Answer>) -> io::Result<bool> {
-    match shard.begin(answer.url(), 0) {
-        Begun::Hit(_) => Ok(true),
-        Begun::Lead(flight, _) => {
-            shard.land(flight, Arc::try_clone(answer)?, 0);
-            Ok(false)
-        }
-        Begun::Join(_) | Begun::Bypass => Ok(false),
-    }
-}
-
-// Asks `lru` for the answers, and puts those in that it hasn't; the hits are counted.
-fn lru_turn(
-    rt: &HostRuntime,
-    answers: &[Arc<Answer>],
-    asked: &[usize],
-) -> io::Result<(Duration, usize)> {
-    let mut stored = LruCache::new(rt.alloc(), capacity())?;
-    for answer in answers.iter().take(MAX_CAPACITY) {
-        ask_lru(&mut stored, answer)?;
-    }
-    let mut hits: usize = 0;
-    let start = Instant::now(rt)?;
-    for at in asked.iter() {
-        if let Some(answer) = answers.get(*at) {
-            hits = hits.wrapping_add(usize::from(ask_lru(&mut stored, answer)?));
-        }
-    }
-    Ok((start.elapsed(rt)?, hits))
-}
-
-// Whether the answer is stored; it is put in where it isn't.
-fn ask_lru(stored: &mut LruCache<PageUrl, SharedAnswer>, answer: &Arc<Answer>) -> io::Result<bool> {
-    if stored.get(answer.url()).is_some() {
-        return Ok(true);
-    }
-    let Ok(url) = answer.url().share() else {
-        return Err(no_memory());
-    };
-    stored.put(url, SharedAnswer::of(Arc::try_clone(answer)?))?;
-    Ok(false)
-}
-
 // How long the steps take in which so many flights at a time leave, are joined, land and are picked
 // up; the quickest of several turns. A turn has the same number of steps for any such number.
 fn flights(rt: &HostRuntime, answers: &[Arc<Answer>], count: usize) -> io::Result<Duration> {
     let answers = answers.get(..count).unwrap_or(answers);
     let rounds = MAX_FLIGHTS.checked_div(count).unwrap_or(1);
-    let Ok(mut shard) = Shard::new(rt.alloc(), MAX_CAPACITY) else {
-        return Err(no_memory());
-    };
-    let mut best = Duration::from_secs(1000);
+    let mut shard = or_io_error(Shard::new(rt.alloc(), MAX_CAPACITY))?;
+    let mut least = Least::new();
     let mut picked: usize = 0;
     let mut now: u64 = 0;
     for _ in 0..TURNS {
-        let start = Instant::now(rt)?;
-        for _ in 0..rounds {
-            picked = picked.wrapping_add(round(rt.alloc(), &mut shard, answers, now)?);
-            // What was stored has expired.
-            now = now.wrapping_add(u64::from(FRESH));
-        }
-        best = best.min(start.elapsed(rt)?);
+        let turn = least.time(rt, || {
+            several_rounds(rt.alloc(), &mut shard, answers, &mut now, rounds)
+        })?;
+        picked = picked.wrapping_add(turn?);
     }
     let steps = rounds.wrapping_mul(count).wrapping_mul(4);
-    let speed = (steps as u128)
-        .saturating_mul(1_000_000_000)
-        .checked_div(best.as_nanos())
-        .unwrap_or(0);
     println!(rt;
-        "caching, {count} flights: {steps} steps in {} us, {speed} a second ({picked} picked up)",
-        best.as_micros()
+        "caching, {count} flights: {steps} steps in {} us, {:.0} a second ({picked} picked up)",
+        least.get().as_micros(),
+        1e9 / nanoseconds_each(least.get(), steps)
     )?;
-    Ok(best)
+    Ok(least.get())
+}
+
+// So many rounds, each when what was stored in the one before has expired.
+fn several_rounds(
+    alloc: Global,
+    shard: &mut Shard,
+    answers: &[Arc<Answer>],
+    now: &mut u64,
+    rounds: usize,
+) -> io::Result<usize> {
+    let mut picked: usize = 0;
+    for _ in 0..rounds {
+        picked = picked.wrapping_add(round(alloc, shard, answers, *now)?);
+        *now = now.wrapping_add(u64::from(FRESH));
+    }
+    Ok(picked)
 }
 
 // Flights for the answers leave, are joined, land and are picked up; the pick-ups are counted.

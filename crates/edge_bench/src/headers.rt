@@ -1,8 +1,9 @@
 //! `Surrogate-Control`: long values of one unit again and again cost no more a byte than short ones.
 
 use crate::inputs::repeated;
+use crate::timing::{Least, nanoseconds_each, ratio};
 use std::io;
-use std::time::Instant;
+use std::time::Duration;
 use surrogate_headers::control;
 
 // The length of a small value, and of a large one.
@@ -12,24 +13,7 @@ const LARGE: usize = 262_144;
 // How many times each value is read.
 const TURNS: usize = 40;
 
-// The fewest nanoseconds that a turn over the value takes.
-fn nanoseconds(rt: &HostRuntime, value: &[u8]) -> io::Result<u128> {
-    let mut best = u128::MAX;
-    for _turn in 0..TURNS {
-        let start = Instant::now(rt)?;
-        let read = control(value, b"edge1");
-        let took = start.elapsed(rt)?.as_nanos();
-        // Never so: the answer is looked at, so that no turn is left out.
-        if read.extension == 7 {
-            println!(rt; "an extension of 7")?;
-        }
-        best = best.min(took);
-    }
-    Ok(best)
-}
-
-/// Prints for each unit the nanoseconds a byte at both lengths, and the ratio of the times in
-/// hundredths: 400 is linear, 1600 quadratic.
+/// Prints for each unit the times of both lengths, and their ratio: 4 is linear, 16 quadratic.
 pub fn run(rt: &HostRuntime) -> io::Result<()> {
     for (name, unit) in [
         ("quotes", "\""),
@@ -45,15 +29,29 @@ pub fn run(rt: &HostRuntime) -> io::Result<()> {
         ),
         ("open quote", "x\", "),
     ] {
-        let small = repeated(rt.alloc(), unit.as_bytes(), SMALL)?;
-        let large = repeated(rt.alloc(), unit.as_bytes(), LARGE)?;
-        let first = nanoseconds(rt, small.as_slice())?;
-        let second = nanoseconds(rt, large.as_slice())?;
-        let ratio = (second.saturating_mul(100)).checked_div(first).unwrap_or(0);
-        let picoseconds = second.saturating_mul(1000) / LARGE as u128;
+        let short = read(rt, unit, SMALL)?;
+        let long = read(rt, unit, LARGE)?;
         println!(rt;
-            "headers {name}: {first} ns, {second} ns, ratio {ratio}/100, {picoseconds} ps a byte"
+            "headers {name}: {} ns, {} ns, {:.2} times, {:.2} ns a byte",
+            short.as_nanos(),
+            long.as_nanos(),
+            ratio(long, short),
+            nanoseconds_each(long, LARGE)
         )?;
     }
     Ok(())
+}
+
+// The least time in which a value of this unit and length is read.
+fn read(rt: &HostRuntime, unit: &str, len: usize) -> io::Result<Duration> {
+    let value = repeated(rt.alloc(), unit.as_bytes(), len)?;
+    let mut least = Least::new();
+    for _ in 0..TURNS {
+        let found = least.time(rt, || control(value.as_slice(), b"edge1"))?;
+        // Never so: the answer is looked at, so that no turn is left out.
+        if found.extension == 7 {
+            println!(rt; "an extension of 7")?;
+        }
+    }
+    Ok(least.get())
 }

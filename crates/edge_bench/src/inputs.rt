@@ -1,17 +1,34 @@
-//! Texts of a chosen length.
+//! Texts of a chosen length, and URLs.
 
+use edge_types::{NoMemory, PageUrl};
 use std::alloc::{AllocError, Global};
 use std::fmt::Write;
+use std::io;
 
-/// The unit again and again, cut off at this length.
-pub fn repeated(alloc: Global, unit: &[u8], len: usize) -> Result<Vec<u8>, AllocError> {
+/// A choose of two branches, which asks for a cookie.
+pub const CHOOSE: &str =
+    "<esi:choose><esi:when test=\"$(HTTP_COOKIE{g})=='1'\">Y</esi:when><esi:otherwise>N</esi:otherwise></esi:choose>";
+
+/// The front, and behind it the unit again and again, cut off at this length.
+pub fn repeated_behind(
+    alloc: Global,
+    front: &[u8],
+    unit: &[u8],
+    len: usize,
+) -> Result<Vec<u8>, AllocError> {
     let mut text = Vec::with_capacity(alloc, len)?;
-    for i in 0..len {
+    text.extend_from_slice(front)?;
+    for i in 0..len.saturating_sub(front.len()) {
         if let Some(byte) = i.checked_rem(unit.len()).and_then(|at| unit.get(at)) {
             text.push(*byte)?;
         }
     }
     Ok(text)
+}
+
+/// The unit again and again, cut off at this length.
+pub fn repeated(alloc: Global, unit: &[u8], len: usize) -> Result<Vec<u8>, AllocError> {
+    repeated_behind(alloc, b"".as_slice(), unit, len)
 }
 
 /// A page of this length with includes at even distances.
@@ -33,4 +50,20 @@ pub fn page_of_includes(alloc: Global, len: usize, includes: usize) -> Result<Ve
     let tail = repeated(alloc, b"end. ".as_slice(), rest)?;
     out.extend_from_slice(tail.as_slice())?;
     Ok(out)
+}
+
+/// The URL of a text, which has one.
+pub fn url(alloc: Global, text: &[u8]) -> io::Result<PageUrl> {
+    match or_io_error(PageUrl::parse(alloc, text))? {
+        Some(url) => Ok(url),
+        None => Err(io::Error::from(io::ErrorKind::InvalidInput)),
+    }
+}
+
+/// Want of memory as an error of input and output, as which a benchmark ends.
+pub fn or_io_error<T>(made: Result<T, NoMemory>) -> io::Result<T> {
+    match made {
+        Ok(value) => Ok(value),
+        Err(NoMemory) => Err(io::Error::from(io::ErrorKind::OutOfMemory)),
+    }
 }

@@ -28,17 +28,24 @@ fn main(rt: HostRuntime) -> io::Result<()> {
     let mut named = false;
     for word in env::args(&rt)?.skip(1) {
         named = true;
-        let word = word.as_str();
-        for name in NAMES {
-            if word == name || word == "all" {
-                run(&rt, name)?;
-            }
+        match word.as_str() {
+            "all" => run_all(&rt)?,
+            name => run(&rt, name)?,
         }
     }
-    if !named {
-        for name in NAMES {
-            println!(rt; "{name}")?;
-        }
+    if named { Ok(()) } else { list(&rt) }
+}
+
+fn list(rt: &HostRuntime) -> io::Result<()> {
+    for name in NAMES {
+        println!(rt; "{name}")?;
+    }
+    Ok(())
+}
+
+fn run_all(rt: &HostRuntime) -> io::Result<()> {
+    for name in NAMES {
+        run(rt, name)?;
     }
     Ok(())
 }

@@ -1,13 +1,13 @@
-//! How fast texts are cut into tokens. One run prints megabytes a second, and ratios that hold on any machine.
+//! How fast texts are cut into tokens: in megabytes a second, and beside a text four times as long.
 
-use crate::inputs::{page_of_includes, repeated};
+use crate::inputs::{page_of_includes, repeated, repeated_behind};
+use crate::timing::{Least, nanoseconds_each, ratio};
 use esi_scanner::scan;
 use memchr::memchr;
 use std::alloc::{AllocError, Global};
 use std::fmt::Write;
 use std::io;
-use std::rt::Clock;
-use std::time::Instant;
+use std::time::Duration;
 
 const PAGE: usize = 262_144;
 
@@ -15,7 +15,107 @@ const INCLUDES: usize = 200;
 
 const ATTRIBUTES: usize = 40_000;
 
-const RUNS: usize = 15;
+// How many times each text is scanned.
+const TURNS: u32 = 15;
+
+const PLAIN: &str = "Plain words of a page, and no tag. ";
+
+// What a measured text is made of.
+#[derive(Clone, Copy)]
+enum Text {
+    // A front, and then a unit again and again.
+    Repeated(&'static str, &'static str),
+    // A page with includes at even distances.
+    Includes,
+    // One tag with many attributes.
+    Attributes,
+    // The same, and the last attribute has the name of the first.
+    AttributesTwice,
+}
+
+impl Text {
+    // The text so many times as long as its usual length.
+    fn made(self, alloc: Global, times: usize) -> Result<Vec<u8>, AllocError> {
+        let len = PAGE.saturating_mul(times);
+        let attributes = ATTRIBUTES.saturating_mul(times);
+        match self {
+            Text::Repeated(front, unit) => {
+                repeated_behind(alloc, front.as_bytes(), unit.as_bytes(), len)
+            }
+            Text::Includes => page_of_includes(alloc, len, INCLUDES.saturating_mul(times)),
+            Text::Attributes => wide_tag(alloc, attributes, false),
+            Text::AttributesTwice => wide_tag(alloc, attributes, true),
+        }
+    }
+}
+
+/// Prints the measurements.
+pub fn run(rt: &HostRuntime) -> io::Result<()> {
+    beside_memchr(rt)?;
+    for (name, text) in [
+        ("plain text", Text::Repeated("", PLAIN)),
+        ("page of 200 includes", Text::Includes),
+        (
+            "page of other tags",
+            Text::Repeated("", "<p class=\"a\">Words</p> - and more\n"),
+        ),
+        ("nothing but <", Text::Repeated("", "<")),
+        ("- in an open block", Text::Repeated("<!--esi ", "-")),
+        ("40,000 attributes", Text::Attributes),
+        (
+            "40,000 attributes, the last as the first",
+            Text::AttributesTwice,
+        ),
+    ] {
+        let text_once = text.made(rt.alloc(), 1)?;
+        let text_four_times = text.made(rt.alloc(), 4)?;
+        told(rt, name, text_once.as_slice(), text_four_times.as_slice())?;
+    }
+    Ok(())
+}
+
+// Prints how long a text takes, and one of its kind that is four times as long.
+fn told(rt: &HostRuntime, name: &str, small: &[u8], large: &[u8]) -> io::Result<()> {
+    let (short, tokens) = scanned(rt, small)?;
+    let (long, _) = scanned(rt, large)?;
+    println!(rt;
+        "scanning {name}: {} bytes, {tokens} tokens, {} ns, {:.0} MB/s; four times as long: {:.2} times the time",
+        small.len(),
+        short.as_nanos(),
+        1e3 / nanoseconds_each(short, small.len()),
+        ratio(long, short)
+    )
+}
+
+// Prints how long plain text takes beside a search for `<`.
+fn beside_memchr(rt: &HostRuntime) -> io::Result<()> {
+    let plain = repeated(rt.alloc(), PLAIN.as_bytes(), PAGE)?;
+    let (scanning, _) = scanned(rt, plain.as_slice())?;
+    let mut searching = Least::new();
+    let mut places: usize = 0;
+    for _ in 0..TURNS {
+        let place = searching.time(rt, || memchr(b'<', plain.as_slice()))?;
+        places = places.wrapping_add(place.unwrap_or(0));
+    }
+    println!(rt;
+        "scanning plain text: {:.2} times memchr's time ({} ns, {places})",
+        ratio(scanning, searching.get()),
+        searching.get().as_nanos()
+    )
+}
+
+// The least time of several scans, and how many tokens they gave.
+fn scanned(rt: &HostRuntime, text: &[u8]) -> io::Result<(Duration, usize)> {
+    let mut least = Least::new();
+    let mut count = 0;
+    for _ in 0..TURNS {
+        count = match least.time(rt, || scan(rt.alloc(), text))? {
+            Ok(tokens) => tokens.len(),
+            Err(_) => 0,
+        };
+    }
+    Ok((least.get(), count))
+}
 
 // One tag with many attributes; the last repeats the first where that is asked.
 fn wide_tag(alloc: Global, attributes: usize, twice: bool) -> Result<Vec<u8>, AllocError> {
@@ -26,138 +126,5 @@ fn wide_tag(alloc: Global, attributes: usize, twice: bool) -> Result<Vec<u8>, Al
         write!(out, " attribute-{n}=\"value\"")?;
     }
     out.push_str("/>")?;
-    Vec::from_slice(alloc, out.as_bytes())
-}
-
-// The least time of several scans, in nanoseconds, and how many tokens they gave.
-fn scan_time<R: Clock + AllocGlobal>(rt: &R, text: &[u8]) -> io::Result<(u128, usize)> {
-    let mut least = u128::MAX;
-    let mut count = 0;
-    for _ in 0..RUNS {
-        let start = Instant::now(rt)?;
-        let found = scan(rt.alloc(), text);
-        least = least.min(start.elapsed(rt)?.as_nanos());
-        count = match found {
-            Ok(tokens) => tokens.len(),
-            Err(_) => 0,
-        };
-    }
-    Ok((least.max(1), count))
-}
-
-// The least time of several searches for `<`.
-fn search_time<R: Clock>(rt: &R, text: &[u8]) -> io::Result<(u128, usize)> {
-    let mut least = u128::MAX;
-    let mut place = 0;
-    for _ in 0..RUNS {
-        let start = Instant::now(rt)?;
-        let found = memchr(b'<', text);
-        least = least.min(start.elapsed(rt)?.as_nanos());
-        place = found.unwrap_or(text.len());
-    }
-    Ok((least.max(1), place))
-}
-
-fn report<R: Clock + AllocGlobal + Print>(
-    rt: &R,
-    name: &str,
-    small: &[u8],
-    large: &[u8],
-) -> io::Result<()> {
-    let (time, tokens) = scan_time(rt, small)?;
-    let (long, _) = scan_time(rt, large)?;
-    let speed = (small.len() as u128)
-        .saturating_mul(1000)
-        .checked_div(time)
-        .unwrap_or(0);
-    let growth = long.saturating_mul(100).checked_div(time).unwrap_or(0);
-    let bytes = small.len();
-    println!(rt;
-        "scanning {name}: {bytes} bytes, {tokens} tokens, {time} ns, {speed} MB/s; four times as long: {growth} % of the time"
-    )
-}
-
-/// Prints the measurements.
-pub fn run<R: Clock + AllocGlobal + Print>(rt: &R) -> io::Result<()> {
-    let alloc = rt.alloc();
-    let plain = repeated(
-        alloc,
-        b"Plain words of a page, and no tag. ".as_slice(),
-        PAGE,
-    )?;
-    let plain_long = repeated(
-        alloc,
-        b"Plain words of a page, and no tag. ".as_slice(),
-        4 * PAGE,
-    )?;
-    report(rt, "plain text", plain.as_slice(), plain_long.as_slice())?;
-    let (scanned, _) = scan_time(rt, plain.as_slice())?;
-    let (searched, _) = search_time(rt, plain.as_slice())?;
-    let ratio = scanned
-        .saturating_mul(100)
-        .checked_div(searched)
-        .unwrap_or(0);
-    println!(rt; "scanning plain text: {ratio} % of memchr's time ({searched} ns)")?;
-    let with_includes = page_of_includes(alloc, PAGE, INCLUDES)?;
-    let with_includes_long = page_of_includes(alloc, 4 * PAGE, 4 * INCLUDES)?;
-    report(
-        rt,
-        "page of 200 includes",
-        with_includes.as_slice(),
-        with_includes_long.as_slice(),
-    )?;
-    let html = repeated(
-        alloc,
-        b"<p class=\"a\">Words</p> - and more\n".as_slice(),
-        PAGE,
-    )?;
-    let html_long = repeated(
-        alloc,
-        b"<p class=\"a\">Words</p> - and more\n".as_slice(),
-        4 * PAGE,
-    )?;
-    report(
-        rt,
-        "page of other tags",
-        html.as_slice(),
-        html_long.as_slice(),
-    )?;
-    let openers = repeated(alloc, b"<".as_slice(), PAGE)?;
-    let openers_long = repeated(alloc, b"<".as_slice(), 4 * PAGE)?;
-    report(
-        rt,
-        "nothing but <",
-        openers.as_slice(),
-        openers_long.as_slice(),
-    )?;
-    let mut dashes = repeated(alloc, b"-".as_slice(), PAGE)?;
-    let mut dashes_long = repeated(alloc, b"-".as_slice(), 4 * PAGE)?;
-    for (to, from) in dashes.iter_mut().zip(b"<!--esi ") {
-        *to = *from;
-    }
-    for (to, from) in dashes_long.iter_mut().zip(b"<!--esi ") {
-        *to = *from;
-    }
-    report(
-        rt,
-        "- in an open block",
-        dashes.as_slice(),
-        dashes_long.as_slice(),
-    )?;
-    let wide = wide_tag(alloc, ATTRIBUTES, false)?;
-    let wide_long = wide_tag(alloc, 4 * ATTRIBUTES, false)?;
-    report(
-        rt,
-        "40,000 attributes",
-        wide.as_slice(),
-        wide_long.as_slice(),
-    )?;
-    let twice = wide_tag(alloc, ATTRIBUTES, true)?;
-    let twice_long = wide_tag(alloc, 4 * ATTRIBUTES, true)?;
-    report(
-        rt,
-        "40,000 attributes, the last as the first",
-        twice.as_slice(),
-        twice_long.as_slice(),
-    )
+    Ok(out.into_bytes())
 }

@@ -1,5 +1,5 @@
 -- What the edge takes in, as a test and as a fact.
-use Rattle.std.proofs.Common.{◌≡◌, ℕ, ◌<◌, ◌≤◌, true, false, List, length, refl, sym, ◌∙◌, ap, Option, Some, None, IfSome, arith, leb}
+use Rattle.std.proofs.Common.{◌≡◌, ℕ, ◌<◌, ◌≤◌, List, length, refl, sym, ◌∙◌, ap, Option, Some, None, IfSome, arith, leb}
 use Rattle.std.proofs.lemmas.Bool.{leb-true, le-leb, cond-true, cond-false, false_from_ne_true, false≢true}
 use Rattle.std.proofs.lemmas.Bool.Decides.{Decides-and, Decides-like, Decides-by_and}
 use Rattle.std.specs.Bool.{Decides}

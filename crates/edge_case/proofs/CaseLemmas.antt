@@ -70,3 +70,6 @@ found_is text (Some case) e = case_sound text case (sym e)
 pub none_is : (text : List ℕ) (found : Option Case) → found ≡ case_of text → IfNone found ((case : Case) → IsCaseText text case → ⊥)
 none_is text None e = λ case is. let other : None ≡ Some case = e ∙ case_complete text case is in absurd (cc)
 none_is text (Some case) e = tt
+
+pub one_case : (text : List ℕ) (one other : Case) → IsCaseText text one → IsCaseText text other → one ≡ other
+one_case text one other is that = same_value one other (sym (case_complete text one is) ∙ case_complete text other that)

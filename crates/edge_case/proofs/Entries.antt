@@ -6,8 +6,7 @@ use Rattle.std.proofs.lemmas.List.Elements.{All-from_get_or, All-append, All-con
 use Rattle.std.proofs.lemmas.Bool.{eqb-false, ltb-false, le-ltb, cond-false}
 use Rattle.std.specs.List.{All}
 use Rattle.std.specs.Option.{option_or}
-use Rattle.edge_case.specs.declared.line.TheConstants.{LINE_FEED, SPACE}
-use Rattle.edge_case.specs.Document.{Entry, Failed, Got, line, field, got_line, entry, IsValue, IsField, IsEntry}
+use Rattle.edge_case.specs.Document.{space, line_feed, Entry, Failed, Got, line, field, got_line, entry, IsValue, IsField, IsEntry}
 use Rattle.edge_case.specs.Reading.{around, after_word, line_at, field_at, number_of, got_line_of, body_at, failed_at, got_at, entry_at}
 use Rattle.edge_case.proofs.Steps.{bound, mapped, unguarded, same_value}
 use Rattle.edge_case.proofs.Lines.{around_sound, around_complete, after_word_sound, after_word_complete, line_at_sound, line_at_complete, field_at_sound, field_at_complete, lacks_field}
@@ -21,50 +20,50 @@ pub record GotLine (text : List ℕ) (x : ℕ × ℕ × List ℕ) : Type 0 where
   pub url : IsValue text → IsValue x.2
 
 behind : (front back : List ℕ) (mark : ℕ) → IsValue (front ++ mark ∷ back) → IsValue back
-behind [] back mark h = All-tail (λ b. b ≢ LINE_FEED) mark back h
-behind (b ∷ front) back mark h = behind front back mark (All-tail (λ b. b ≢ LINE_FEED) b (front ++ mark ∷ back) h)
+behind [] back mark h = All-tail (λ b. b ≢ line_feed) mark back h
+behind (b ∷ front) back mark h = behind front back mark (All-tail (λ b. b ≢ line_feed) b (front ++ mark ∷ back) h)
 
 pub got_line_sound : (text : List ℕ) (x : ℕ × ℕ × List ℕ) → got_line_of text ≡ Some x → GotLine text x
 unfolding got_line_of
 got_line_sound text x found =
-    let (first, read0, f0) = bound (around SPACE text) _ x found in
+    let (first, read0, f0) = bound (around space text) _ x found in
     let (status, read1, f1) = bound (number_of first.0) _ x f0 in
-    let (second, read2, f2) = bound (around SPACE first.1) _ x f1 in
+    let (second, read2, f2) = bound (around space first.1) _ x f1 in
     let (len, read3, f3) = bound (number_of second.0) _ x f2 in
     let both : ◌≡◌ {A = ℕ × ℕ × List ℕ} (status, len, second.1) x = same_value _ _ f3 in
-    let p0 = around_sound SPACE text first.0 first.1 read0 in
-    let p2 = around_sound SPACE first.1 second.0 second.1 read2 in
-    let tail : first.1 ≡ decimal len ++ SPACE ∷ second.1 = p2.0 ∙ ap (λ (v : List ℕ). v ++ SPACE ∷ second.1) (number_sound second.0 len read3) in
+    let p0 = around_sound space text first.0 first.1 read0 in
+    let p2 = around_sound space first.1 second.0 second.1 read2 in
+    let tail : first.1 ≡ decimal len ++ space ∷ second.1 = p2.0 ∙ ap (λ (v : List ℕ). v ++ space ∷ second.1) (number_sound second.0 len read3) in
     let whole : text ≡ got_line status len second.1 =
-    p0.0 ∙ ap (λ (v : List ℕ). v ++ SPACE ∷ first.1) (number_sound first.0 status read1) ∙ ap (λ (t : List ℕ). decimal status ++ SPACE ∷ t) tail in
+    p0.0 ∙ ap (λ (v : List ℕ). v ++ space ∷ first.1) (number_sound first.0 status read1) ∙ ap (λ (t : List ℕ). decimal status ++ space ∷ t) tail in
     let url : IsValue text → IsValue second.1 = λ is.
-    behind (decimal len) second.1 SPACE (behind (decimal status) (decimal len ++ SPACE ∷ second.1) SPACE (subst (λ (t : List ℕ). IsValue t) whole is)) in
+    behind (decimal len) second.1 space (behind (decimal status) (decimal len ++ space ∷ second.1) space (subst (λ (t : List ℕ). IsValue t) whole is)) in
     let line : GotLine text (status, len, second.1) = record { whole = whole; url = url } in
     subst (λ (y : ℕ × ℕ × List ℕ). GotLine text y) both line
 
-no_space : (n : ℕ) → n < 1000000 → All (λ b. b ≢ SPACE) (decimal n)
-no_space n small = All-from_get_or (λ b. b ≢ SPACE) (decimal n) 0 (decimal_lacks n SPACE small (omega arith))
+no_space : (n : ℕ) → n < 1000000 → All (λ b. b ≢ space) (decimal n)
+no_space n small = All-from_get_or (λ b. b ≢ space) (decimal n) 0 (decimal_lacks n space small (omega arith))
 
 no_feed : (n : ℕ) → n < 1000000 → IsValue (decimal n)
-no_feed n small = All-from_get_or (λ b. b ≢ LINE_FEED) (decimal n) 0 (decimal_lacks n LINE_FEED small (omega arith))
+no_feed n small = All-from_get_or (λ b. b ≢ line_feed) (decimal n) 0 (decimal_lacks n line_feed small (omega arith))
 
-space_is_no_feed : SPACE ≢ LINE_FEED
-space_is_no_feed e = absurd (eqb-false SPACE LINE_FEED refl e)
+space_is_no_feed : space ≢ line_feed
+space_is_no_feed e = absurd (eqb-false space line_feed refl e)
 
 pub got_line_value : (status len : ℕ) (url : List ℕ) → status < 1000000 → len < 1000000 → IsValue url → IsValue (got_line status len url)
 got_line_value status len url s l is =
-    let P : ℕ → Type 0 = λ b. b ≢ LINE_FEED in
-    All-append (λ b. b ≢ LINE_FEED) (decimal status) (SPACE ∷ (decimal len ++ SPACE ∷ url)) (no_feed status s)
-    (All-cons (λ b. b ≢ LINE_FEED) SPACE (decimal len ++ SPACE ∷ url) space_is_no_feed
-    (All-append (λ b. b ≢ LINE_FEED) (decimal len) (SPACE ∷ url) (no_feed len l) (All-cons (λ b. b ≢ LINE_FEED) SPACE url space_is_no_feed is)))
+    let P : ℕ → Type 0 = λ b. b ≢ line_feed in
+    All-append (λ b. b ≢ line_feed) (decimal status) (space ∷ (decimal len ++ space ∷ url)) (no_feed status s)
+    (All-cons (λ b. b ≢ line_feed) space (decimal len ++ space ∷ url) space_is_no_feed
+    (All-append (λ b. b ≢ line_feed) (decimal len) (space ∷ url) (no_feed len l) (All-cons (λ b. b ≢ line_feed) space url space_is_no_feed is)))
 
 pub got_line_complete : (status len : ℕ) (url : List ℕ) → status < 1000000 → len < 1000000 → got_line_of (got_line status len url) ≡ Some (status, len, url)
 unfolding got_line_of
 got_line_complete status len url s l =
-    let tail : List ℕ = decimal len ++ SPACE ∷ url in
-    let r0 : around SPACE (got_line status len url) ≡ Some (decimal status, decimal len ++ SPACE ∷ url) = around_complete SPACE (decimal status) (decimal len ++ SPACE ∷ url) (no_space status s) in
+    let tail : List ℕ = decimal len ++ space ∷ url in
+    let r0 : around space (got_line status len url) ≡ Some (decimal status, decimal len ++ space ∷ url) = around_complete space (decimal status) (decimal len ++ space ∷ url) (no_space status s) in
     let r1 : number_of (decimal status) ≡ Some status = number_complete status s in
-    let r2 : around SPACE (decimal len ++ SPACE ∷ url) ≡ Some (decimal len, url) = around_complete SPACE (decimal len) url (no_space len l) in
+    let r2 : around space (decimal len ++ space ∷ url) ≡ Some (decimal len, url) = around_complete space (decimal len) url (no_space len l) in
     let r3 : number_of (decimal len) ≡ Some len = number_complete len l in
     rw (r0, r1, r2, r3) refl
 
@@ -72,7 +71,7 @@ got_line_complete status len url s l =
 
 -- so many bytes, a line feed and the rest
 pub record Bodied (len : ℕ) (text : List ℕ) (x : List ℕ × List ℕ) : Type 0 where
-  pub whole : text ≡ x.0 ++ LINE_FEED ∷ x.1
+  pub whole : text ≡ x.0 ++ line_feed ∷ x.1
   pub long : length x.0 ≡ len
 
 pub body_sound : (len : ℕ) (text : List ℕ) (x : List ℕ × List ℕ) → body_at len text ≡ Some x → Bodied len text x
@@ -80,7 +79,7 @@ unfolding body_at
 body_sound len text x found =
     let (enough, f0) = unguarded (nat_lt (length text) len) _ x found in
     let (rest, read, made) = mapped (after_word (codes "\n") (drop len text)) (λ rest. (take len text, rest)) x f0 in
-    let tail : drop len text ≡ LINE_FEED ∷ rest = after_word_sound (codes "\n") (drop len text) rest read in
+    let tail : drop len text ≡ line_feed ∷ rest = after_word_sound (codes "\n") (drop len text) rest read in
     let fits : len ≤ length text = ltb-false _ _ enough in
     let bodied : Bodied len text (take len text, rest) = record {
       whole = sym (take-append-drop len text) ∙ ap (λ (t : List ℕ). take len text ++ t) tail;
@@ -88,17 +87,17 @@ body_sound len text x found =
     } in
     subst (λ (y : List ℕ × List ℕ). Bodied len text y) made bodied
 
-body_read : (len : ℕ) (text body rest : List ℕ) → len ≤ length text → take len text ≡ body → drop len text ≡ LINE_FEED ∷ rest → body_at len text ≡ Some (body, rest)
+body_read : (len : ℕ) (text body rest : List ℕ) → len ≤ length text → take len text ≡ body → drop len text ≡ line_feed ∷ rest → body_at len text ≡ Some (body, rest)
 unfolding body_at
 body_read len text body rest fits front back =
     let enough : nat_lt (length text) len ≡ false = le-ltb _ _ fits in
-    let read : after_word (codes "\n") (LINE_FEED ∷ rest) ≡ Some rest = after_word_complete (codes "\n") rest in
+    let read : after_word (codes "\n") (line_feed ∷ rest) ≡ Some rest = after_word_complete (codes "\n") rest in
     cond-false (nat_lt (length text) len) None _ enough ∙ rw (front, back, read) refl
 
-pub body_complete : (body rest : List ℕ) → body_at (length body) (body ++ LINE_FEED ∷ rest) ≡ Some (body, rest)
+pub body_complete : (body rest : List ℕ) → body_at (length body) (body ++ line_feed ∷ rest) ≡ Some (body, rest)
 body_complete body rest =
-    body_read (length body) (body ++ LINE_FEED ∷ rest) body rest (omega (arith, length-append body (LINE_FEED ∷ rest)))
-    (take-append_seam body (LINE_FEED ∷ rest)) (drop-append_seam body (LINE_FEED ∷ rest))
+    body_read (length body) (body ++ line_feed ∷ rest) body rest (omega (arith, length-append body (line_feed ∷ rest)))
+    (take-append_seam body (line_feed ∷ rest)) (drop-append_seam body (line_feed ∷ rest))
 
 -- ---- answers
 
@@ -118,7 +117,7 @@ failed_sound text x found =
 
 joined : (status len : ℕ) (url : List ℕ) (content_type control : Option (List ℕ)) (body text head t0 t1 t2 start rest : List ℕ)
     → text ≡ line (codes "answer ") head t0 → head ≡ got_line status len url → t0 ≡ field (codes "type ") content_type t1 → t1 ≡ field (codes "control ") control t2
-    → t2 ≡ codes "body\n" ++ start → start ≡ body ++ LINE_FEED ∷ rest → length body ≡ len → text ≡ entry (Got status url content_type control body) rest
+    → t2 ≡ codes "body\n" ++ start → start ≡ body ++ line_feed ∷ rest → length body ≡ len → text ≡ entry (Got status url content_type control body) rest
 joined status len url content_type control body text head t0 t1 t2 start rest e0 e1 e2 e3 e4 e5 long =
     e0 ∙ ap (λ (h : List ℕ). line (codes "answer ") h t0) (e1 ∙ ap (λ n. got_line status n url) (sym long))
     ∙ ap (λ (t : List ℕ). line (codes "answer ") (got_line status (length body) url) t)
@@ -176,7 +175,7 @@ got_complete : (status : ℕ) (url : List ℕ) (content_type control : Option (L
     → got_at (entry (Got status url content_type control body) rest) ≡ Some (Got status url content_type control body, rest)
 unfolding got_at
 got_complete status url content_type control body rest u c k s l =
-    let start : List ℕ = body ++ LINE_FEED ∷ rest in
+    let start : List ℕ = body ++ line_feed ∷ rest in
     let t2 : List ℕ = codes "body\n" ++ start in
     let t1 : List ℕ = field (codes "control ") control t2 in
     let t0 : List ℕ = field (codes "type ") content_type t1 in
@@ -209,7 +208,7 @@ no_end = refl
 
 -- an answer is read up to a shorter text
 line_longer : (word value text : List ℕ) → length text < length (line word value text)
-line_longer word value text = omega (arith, length-append word (value ++ LINE_FEED ∷ text), length-append value (LINE_FEED ∷ text))
+line_longer word value text = omega (arith, length-append word (value ++ line_feed ∷ text), length-append value (line_feed ∷ text))
 
 field_longer : (word : List ℕ) (f : Option (List ℕ)) (text : List ℕ) → length text ≤ length (field word f text)
 field_longer word None text = omega arith
@@ -218,11 +217,11 @@ field_longer word (Some value) text = let longer = line_longer word value text i
 entry_longer : (e : Entry) (text : List ℕ) → length text < length (entry e text)
 entry_longer (Failed url) text = line_longer (codes "failed ") url text
 entry_longer (Got status url content_type control body) text =
-    let t3 : List ℕ = body ++ LINE_FEED ∷ text in
+    let t3 : List ℕ = body ++ line_feed ∷ text in
     let t2 : List ℕ = codes "body\n" ++ t3 in
     let t1 : List ℕ = field (codes "control ") control t2 in
     let t0 : List ℕ = field (codes "type ") content_type t1 in
-    let l3 : length t3 ≡ length body + length (LINE_FEED ∷ text) = length-append body (LINE_FEED ∷ text) in
+    let l3 : length t3 ≡ length body + length (line_feed ∷ text) = length-append body (line_feed ∷ text) in
     let l2 : length t2 ≡ length (codes "body\n") + length t3 = length-append (codes "body\n") t3 in
     let l1 : length t2 ≤ length t1 = field_longer (codes "control ") control t2 in
     let l0 : length t1 ≤ length t0 = field_longer (codes "type ") content_type t1 in

@@ -10,8 +10,7 @@ use Rattle.std.proofs.lemmas.Slice.Eq.{bytes_eq-Decides}
 use Rattle.std.proofs.lemmas.Grind.{common_steps}
 use Rattle.std.specs.List.{All, position_or_len}
 use Rattle.std.specs.Option.{option_map}
-use Rattle.edge_case.specs.declared.line.TheConstants.{LINE_FEED}
-use Rattle.edge_case.specs.Document.{line, field, IsValue, IsField}
+use Rattle.edge_case.specs.Document.{line_feed, line, field, IsValue, IsField}
 use Rattle.edge_case.specs.Reading.{◌>>=◌, around, after_word, line_at, some_field, field_from, field_at}
 use Rattle.edge_case.proofs.Steps.{bound, mapped, guarded, same_value}
 
@@ -79,14 +78,14 @@ after_word_complete word rest =
 pub line_at_sound : (word text v rest : List ℕ) → line_at word text ≡ Some (v, rest) → (text ≡ line word v rest) × IsValue v
 unfolding line_at
 line_at_sound word text v rest h =
-    let (after, is, found) = bound (after_word word text) (λ value. around LINE_FEED value) (v, rest) h in
-    let parts = around_sound LINE_FEED after v rest found in
+    let (after, is, found) = bound (after_word word text) (λ value. around line_feed value) (v, rest) h in
+    let parts = around_sound line_feed after v rest found in
     (after_word_sound word text after is ∙ ap (λ (t : List ℕ). word ++ t) parts.0, parts.1)
 
 pub line_at_complete : (word v rest : List ℕ) → IsValue v → line_at word (line word v rest) ≡ Some (v, rest)
 unfolding line_at
 line_at_complete word v rest value =
-    ap (λ o. o >>= (λ value. around LINE_FEED value)) (after_word_complete word (v ++ LINE_FEED ∷ rest)) ∙ around_complete LINE_FEED v rest value
+    ap (λ o. o >>= (λ value. around line_feed value)) (after_word_complete word (v ++ line_feed ∷ rest)) ∙ around_complete line_feed v rest value
 
 field_cases : (word text : List ℕ) (o : Option (List ℕ)) → after_word word text ≡ o → (f : Option (List ℕ)) (rest : List ℕ) → field_from text o ≡ Some (f, rest) → (text ≡ field word f rest) × IsField f
 field_cases word text None is f rest h =
@@ -95,8 +94,8 @@ field_cases word text None is f rest h =
     let same : text ≡ rest = ap (λ (p : Option (List ℕ) × List ℕ). p.1) both in
     subst (λ (g : Option (List ℕ)). (text ≡ field word g rest) × IsField g) none (same, tt)
 field_cases word text (Some value) is f rest h =
-    let (l, found, made) = mapped (around LINE_FEED value) some_field (f, rest) h in
-    let parts = around_sound LINE_FEED value l.0 l.1 found in
+    let (l, found, made) = mapped (around line_feed value) some_field (f, rest) h in
+    let parts = around_sound line_feed value l.0 l.1 found in
     let some : Some l.0 ≡ f = ap (λ (p : Option (List ℕ) × List ℕ). p.0) made in
     let same : l.1 ≡ rest = ap (λ (p : Option (List ℕ) × List ℕ). p.1) made in
     let whole : text ≡ line word l.0 l.1 = after_word_sound word text value is ∙ ap (λ (t : List ℕ). word ++ t) parts.0 in
@@ -110,9 +109,9 @@ pub field_at_complete : (word : List ℕ) (f : Option (List ℕ)) (rest : List �
 unfolding field_at
 field_at_complete word None rest is lacks = ap (field_from rest) lacks
 field_at_complete word (Some v) rest is lacks =
-    ap (field_from (line word v rest)) (after_word_complete word (v ++ LINE_FEED ∷ rest)) ∙ ap (option_map some_field) (around_complete LINE_FEED v rest is)
+    ap (field_from (line word v rest)) (after_word_complete word (v ++ line_feed ∷ rest)) ∙ ap (option_map some_field) (around_complete line_feed v rest is)
 
 -- a text that begins with other words lacks a word
 pub lacks_field : (word other : List ℕ) (f : Option (List ℕ)) (rest : List ℕ) → ((t : List ℕ) → after_word word (other ++ t) ≡ None) → after_word word rest ≡ None → after_word word (field other f rest) ≡ None
 lacks_field word other None rest differs lacks = lacks
-lacks_field word other (Some v) rest differs lacks = differs (v ++ LINE_FEED ∷ rest)
+lacks_field word other (Some v) rest differs lacks = differs (v ++ line_feed ∷ rest)

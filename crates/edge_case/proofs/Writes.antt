@@ -1,5 +1,5 @@
 -- What several writes leave, one after another.
-use Rattle.std.proofs.Common.{◌≡◌, ℕ, ◌+◌, ◌<◌, List, [], ◌∷◌, ◌++◌, length, take, drop, get_or, slice_get, refl, sym, ◌∙◌, ap, subst, Option, Some, None, Result, Ok, Err, OnErr, append_assoc, append-nil, take-append-drop}
+use Rattle.std.proofs.Common.{◌≡◌, ℕ, ◌+◌, ◌<◌, List, [], ◌∷◌, ◌++◌, length, take, drop, get_or, slice_get, refl, sym, ◌∙◌, ap, subst, Option, Some, None, Result, Ok, Err, OnErr, arith, length-append, append_assoc, append-nil, take-append-drop}
 use Rattle.std.proofs.KnownBytes.{Appends-nil, Appends-trans, Appends-kept}
 use Rattle.std.proofs.lemmas.List.{take_more}
 use Rattle.std.proofs.lemmas.List.Folds.{concat-append}
@@ -38,6 +38,7 @@ part_front a b bytes back p = (
     whole = ap (λ (t : List ℕ). t ++ back) p.1.whole ∙ append_assoc p.1.part p.0 back;
     written = p.1.written;
   },
+  omega (arith, p.2, length-append p.0 back),
 )
 
 -- a first part of what stands behind what is written
@@ -49,6 +50,7 @@ part_behind a b c front bytes w p = (
     whole = ap (λ (t : List ℕ). front ++ t) p.1.whole ∙ sym (append_assoc front p.1.part p.0);
     written = Appends-trans a b c front p.1.part w p.1.written;
   },
+  p.2,
 )
 
 -- ---- pieces

@@ -31,6 +31,6 @@ pub record AppendsUpTo (before after : Option (List ℕ)) (bytes rest : List ℕ
   pub whole : bytes ≡ part ++ rest
   pub written : Appends before after part
 
--- the known bytes grew by a first part of these
+-- the known bytes grew by a first part of these, and not by all
 abbrev pub AppendsPart : Option (List ℕ) → Option (List ℕ) → List ℕ → Type 0
-AppendsPart before after bytes = (rest : List ℕ) × AppendsUpTo before after bytes rest
+AppendsPart before after bytes = (rest : List ℕ) × AppendsUpTo before after bytes rest × (0 < length rest)

@@ -1,7 +1,14 @@
 -- A case text by its parts, as they are written.
 use Rattle.std.specs.Prelude.{◌≢◌, ℕ, List, [], ◌∷◌, ◌++◌, length, decimal, codes, Option, Some, None}
 use Rattle.std.specs.List.{All, AllByRecursion}
-use Rattle.edge_case.specs.declared.line.TheConstants.{LINE_FEED, SPACE}
+
+-- the byte between the parts of a line
+abbrev pub space : ℕ
+space = 32
+
+-- the byte that ends a line
+abbrev pub line_feed : ℕ
+line_feed = 10
 
 -- the lines before the answers; an absent line says nothing
 pub record Heading : Type 0 where
@@ -24,7 +31,7 @@ pub record Document : Type 0 where
 
 -- a word and the rest of its line, and the text that follows
 abbrev pub line : List ℕ → List ℕ → List ℕ → List ℕ
-line word value text = word ++ (value ++ LINE_FEED ∷ text)
+line word value text = word ++ (value ++ line_feed ∷ text)
 
 -- such a line where there is one
 abbrev pub field : List ℕ → Option (List ℕ) → List ℕ → List ℕ
@@ -33,7 +40,7 @@ field word (Some value) text = line word value text
 
 -- the first line of what was got: status, length and URL
 abbrev pub got_line : ℕ → ℕ → List ℕ → List ℕ
-got_line status len url = decimal status ++ SPACE ∷ (decimal len ++ SPACE ∷ url)
+got_line status len url = decimal status ++ space ∷ (decimal len ++ space ∷ url)
 
 -- an answer, and the text that follows
 abbrev pub entry : Entry → List ℕ → List ℕ
@@ -42,7 +49,7 @@ entry (Got status url content_type control body) text =
     line (codes "answer ") (got_line status (length body) url)
     (field (codes "type ") content_type
     (field (codes "control ") control
-    (codes "body\n" ++ (body ++ LINE_FEED ∷ text))))
+    (codes "body\n" ++ (body ++ line_feed ∷ text))))
 
 abbrev pub entries : List Entry → List ℕ → List ℕ
 entries [] text = text
@@ -64,7 +71,7 @@ spelling d = heading d.heading (entries d.entries (codes "end\n"))
 
 -- what a line may say: any bytes but a line feed
 abbrev pub IsValue : List ℕ → Type 0
-IsValue value = All (λ b. b ≢ LINE_FEED) value
+IsValue value = All (λ b. b ≢ line_feed) value
 
 abbrev pub IsField : Option (List ℕ) → Type 0
 IsField None = Unit {0}

@@ -4,3 +4,4 @@ pub mod Reading
 pub mod Printed
 pub mod Bytes
 pub mod Run
+pub mod Laws

@@ -3,24 +3,24 @@ use Rattle.std.specs.Prelude.{ℕ, List, [], ◌∷◌, ◌++◌, length, decima
 use Rattle.edge_types.specs.declared.outcome.PageFault.{PageFault}
 use Rattle.edge_types.specs.declared.outcome.PageFault.TheVariants.{PageFetch, BadTemplate, IncludeFailed, TooManyLegs}
 use Rattle.edge_types.specs.Outcome.{Shown, Page, Fault, number_of, name_of}
-use Rattle.edge_case.specs.declared.line.TheConstants.{LINE_FEED, SPACE}
+use Rattle.edge_case.specs.Document.{space, line_feed}
 use Rattle.edge_case.specs.declared.ending.CaseEnd.{CaseEnd}
 use Rattle.edge_case.specs.declared.ending.CaseEnd.TheVariants.{PagePrinted, FaultPrinted}
 
 -- status, length of the body and content type, on a line
 abbrev pub page_line : ℕ → ℕ → List ℕ → List ℕ
-page_line status len content_type = decimal status ++ SPACE ∷ (decimal len ++ SPACE ∷ (content_type ++ LINE_FEED ∷ []))
+page_line status len content_type = decimal status ++ space ∷ (decimal len ++ space ∷ (content_type ++ line_feed ∷ []))
 
 -- the place of a fault that has one
 abbrev pub place_of : PageFault → List ℕ
 place_of PageFetch = []
-place_of (BadTemplate at) = SPACE ∷ decimal at
+place_of (BadTemplate at) = space ∷ decimal at
 place_of IncludeFailed = []
 place_of TooManyLegs = []
 
 -- the fault's number, name and place, on a line
 abbrev pub fault_line : PageFault → List ℕ
-fault_line fault = codes "fault " ++ (decimal (number_of fault) ++ SPACE ∷ (name_of fault ++ (place_of fault ++ LINE_FEED ∷ [])))
+fault_line fault = codes "fault " ++ (decimal (number_of fault) ++ space ∷ (name_of fault ++ (place_of fault ++ line_feed ∷ [])))
 
 -- a page as its line and its body, or a fault as its line
 abbrev pub printed : Shown → List ℕ

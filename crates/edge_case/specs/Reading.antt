@@ -1,5 +1,5 @@
 -- Reading a case text from the left.
-use Rattle.std.specs.Prelude.{ℕ, ◌+◌, zero, suc, Bool, true, false, not, ◌&&◌, ◌==◌, nat_lt, nat_le, List, [], ◌∷◌, ◌++◌, length, take, drop, codes, bytes_eq, position, Option, Some, None, is_some, option_and_then, if◌then◌else◌}
+use Rattle.std.specs.Prelude.{ℕ, ◌+◌, zero, suc, Bool, false, not, ◌&&◌, ◌==◌, nat_lt, nat_le, List, [], ◌∷◌, ◌++◌, length, take, drop, codes, bytes_eq, position, Option, Some, None, is_some, option_and_then, if◌then◌else◌}
 use Rattle.std.specs.Option.{option_map, option_or, option_copied}
 use Rattle.std.specs.Borrow.{Bor}
 use Rattle.std.specs.List.{list_all}
@@ -11,14 +11,13 @@ use Rattle.edge_types.specs.Answered.{Answered, failed, got}
 use Rattle.edge_types.specs.declared.answer.TheConstants.{MIN_STATUS, MAX_STATUS, MAX_CONTENT_TYPE, MAX_BODY}
 use Rattle.edge_types.specs.Table.{answer_of}
 use Rattle.surrogate_headers.specs.Control.{control_of}
-use Rattle.edge_case.specs.declared.line.TheConstants.{LINE_FEED, SPACE}
 use Rattle.edge_case.specs.declared.number.TheConstants.{MAX_DIGITS}
 use Rattle.edge_case.specs.declared.case_text.TheConstants.{MAX_CASE}
 use Rattle.edge_case.specs.declared.case_text.Case.{Case}
 use Rattle.edge_case.specs.declared.heading.Heading.{Heading as LentHeading}
 use Rattle.edge_case.specs.declared.entry.Entry.{Entry as LentEntry}
 use Rattle.edge_case.specs.declared.entry.Entry.TheVariants as lent
-use Rattle.edge_case.specs.Document.{Heading, Entry, Failed, Got}
+use Rattle.edge_case.specs.Document.{space, line_feed, Heading, Entry, Failed, Got}
 use Rattle.edge_case.specs.Case.{request_of, value_or_empty, device}
 
 infixl 10 ◌>>=◌
@@ -37,7 +36,7 @@ after_word word text = if bytes_eq (take (length word) text) word then Some (dro
 unfoldable pub line_at : List ℕ → List ℕ → Option (List ℕ × List ℕ)
 line_at word text = do
   value ← after_word word text
-  around LINE_FEED value
+  around line_feed value
 
 -- the rest of a line that is there, and what follows it
 abbrev pub some_field : List ℕ × List ℕ → Option (List ℕ) × List ℕ
@@ -45,7 +44,7 @@ some_field line = (Some line.0, line.1)
 
 abbrev pub field_from : List ℕ → Option (List ℕ) → Option (Option (List ℕ) × List ℕ)
 field_from text None = Some (None, text)
-field_from text (Some value) = option_map some_field (around LINE_FEED value)
+field_from text (Some value) = option_map some_field (around line_feed value)
 
 -- the same, where the line may be absent
 unfoldable pub field_at : List ℕ → List ℕ → Option (Option (List ℕ) × List ℕ)
@@ -79,9 +78,9 @@ number_of text = if is_number text then Some (digits_value 10 text) else None
 -- the status, the length and the URL of the first line of what was got
 unfoldable pub got_line_of : List ℕ → Option (ℕ × ℕ × List ℕ)
 got_line_of line = do
-  first ← around SPACE line
+  first ← around space line
   status ← number_of first.0
-  second ← around SPACE first.1
+  second ← around space first.1
   len ← number_of second.0
   Some (status, len, second.1)
 

@@ -9,6 +9,7 @@ pub mod ending;
 mod entry;
 mod heading;
 mod input;
+pub mod laws;
 mod line;
 mod number;
 mod printer;

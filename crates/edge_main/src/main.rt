@@ -1,55 +1,62 @@
 //! The program `esi_edge`: it reads a case text, assembles its page and prints what that comes to.
 #![tactic(auto)]
 
+ghost use Rattle.clap.specs.Words.{kind_of};
+ghost use Rattle.edge_main.specs.Status.{IsEndOf};
+
 mod command_line;
+pub mod laws;
+mod program;
 mod status;
 #[cfg(test)]
 mod tests;
 
-use command_line::asked_levels;
-use edge_case::run_case;
+use clap::error::ErrorKind;
+use program::run_words;
 use status::Status;
 use std::io;
 use std::process::ExitCode;
 
 fn main(rt: HostRuntime) -> ExitCode {
-    let status = run(&rt);
-    if let Some(text) = status.text() {
+    let status = match words(&rt) {
+        Ok(words) => run(&rt, words.as_slice()),
+        Err(status) => status,
+    };
+    if let Some(line) = status.line() {
         // Where standard error can't be written the status alone tells.
-        let _ = eprintln!(rt; "{text}");
+        let _ = eprintln!(rt; "{line}");
     }
-    ExitCode::from(status.code())
+    status.exit_code()
 }
 
-// Judges the command line, and then runs the case.
-fn run(rt: &HostRuntime) -> Status {
-    let Ok(words) = words(rt) else {
-        return Status::NoMemory;
-    };
-    match asked_levels(rt.alloc(), words.as_slice()) {
-        Ok(levels) => Status::of(run_case(
-            rt.alloc(),
-            &mut rt.reader(),
-            &mut io::writer(rt),
-            levels,
-        )),
+// The words of the command line.
+fn words(rt: &HostRuntime) -> Result<Vec<String>, Status> {
+    match std::env::args(rt) {
+        Ok(words) => words.collect(rt.alloc()).map_err(|_| Status::NoMemory),
+        Err(error) if error.kind() == io::ErrorKind::InvalidData => Err(Status::NotText),
+        Err(_) => Err(Status::NoMemory),
+    }
+}
+
+// Judges the words, and runs the case over standard input and output.
+fn run(rt: &HostRuntime, words: &[String]) -> Status {
+    match run_words(rt.alloc(), words, &mut rt.reader(), &mut io::writer(rt)) {
+        Ok(status) => status,
         Err(error) => told(rt, &error),
     }
 }
 
-// The words of the command line.
-fn words(rt: &HostRuntime) -> io::Result<Vec<String>> {
-    Ok(std::env::args(rt)?.collect(rt.alloc())?)
-}
-
 // Prints what the command line's judge has to say.
-fn told(rt: &HostRuntime, error: &clap::Error) -> Status {
-    if matches!(error.kind(), clap::error::ErrorKind::OutOfMemory) {
-        return Status::NoMemory;
-    }
-    match error.print(rt) {
-        Ok(()) if error.use_stderr() => Status::Usage,
-        Ok(()) => Status::Page,
-        Err(_) => Status::InputOutput,
+fn told(rt: &HostRuntime, error: &clap::Error) -> Status
+    ensures { IsEndOf (kind_of error.now) result }
+{
+    match error.kind() {
+        ErrorKind::OutOfMemory => Status::NoMemory,
+        ErrorKind::DisplayHelp | ErrorKind::DisplayVersion => Status::of_help(error.print(rt)),
+        _ => {
+            // Where standard error can't be written the status alone tells.
+            let _ = error.print(rt);
+            Status::Usage
+        }
     }
 }

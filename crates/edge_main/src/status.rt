@@ -1,6 +1,11 @@
 //! Exit statuses.
+ghost use Rattle.std.specs.Prelude.{◌≡◌, option_map};
+ghost use Rattle.std.specs.Process.{exit_status};
+ghost use Rattle.edge_main.specs.Status.{code_of, help_status, line_of, status_of};
 
 use edge_case::{CaseEnd, CaseFault};
+use std::io;
+use std::process::ExitCode;
 
 /// How the program ends.
 #[derive(Clone, Copy, Drop, PartialEq, Eq)]
@@ -11,6 +16,8 @@ pub(crate) enum Status {
     PageFault,
     /// The command line is no use of the program.
     Usage,
+    /// A word of the command line isn't UTF-8.
+    NotText,
     /// Standard input is no case text.
     BadCase,
     /// A growth was refused.
@@ -21,7 +28,9 @@ pub(crate) enum Status {
 
 impl Status {
     /// The status of a case that was run.
-    pub(crate) fn of(ended: Result<CaseEnd, CaseFault>) -> Status {
+    pub(crate) fn of(ended: Result<CaseEnd, CaseFault>) -> Status
+        ensures { result ≡ status_of ended }
+    {
         match ended {
             Ok(CaseEnd::PagePrinted) => Status::Page,
             Ok(CaseEnd::FaultPrinted) => Status::PageFault,
@@ -31,21 +40,36 @@ impl Status {
         }
     }
 
-    /// The exit status.
-    pub(crate) fn code(self) -> u8 {
-        match self {
-            Status::Page => 0,
-            Status::PageFault => 1,
-            Status::Usage => 2,
-            Status::BadCase => 3,
-            Status::NoMemory => 4,
-            Status::InputOutput => 5,
+    /// The status of help whose printing ended so.
+    pub(crate) fn of_help(printed: io::Result<()>) -> Status
+        ensures { result ≡ help_status printed }
+    {
+        match printed {
+            Ok(()) => Status::Page,
+            Err(_) => Status::InputOutput,
         }
     }
 
-    /// The line for standard error, where there is one.
-    pub(crate) fn text(self) -> Option<&'static str> {
+    /// The exit status.
+    pub(crate) fn exit_code(self) -> ExitCode
+        ensures { exit_status result ≡ code_of self }
+    {
+        ExitCode::from(match self {
+            Status::Page => 0,
+            Status::PageFault => 1,
+            Status::Usage | Status::NotText => 2,
+            Status::BadCase => 3,
+            Status::NoMemory => 4,
+            Status::InputOutput => 5,
+        })
+    }
+
+    /// The line for standard error, where there is one; on usage `clap` writes its own text.
+    pub(crate) fn line(self) -> Option<&'static str>
+        ensures { option_map (λ line. line.now) result ≡ line_of self }
+    {
         match self {
+            Status::NotText => Some("error: a word of the command line isn't UTF-8"),
             Status::BadCase => Some("bad case text"),
             Status::NoMemory => Some("no memory"),
             Status::InputOutput => Some("input or output failed"),

@@ -1,18 +1,13 @@
 -- Where answers stand in a table.
-use Rattle.std.proofs.Common.{◌≡◌, ◌≢◌, ℕ, ◌+◌, ◌<◌, ◌≤◌, Bool, true, false, List, [], ◌∷◌, ◌++◌, length, Option, Some, None, find, position, get_or, slice_get, refl, sym, ◌∙◌, ap, arith, nat_lt, cond, eqb, length-append, subst}
+use Rattle.std.proofs.Common.{◌≡◌, ◌≢◌, ℕ, ◌+◌, ◌<◌, ◌≤◌, Bool, true, false, List, [], ◌∷◌, ◌++◌, length, Option, Some, None, find, position, get_or, slice_get, refl, sym, ◌∙◌, ap, arith, nat_lt, cond, eqb, length-append}
 use Rattle.std.proofs.lemmas.Grind.{common_steps}
 use Rattle.std.proofs.lemmas.List.Folds.{find_at, position_or_len_push}
-use Rattle.std.proofs.lemmas.List.Sums.{prefix_len-le-length, fails_before_first}
+use Rattle.std.proofs.lemmas.List.Sums.{prefix_len-le-length, fails_before_first, position_or_len_is}
 use Rattle.std.proofs.lemmas.Option.{slice_get_past, slice_get-get_or}
 use Rattle.std.proofs.lemmas.List.Quantifiers.{position-Some, all_pairs_push}
-use Rattle.std.proofs.lemmas.Map.Text.{is_eq-slice_cmp}
 use Rattle.std.proofs.lemmas.Slice.Eq.{bytes_eq-Decides}
-use Rattle.std.specs.BTreeMap.{BTreeMap, get, is_at}
-use Rattle.std.specs.Cmp.Lexicographic.{slice_cmp}
 use Rattle.std.specs.List.{position_or_len}
-use Rattle.std.specs.Ordering.{nat_cmp}
 use Rattle.edge_types.specs.Answered.{Answered}
-use Rattle.edge_types.specs.Places.{Places}
 use Rattle.edge_types.specs.Table.{is_of, IsTable}
 
 some : (b : Bool) (m n : ℕ) → cond b (Some n) None ≡ Some m → n ≡ m
@@ -92,7 +87,7 @@ position-push_other {X} p xs y h = by_place (position p xs) refl
         below (position_or_len p (xs ++ y ∷ [])) at (length (xs ++ y ∷ [])) same (omega (arith, length-append xs (y ∷ []))) ∙ sym is
 
 -- no element passes where there is no place
-fails : {X : Type 0} (p : X → Bool) (xs : List X) → position p xs ≡ None → (k : ℕ) (d : X) → k < length xs → p (get_or xs k d) ≡ false
+pub fails : {X : Type 0} (p : X → Bool) (xs : List X) → position p xs ≡ None → (k : ℕ) (d : X) → k < length xs → p (get_or xs k d) ≡ false
 fails p xs e k d h = fails_before_first p xs k d (let end : position_or_len p xs ≡ length xs = position_or_len-none p xs e in omega arith)
 
 -- an answer of a URL that has none keeps the table a table
@@ -105,32 +100,17 @@ IsTable-push answers answer e once =
     true_is_not_false : true ≡ false → ⊥
     true_is_not_false e = cc
 
--- the index with one place more is that of one answer more
-pub Places-push : (before after : BTreeMap (List ℕ) ℕ) (answers : List Answered) (answer : Answered) → Places before answers → find (is_of answer.url) answers ≡ None
-    → ((url : List ℕ) → get (slice_cmp nat_cmp) after url ≡ cond (is_at (slice_cmp nat_cmp answer.url) url) (Some (length answers)) (get (slice_cmp nat_cmp) before url))
-    → Places after (answers ++ answer ∷ [])
-Places-push before after answers answer old e updates = record {
-  found = λ url. updates url ∙ by_test url (is_at (slice_cmp nat_cmp answer.url) url) refl;
-  once = IsTable-push answers answer none_yet old.once;
-}
+-- an element that passes, with none that passes before it
+pub position-is : {X : Type 0} (p : X → Bool) (xs : List X) (at : ℕ) (d : X) → at < length xs → p (get_or xs at d) ≡ true → ((k : ℕ) → k < at → p (get_or xs k d) ≡ false) → position p xs ≡ Some at
+position-is p xs at d within passes before =
+    below (position_or_len p xs) at (length xs) (position_or_len_is p xs at d (omega arith) before (λ _. passes)) within
+
+pub position-push_kept : {X : Type 0} (p : X → Bool) (xs : List X) (y : X) (at : ℕ) → position p xs ≡ Some at → position p (xs ++ y ∷ []) ≡ Some at
+position-push_kept p xs y at e =
+    let within : at < length xs = some_below (position_or_len p xs) (length xs) at e in
+    let place : position_or_len p xs ≡ at = position_or_len-some p xs at e in
+    let same : position_or_len p (xs ++ y ∷ []) ≡ at = position_or_len_push p xs y ∙ still (position_or_len p xs) (length xs) (length xs + cond (p y) 0 1) (omega arith) ∙ place in
+    below (position_or_len p (xs ++ y ∷ [])) at (length (xs ++ y ∷ [])) same (omega (arith, length-append xs (y ∷ [])))
   where
-    none_yet : position (is_of answer.url) answers ≡ None
-    none_yet = position-none (is_of answer.url) answers e
-
-    by_test : (url : List ℕ) (b : Bool) → is_at (slice_cmp nat_cmp answer.url) url ≡ b → cond b (Some (length answers)) (get (slice_cmp nat_cmp) before url) ≡ position (is_of url) (answers ++ answer ∷ [])
-    by_test url true is =
-        let matches : is_of url answer ≡ true = sym (is_eq-slice_cmp answer.url url) ∙ is in
-        let same : answer.url ≡ url = (bytes_eq-Decides answer.url url).0 matches in
-        let none_here : position (is_of url) answers ≡ None = subst (λ u. position (is_of u) answers ≡ None) same none_yet in
-        sym (position-push_found (is_of url) answers answer none_here matches)
-    by_test url false is =
-        let differs : is_of url answer ≡ false = sym (is_eq-slice_cmp answer.url url) ∙ is in
-        old.found url ∙ sym (position-push_other (is_of url) answers answer differs)
-
--- the same, as `add` goes about it
-pub Places-added : (before after : BTreeMap (List ℕ) ℕ) (answers room pushed : List Answered) (answer kept : Answered) (key : List ℕ) (at : ℕ)
-    → Places before answers → find (is_of answer.url) answers ≡ None → room ≡ answers → pushed ≡ room ++ kept ∷ [] → kept ≡ answer → key ≡ answer.url → at ≡ length room
-    → ((url : List ℕ) → get (slice_cmp nat_cmp) after url ≡ cond (is_at (slice_cmp nat_cmp key) url) (Some at) (get (slice_cmp nat_cmp) before url))
-    → Places after pushed
-Places-added before after answers room pushed answer kept key at old e r p k u n updates =
-    rw (p, r, k) (Places-push before after answers answer old e (λ url. subst (λ i. get (slice_cmp nat_cmp) after url ≡ cond (is_at (slice_cmp nat_cmp answer.url) url) (Some i) (get (slice_cmp nat_cmp) before url)) (n ∙ ap length r) (rw u at (updates url))))
+    still : (n len m : ℕ) → n < len → cond (eqb n len) m n ≡ n
+    still n len m h = grind (arith, common_steps)

@@ -3,7 +3,6 @@ use Rattle.std.specs.Prelude.{ℕ, ◌≤◌, Bool, false, ◌&&◌, nat_le, Lis
 use Rattle.edge_types.specs.declared.answer.Reply.{Reply}
 use Rattle.edge_types.specs.declared.answer.Reply.TheVariants.{Failed, Got}
 use Rattle.edge_types.specs.declared.control.Control.{Control}
-use Rattle.edge_types.specs.declared.answer.TheConstants.{MIN_STATUS, MAX_STATUS, MAX_CONTENT_TYPE, MAX_BODY}
 
 -- a URL, and what its origin replied
 pub record Answered : Type 0 where
@@ -24,10 +23,10 @@ IsPrintable b = (32 ≤ b) × (b ≤ 126)
 
 -- what the edge takes in of an answer
 pub record IsAcceptable (status : ℕ) (content_type body : List ℕ) : Type 0 where
-  pub status_from : MIN_STATUS ≤ status
-  pub status_to : status ≤ MAX_STATUS
-  pub body_length : length body ≤ MAX_BODY
-  pub type_length : length content_type ≤ MAX_CONTENT_TYPE
+  pub status_from : 200 ≤ status
+  pub status_to : status ≤ 599
+  pub body_length : length body ≤ 262144
+  pub type_length : length content_type ≤ 256
   pub type_printable : All IsPrintable content_type
 
 -- a failure, or an answer that the edge takes in

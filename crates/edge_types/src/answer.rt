@@ -52,7 +52,7 @@ impl Model for Answer {
 }
 
 impl Answer {
-    ghost use Rattle.edge_types.specs.Answered.{IsAcceptable, IsWithinLimits, failed, got, succeeded, processed};
+    ghost use Rattle.edge_types.specs.Answered.{IsAcceptable, IsWithinLimits, failed, got, succeeded, processed, body_of};
 
     /// The answer of a URL that could not be had. Takes no memory.
     pub fn failed(url: PageUrl) -> Answer
@@ -106,6 +106,16 @@ impl Answer {
         ensures limits { IsWithinLimits result.now }
     {
         &self.reply
+    }
+
+    /// The body, which a failure doesn't have. Takes no memory.
+    pub fn body(&self) -> &[u8]
+        ensures { result.now ≡ body_of self.now.reply }
+    {
+        match &self.reply {
+            Reply::Failed => &[],
+            Reply::Got { body, .. } => body.as_bytes(),
+        }
     }
 
     /// Whether the fetch gave a resource: an answer of status 200 to 299. Takes no memory.

@@ -1,4 +1,4 @@
-//! Want of memory, the one refusal of every call that allocates.
+//! Want of memory: what every call that allocates may tell, by itself or among its refusals.
 
 use std::alloc::{AllocError, AllocFailed};
 

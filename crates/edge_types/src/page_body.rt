@@ -5,7 +5,7 @@ ghost use Rattle.std.specs.Prelude.{◌≡◌, ◌≤◌, ◌+◌, [], length, t
 ghost use Rattle.std.specs.Option.{option_copied};
 ghost use Rattle.std.specs.Arc.{arc_value};
 
-use crate::answer::{Answer, Reply};
+use crate::answer::Answer;
 use crate::no_memory::NoMemory;
 use crate::octets::Octets;
 use crate::shared_answer::SharedAnswer;
@@ -37,7 +37,7 @@ impl Lent {
     fn bytes(&self) -> &[u8]
         ensures { result.now ≡ self.now }
     {
-        &body(self.answer.get())[self.from..self.to]
+        &self.answer.get().body()[self.from..self.to]
     }
 }
 
@@ -71,18 +71,6 @@ impl Piece {
             Source::Own(bytes) => bytes.as_bytes(),
             Source::Lent(lent) => lent.bytes(),
         }
-    }
-}
-
-ghost use Rattle.edge_types.specs.Answered.{body_of};
-
-// The body of an answer, which a failure doesn't have.
-fn body(answer: &Answer) -> &[u8]
-    ensures { result.now ≡ body_of answer.now.reply }
-{
-    match answer.reply() {
-        Reply::Failed => &[],
-        Reply::Got { body, .. } => body.as_bytes(),
     }
 }
 

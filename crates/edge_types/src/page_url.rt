@@ -1,5 +1,5 @@
 //! The URLs that an edge asks.
-ghost use Rattle.std.specs.Prelude.{◌≡◌, ◌↔◌, None, IfOk, IsErr};
+ghost use Rattle.std.specs.Prelude.{◌≡◌, ◌↔◌, None, Some, IfOk, IsErr};
 
 use crate::no_memory::NoMemory;
 use std::alloc::Global;
@@ -34,7 +34,11 @@ impl Model for PageUrl {
 impl PageUrl {
     ghost use Rattle.edge_types.specs.Asked.{asked, resolve, authority_of};
 
-    /// The URL that a text stands for by itself.
+    /// The URL that a text stands for by itself, without its `#` part.
+    ///
+    /// None where the text is longer than `MAX_TEXT` bytes or isn't UTF-8, where it is no URL, and
+    /// where the URL isn't `http`, has a user name or a password, or is longer than `MAX_URL`
+    /// bytes.
     pub fn parse(alloc: Global, text: &[u8]) -> Result<Option<PageUrl>, NoMemory>
         ensures { IfOk result (λ found. found ≡ asked None text.now) }
     {
@@ -47,17 +51,18 @@ impl PageUrl {
         }
     }
 
-    /// The URL that a text stands for in a template at this one.
+    /// The URL that a text stands for in a template at this one; none as in `parse`.
     pub fn resolve(&self, alloc: Global, text: &[u8]) -> Result<Option<PageUrl>, NoMemory>
         ensures { IfOk result (λ found. found ≡ resolve self.now text.now) }
     {
         join(alloc, &self.url, text)
     }
 
-    /// The URL's bytes.
+    /// The URL's bytes. A URL stands for itself. Takes no memory.
     #[tactic(auto, unfolding(crate::specs::Asked::url_text))]
     pub fn as_bytes(&self) -> &[u8]
-        ensures { result.now ≡ self.now }
+        ensures value { result.now ≡ self.now }
+        ensures asked { asked None self.now ≡ Some self.now }
     {
         self.url.as_str().as_bytes()
     }
@@ -105,7 +110,6 @@ ghost use Rattle.std.specs.Option.{option_copied};
 ghost use Rattle.url.specs.Parts.{IsValid};
 ghost use Rattle.url.specs.Parser.{IsOutOfRoom};
 ghost use Rattle.edge_types.specs.Asked.{asked};
-ghost use Rattle.std.specs.Prelude.{Some};
 
 // The URL that a text stands for against a base.
 fn join(alloc: Global, base: &Url, text: &[u8]) -> Result<Option<PageUrl>, NoMemory>

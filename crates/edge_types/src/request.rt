@@ -41,10 +41,10 @@ impl Request {
 
 ghost use Rattle.edge_types.specs.Query.{query_of};
 
-/// The byte before a query string.
-pub const QUERY_MARK: u8 = b'?';
-/// The byte before a fragment identifier.
-pub const FRAGMENT_MARK: u8 = b'#';
+// The byte before a query string.
+const QUERY_MARK: u8 = b'?';
+// The byte before a fragment identifier.
+const FRAGMENT_MARK: u8 = b'#';
 
 /// The query string of a target or URL: of the text before its first `#`, what follows the first
 /// `?`; empty without one. Takes no memory.

@@ -10,15 +10,21 @@ use crate::page_url::PageUrl;
 use crate::shared_answer::SharedAnswer;
 use std::alloc::Global;
 use std::collections::BTreeMap;
+use std::hash::{FoldHasher, Hasher};
 use std::marker::Model;
 use std::sync::Arc;
 
 /// Answers by their URLs.
+//
+// A look-up compares one URL: an ordered map of URLs alone would read many, each somewhere else in
+// memory. URLs that were made to have one fingerprint cost no more than such a map.
 #[derive(Drop)]
 pub struct Table {
     answers: Vec<SharedAnswer>,
-    // The place of each URL's answer.
-    places: BTreeMap<PageUrl, usize>,
+    // The place of the first answer of each fingerprint.
+    firsts: BTreeMap<u64, usize>,
+    // The place of each other answer.
+    others: BTreeMap<PageUrl, usize>,
 }
 
 impl Model for Table {
@@ -30,7 +36,7 @@ impl Model for Table {
 
     ghost view = { λ t. t.answers.items };
 
-    ghost invariant = { λ t. Places t.places t.answers.items };
+    ghost invariant = { λ t. Places t.firsts t.others t.answers.items };
 }
 
 /// Why a table doesn't take an answer.
@@ -52,8 +58,16 @@ impl Table {
     {
         Table {
             answers: Vec::new(alloc),
-            places: BTreeMap::new(alloc),
+            firsts: BTreeMap::new(alloc),
+            others: BTreeMap::new(alloc),
         }
+    }
+
+    // The place of the first answer of this fingerprint.
+    fn first(&self, print: u64) -> Option<usize>
+        ensures { result ≡ position (has_print print) self.now }
+    {
+        self.firsts.get(&print).copied()
     }
 
     // The place of a URL's answer.
@@ -61,7 +75,11 @@ impl Table {
         ensures value { result ≡ position (is_of url.now) self.now }
         ensures once { IsTable self.now }
     {
-        self.places.get(url).copied()
+        match self.first(fingerprint(url)) {
+            Some(at) if self.answers[at].get().url() == url => Some(at),
+            Some(_) => self.others.get(url).copied(),
+            None => None,
+        }
     }
 
     /// The answer of a URL; none where the table has none. Takes no memory.
@@ -107,13 +125,30 @@ impl Table {
         ensures err { OnErr result (self.new ≡ self.old) }
     {
         let kept = SharedAnswer::of(Arc::try_clone(answer)?);
-        let url = answer.url().share()?;
+        let print = fingerprint(answer.url());
+        let first = self.first(print);
         self.answers.reserve(1)?;
-        self.places.insert(url, self.answers.len())?;
+        let at = self.answers.len();
+        if first.is_some() {
+            self.others.insert(answer.url().share()?, at)?;
+        } else {
+            self.firsts.insert(print, at)?;
+        }
         self.answers.push(kept).unwrap();
         Ok(())
     }
 }
 
 ghost use Rattle.edge_types.specs.Table.{is_of};
+ghost use Rattle.edge_types.specs.Places.{has_print, print_of};
 ghost use Rattle.std.specs.Prelude.{position, Some, is_some};
+
+// A number that most URLs share with no other.
+#[tactic(auto, unfolding(crate::specs::Places::print_of))]
+fn fingerprint(url: &PageUrl) -> u64
+    ensures { result ≡ print_of url.now }
+{
+    let mut hasher = FoldHasher::default();
+    hasher.write(url.as_bytes());
+    hasher.finish()
+}

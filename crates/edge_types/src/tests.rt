@@ -1,7 +1,7 @@
 // Worked examples: expected values come from the URL Standard and from the edge's own rules.
 use crate::{
     Answer, Control, InsertFault, NoMemory, Octets, PageBody, PageFault, PageUrl, Reply, Request,
-    SharedAnswer, Table, query_of,
+    SharedAnswer, Table, is_ws, query_of,
 };
 use std::alloc::Global;
 use std::process::Abort;
@@ -146,6 +146,18 @@ fn queries_stand_between_two_marks(rt: HostRuntime) -> Result<(), Fail> {
 }
 
 #[test]
+fn four_bytes_are_white_space(rt: HostRuntime) -> Result<(), Fail> {
+    for byte in 0..=u8::MAX {
+        assert_eq!(rt;
+            is_ws(byte),
+            [0x20, 0x09, 0x0d, 0x0a].contains(&byte),
+            "{byte}"
+        );
+    }
+    Ok(())
+}
+
+#[test]
 fn answers_have_limits(rt: HostRuntime) -> Result<(), Fail> {
     let alloc = rt.alloc();
     for (status, byte, type_len, body_len, want) in [
@@ -189,10 +201,11 @@ fn answers_tell_what_came(rt: HostRuntime) -> Result<(), Fail> {
         assert_eq!(rt; found.succeeded(), succeeded, "{status}");
         assert_eq!(rt; found.processed(), processed, "{status}");
         assert_eq!(rt; found.url().as_bytes(), b"http://a.test/x".as_slice());
+        assert_eq!(rt; found.body(), b"1".as_slice());
     }
     let failed = Answer::failed(url(&rt, alloc, "http://a.test/x")?);
     assert!(rt; !failed.succeeded() && !failed.processed());
-    assert!(rt; matches!(failed.reply(), Reply::Failed));
+    assert!(rt; matches!(failed.reply(), Reply::Failed) && failed.body().is_empty());
     Ok(())
 }
 
@@ -218,11 +231,40 @@ fn a_table_takes_each_url_once(rt: HostRuntime) -> Result<(), Fail> {
         ("http://a.test/4", None),
     ] {
         let asked = url(&rt, alloc, at)?;
-        let body = match table.get(&asked).map(|a| a.reply()) {
-            Some(Reply::Got { body, .. }) => Some(body.as_bytes()),
-            _ => None,
-        };
+        let body = table.get(&asked).map(|a| a.body());
         assert_eq!(rt; body, want.map(|w| w.as_bytes()), "{at}");
+    }
+    Ok(())
+}
+
+#[test]
+fn urls_of_one_fingerprint_keep_apart(rt: HostRuntime) -> Result<(), Fail> {
+    let alloc = rt.alloc();
+    let mut table = Table::new(alloc);
+    let urls = [
+        "http://a.test/000000000000038444PdcYU2Hd11111111",
+        "http://a.test/000000000000038444PdcYU2Hd22222222",
+        "http://a.test/000000000000038444PdcYU2Hd33333333",
+    ];
+    for at in urls {
+        let asked = url(&rt, alloc, at)?;
+        assert!(rt; table.get(&asked).is_none(), "{at}");
+        assert!(rt;
+            table
+                .insert(answer(&rt, alloc, at, 200, PLAIN, at)?)
+                .is_ok()
+        );
+    }
+    for at in urls {
+        let asked = url(&rt, alloc, at)?;
+        let body = table.get(&asked).map(|a| a.body());
+        assert_eq!(rt; body, Some(at.as_bytes()), "{at}");
+        assert!(rt;
+            table
+                .insert(answer(&rt, alloc, at, 200, PLAIN, at)?)
+                .is_err(),
+            "{at}"
+        );
     }
     Ok(())
 }
@@ -231,10 +273,7 @@ fn a_table_takes_each_url_once(rt: HostRuntime) -> Result<(), Fail> {
 fn a_body_is_cut_back_to_its_mark(rt: HostRuntime) -> Result<(), Fail> {
     let alloc = rt.alloc();
     let shared = answer(&rt, alloc, "http://a.test/x", 200, PLAIN, "fragment")?;
-    let Reply::Got { body: bytes, .. } = shared.reply() else {
-        return Ok(());
-    };
-    let end = bytes.as_bytes().len();
+    let end = "fragment".len();
     let mut body = PageBody::new(alloc);
     assert!(rt; body.is_empty());
     body.push_own(octets(alloc, "A")?)?;
@@ -282,8 +321,10 @@ fn copies_and_second_owners_are_equal(rt: HostRuntime) -> Result<(), Fail> {
     }
     let owner = SharedAnswer::of(answer(&rt, alloc, "http://a.test/x", 204, PLAIN, "")?);
     let second = owner.share()?;
-    assert!(rt; second.get().succeeded() && second.as_arc().succeeded());
-    assert!(rt; owner.into_arc().succeeded());
+    let want = b"http://a.test/x".as_slice();
+    assert_eq!(rt; second.get().url().as_bytes(), want);
+    assert_eq!(rt; second.as_arc().url().as_bytes(), want);
+    assert_eq!(rt; owner.into_arc().url().as_bytes(), want);
     Ok(())
 }
 

@@ -4,11 +4,11 @@ use Rattle.std.specs.List.{AllPass, list_all, prefix_len}
 use Rattle.std.specs.Char.{is_ascii_digit}
 use Rattle.std.proofs.lemmas.Bool.{eqb-true, eq-eqb, ne_eqb}
 use Rattle.std.proofs.lemmas.List.{take_at, drop_at}
-use Rattle.std.proofs.lemmas.List.Sums.{AllPass-from_list_all, prefix_len_is}
-use Rattle.std.proofs.lemmas.List.Folds.{prefix_len-append}
+use Rattle.std.proofs.lemmas.List.Sums.{AllPass-from_list_all}
 use Rattle.esi_vars.specs.declared.reference.Reference.{Reference}
-use Rattle.esi_vars.specs.Reference.{is_ws, is_quoted_byte}
+use Rattle.edge_types.specs.WhiteSpace.{is_ws}
 use Rattle.esi_vars.specs.Reading.{after_byte, reference_at}
+use Rattle.esi_vars.proofs.Complete.{prefix_len-run, cut_again}
 use Rattle.esi_vars.proofs.Theorems.{reads_references}
 use Rattle.esi_expr.specs.declared.expr.Comparison.{Comparison}
 use Rattle.esi_expr.specs.declared.expr.Comparison.TheVariants as comparison
@@ -16,7 +16,7 @@ use Rattle.esi_expr.specs.declared.expr.Operand.{Operand}
 use Rattle.esi_expr.specs.declared.expr.Operand.TheVariants as operand
 use Rattle.esi_expr.specs.Tree.{Test, Single, Or, Conj, Sole, And, Neg, Not, Group, Filled, Compared}
 use Rattle.esi_expr.specs.Numbers.{is_digit_count, are_digits, is_number}
-use Rattle.esi_expr.specs.Reading.{after_ws, after_sign, paired, alone, symbol_at, comparison_at, digits_at, quoted_at, operand_in, operand_at, plain_at, conj_with, test_with, neg_at}
+use Rattle.esi_expr.specs.Reading.{after_ws, after_sign, paired, alone, symbol_at, comparison_at, digits_at, operand_in, operand_at, plain_at, conj_with, test_with, neg_at}
 use Rattle.esi_expr.specs.Spelling.{Padded, symbol, IsOperand, SpellsOperand, Spells, SpellsConj, SpellsNeg, nesting, conj_nesting, neg_nesting}
 use Rattle.esi_expr.proofs.NumberLemmas.{both, digit_at}
 use Rattle.esi_expr.proofs.ReadingLemmas.{Underway, underway_step, underway_end, conj_begun, test_begun}
@@ -164,24 +164,11 @@ white_ends ws all =
       no_or = rw none refl;
     }
 
--- a run, and where it stops
-run_len : (p : ℕ → Bool) (xs ys : List ℕ) → AllPass p xs → prefix_len p ys ≡ 0 → prefix_len p (xs ++ ys) ≡ length xs
-run_len p xs ys all none =
-    let whole : prefix_len p xs ≡ length xs = prefix_len_is p xs (length xs) 0 (omega arith) (λ k h. all k 0 h) (λ h. absurd (omega arith)) in
-    let same = eq-eqb (prefix_len p xs) (length xs) whole in
-    prefix_len-append p xs ys ∙ rw (same, none) (omega arith)
-
-quoted_again : (bytes rest : List ℕ) → AllPass is_quoted_byte bytes → quoted_at (bytes ++ (39 ∷ rest)) ≡ Some (bytes, rest)
-unfolding quoted_at
-quoted_again bytes rest all =
-    let len = run_len is_quoted_byte bytes (39 ∷ rest) all refl in
-    rw (len, take_at bytes (39 ∷ rest) (length bytes) refl, drop_at bytes (39 ∷ rest) (length bytes) refl) refl
-
 digits_again : (digits rest : List ℕ) → are_digits digits ≡ true → prefix_len is_ascii_digit rest ≡ 0 → digits_at (digits ++ rest) ≡ Some (digits, rest)
 unfolding digits_at
 digits_again digits rest are none =
     let parts = both (is_digit_count (length digits)) (list_all is_ascii_digit digits) are in
-    let len = run_len is_ascii_digit digits rest (AllPass-from_list_all is_ascii_digit digits parts.1) none in
+    let len = prefix_len-run is_ascii_digit digits rest (AllPass-from_list_all is_ascii_digit digits parts.1) none in
     rw (len, parts.0, take_at digits rest (length digits) refl, drop_at digits rest (length digits) refl) refl
 
 -- the first byte of an operand is no white space and no sign
@@ -267,7 +254,7 @@ in_again (operand.Reference r) bytes rest is none =
     reference_by (bytes ++ rest) rest r _ begins ((reads_references (bytes ++ rest) rest r).1 (bytes, is, refl))
 in_again (operand.Quoted text) bytes rest is none =
     let regrouped : bytes ++ rest ≡ 39 ∷ (text ++ (39 ∷ rest)) = rw is.1 (simp append_assoc) in
-    rw (regrouped, quoted_again text rest is.0) refl
+    rw (regrouped, cut_again text rest is.0) refl
 in_again (operand.Number spelling) bytes rest is none = rw is.1 (number_text spelling rest is.0 none)
 
 -- white space stops where an operand begins

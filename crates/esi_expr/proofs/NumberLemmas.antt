@@ -1,12 +1,13 @@
 -- What digits stand for.
 use Rattle.std.proofs.Common.{◌≡◌, ℕ, ◌+◌, ◌-◌, ◌*◌, ◌^◌, ◌<◌, ◌≤◌, Bool, true, false, ◌&&◌, List, length, get_or, take, refl, add-one, arith}
 use Rattle.std.specs.List.{list_all}
-use Rattle.std.specs.Char.{is_ascii_digit}
+use Rattle.std.specs.Char.{is_ascii_digit, digit_value}
+use Rattle.std.specs.Str.Parse.{digits_value}
 use Rattle.std.proofs.Math.Nat.{pow-le-pow_right, pow-succ'}
 use Rattle.std.proofs.lemmas.Bool.Decides.{nat_tests}
-use Rattle.std.proofs.lemmas.List.{take_more}
-use Rattle.std.proofs.lemmas.List.Sums.{fold_push, AllPass-from_list_all}
-use Rattle.esi_expr.specs.Numbers.{is_digit_count, are_digits, magnitude}
+use Rattle.std.proofs.lemmas.List.Sums.{AllPass-from_list_all}
+use Rattle.std.proofs.lemmas.Int.Digits.{digits_value_more}
+use Rattle.esi_expr.specs.Numbers.{is_digit_count, are_digits}
 
 pub both : (a b : Bool) → (a && b) ≡ true → (a ≡ true) × (b ≡ true)
 both true b e = (refl, e)
@@ -28,9 +29,13 @@ digit_at digits e i d h =
     digit_range (get_or digits i d) (AllPass-from_list_all is_ascii_digit digits (both (is_digit_count (length digits)) (list_all is_ascii_digit digits) e).1 i d h)
 
 -- one digit more
-pub magnitude_more : (digits : List ℕ) (i d m x : ℕ) → i < length digits → m ≡ magnitude (take i digits) → x ≡ get_or digits i d - 48 → 10 * m + x ≡ magnitude (take (i + 1) digits)
-magnitude_more digits i d m x h value digit =
-    rw (take_more digits i d h, fold_push (λ (n : ℕ) (b : ℕ). 10 * n + (b - 48)) 0 (take i digits) (get_or digits i d), value, digit) refl
+digit_is : (b : ℕ) → 48 ≤ b → b ≤ 57 → digit_value b ≡ b - 48
+digit_is b low high = grind (arith, nat_tests)
+
+pub value_more : (digits : List ℕ) (i m x : ℕ) → i < length digits → are_digits digits ≡ true → m ≡ digits_value 10 (take i digits) → x ≡ get_or digits i 0 - 48 → 10 * m + x ≡ digits_value 10 (take (i + 1) digits)
+value_more digits i m x h are value digit =
+    let range = digit_at digits are i 0 h in
+    omega (arith, digits_value_more 10 digits i h, digit_is (get_or digits i 0) range.0 range.1)
 
 pub pow_more : (i : ℕ) → 10 ^ (i + 1) ≡ 10 * 10 ^ i
 pow_more i = rw add-one (pow-succ' 10 i)

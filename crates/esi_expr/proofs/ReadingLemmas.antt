@@ -2,8 +2,8 @@
 use Rattle.std.proofs.Common.{◌≡◌, ℕ, zero, suc, ◌<◌, ◌≤◌, Bool, true, false, cond, List, [], ◌∷◌, ◌++◌, length, map, Option, Some, None, refl, sym, ap, arith}
 use Rattle.std.specs.List.{fold}
 use Rattle.std.proofs.lemmas.Option.{cond_some}
+use Rattle.edge_types.specs.WhiteSpace.{is_ws}
 use Rattle.esi_vars.specs.Reading.{after_byte}
-use Rattle.esi_vars.specs.Reference.{is_ws}
 use Rattle.esi_expr.specs.Tree.{Single, Or, Conj, Sole, And, Neg}
 use Rattle.esi_expr.specs.Reading.{after_ws, after_sign, joined_at, conj_with, test_with}
 

@@ -8,8 +8,9 @@ use Rattle.std.proofs.lemmas.List.Folds.{length-prefix_len}
 use Rattle.std.proofs.lemmas.List.Sums.{list_all-from_AllPass, prefix_len_passes}
 use Rattle.std.proofs.lemmas.Option.{cond_some, option_and_then_some, some_pair_parts}
 use Rattle.esi_vars.specs.declared.reference.Reference.{Reference}
-use Rattle.esi_vars.specs.Reference.{is_ws, is_quoted_byte}
-use Rattle.esi_vars.specs.Reading.{◌>>=◌, after_byte, reference_at}
+use Rattle.edge_types.specs.WhiteSpace.{is_ws}
+use Rattle.esi_vars.specs.Reading.{◌>>=◌, after_byte, cut_at, reference_at}
+use Rattle.esi_vars.proofs.Sound.{Stands, after_sound, cut_sound}
 use Rattle.esi_vars.proofs.Theorems.{reads_references}
 use Rattle.esi_expr.specs.declared.expr.Comparison.{Comparison}
 use Rattle.esi_expr.specs.declared.expr.Comparison.TheVariants as comparison
@@ -17,14 +18,8 @@ use Rattle.esi_expr.specs.declared.expr.Operand.{Operand}
 use Rattle.esi_expr.specs.declared.expr.Operand.TheVariants as operand
 use Rattle.esi_expr.specs.Tree.{Test, Single, Or, Conj, Sole, And, Neg, Not, Group, Filled, Compared}
 use Rattle.esi_expr.specs.Numbers.{is_digit_count, are_digits, is_number}
-use Rattle.esi_expr.specs.Reading.{after_ws, after_sign, paired, alone, symbol_at, comparison_at, digits_at, closed_by, quoted_at, referred, quoted, numbered, operand_in, operand_at, compared, plain_at, behind, joined_at, conj_with, test_with, closed, nested, neg_at}
+use Rattle.esi_expr.specs.Reading.{after_ws, after_sign, paired, alone, symbol_at, comparison_at, digits_at, referred, quoted, numbered, operand_in, operand_at, compared, plain_at, behind, joined_at, conj_with, test_with, closed, nested, neg_at}
 use Rattle.esi_expr.specs.Spelling.{Padded, symbol, IsOperand, SpellsOperand, Spells, SpellsConj, SpellsNeg, nesting, conj_nesting, neg_nesting}
-
--- a piece with this fact stands at the front, and the rest behind it
-pub record Stands (P : List ℕ → Type 0) (text rest : List ℕ) : Type 0 where
-  pub piece : List ℕ
-  pub is : P piece
-  pub whole : text ≡ piece ++ rest
 
 -- a reader that reads what has this fact
 abbrev pub IsSound : {A : Type 0} → (A → List ℕ → Type 0) → (List ℕ → Option (A × List ℕ)) → Type 0
@@ -57,16 +52,9 @@ padded_at text bytes rest e =
     let (ws, all, whole) = white_at text in
     record { piece = ws ++ bytes; is = (ws, all, refl); whole = whole ∙ (ap (λ (t : List ℕ). ws ++ t) e ∙ sym (append_assoc ws bytes rest)) }
 
-byte_sound : (c : ℕ) (text rest : List ℕ) → after_byte c text ≡ Some rest → text ≡ c ∷ rest
-byte_sound c [] rest e = absurd (cc)
-byte_sound c (b ∷ bs) rest e =
-    let parts = cond_some (b == c) bs rest e in
-    let same = eqb-true b c parts.0 in
-    let later = parts.1 in cc
-
 pub sign_sound : (sign : ℕ) (text rest : List ℕ) → after_sign sign text ≡ Some rest → Stands (Padded (sign ∷ [])) text rest
 unfolding after_sign
-sign_sound sign text rest e = padded_at text (sign ∷ []) rest (byte_sound sign (after_ws text) rest e)
+sign_sound sign text rest e = padded_at text (sign ∷ []) rest (after_sound sign (after_ws text) rest e)
 
 paired_sound : (b : ℕ) (bs : List ℕ) (found : Comparison) (rest : List ℕ) → paired b bs ≡ Some (found, rest) → b ∷ (61 ∷ bs) ≡ symbol found ++ rest
 paired_sound b bs found rest e = by_tests (b == 61) (b == 33) (b == 60) (b == 62) refl refl refl refl e
@@ -117,21 +105,6 @@ digits_sound text digits rest e =
     same_stands (λ (ds : List ℕ) (piece : List ℕ). (are_digits ds ≡ true) × (piece ≡ ds)) text (take n text) digits (drop n text) rest (ap (λ (p : List ℕ × List ℕ). p.0) kept.1, ap (λ (p : List ℕ × List ℕ). p.1) kept.1)
     record { piece = take n text; is = (are, refl); whole = sym (take-append-drop n text) }
 
-closed_is : (bytes : List ℕ) (o : Option (List ℕ)) (found rest : List ℕ) → closed_by bytes o ≡ Some (found, rest) → (o ≡ Some rest) × (bytes ≡ found)
-closed_is bytes None found rest e = absurd (cc)
-closed_is bytes (Some x) found rest e = let same = some_pair_parts bytes found x rest e in (ap (λ (t : List ℕ). Some t) same.1, same.0)
-
-quoted_sound : (text bytes rest : List ℕ) → quoted_at text ≡ Some (bytes, rest) → AllPass is_quoted_byte bytes × (text ≡ bytes ++ (39 ∷ rest))
-unfolding quoted_at
-quoted_sound text bytes rest e =
-    let n = prefix_len is_quoted_byte text in
-    let (tail, same) = closed_is (take n text) (after_byte 39 (drop n text)) bytes rest e in
-    let len : length (take n text) ≡ n = length-prefix_len is_quoted_byte text in
-    let all : AllPass is_quoted_byte (take n text) = λ k d h.
-    let less : k < n = omega (arith, len) in ap is_quoted_byte (get_or-take n text k d less) ∙ prefix_len_passes is_quoted_byte text k d less in
-    let whole : text ≡ take n text ++ (39 ∷ rest) = sym (take-append-drop n text) ∙ ap (λ (t : List ℕ). take n text ++ t) (byte_sound 39 (drop n text) rest tail) in
-    (subst (λ (y : List ℕ). AllPass is_quoted_byte y) same all, whole ∙ ap (λ (y : List ℕ). y ++ (39 ∷ rest)) same)
-
 not_false : (a : Bool) → (a && false) ≡ true → ⊥
 not_false true h = absurd (cc)
 not_false false h = absurd (cc)
@@ -172,15 +145,15 @@ operand_in_sound [] found rest e = absurd (cc)
 operand_in_sound (b ∷ bs) found rest e = by_tests (b == 36) (b == 39) (b == 45) refl refl refl e
   where
     by_tests : (s t u : Bool) → (b == 36) ≡ s → (b == 39) ≡ t → (b == 45) ≡ u
-        → cond s (referred (reference_at (b ∷ bs))) (cond t (quoted (quoted_at bs)) (cond u (numbered (codes "-") (digits_at bs)) (numbered [] (digits_at (b ∷ bs))))) ≡ Some (found, rest)
+        → cond s (referred (reference_at (b ∷ bs))) (cond t (quoted (cut_at 39 bs)) (cond u (numbered (codes "-") (digits_at bs)) (numbered [] (digits_at (b ∷ bs))))) ≡ Some (found, rest)
         → Stands (IsOperand found) (b ∷ bs) rest
     by_tests true t u p q r e =
         let (reference, read, same) = referred_is (reference_at (b ∷ bs)) found rest e in
         let (piece, is, whole) = (reads_references (b ∷ bs) rest reference).0 read in
         subst (λ (y : Operand). Stands (IsOperand y) (b ∷ bs) rest) same record { piece = piece; is = is; whole = whole }
     by_tests false true u p q r e =
-        let (bytes, read, same) = quoted_is (quoted_at bs) found rest e in
-        let cut = quoted_sound bs bytes rest read in
+        let (bytes, read, same) = quoted_is (cut_at 39 bs) found rest e in
+        let cut = cut_sound bs bytes rest read in
         subst (λ (y : Operand). Stands (IsOperand y) (b ∷ bs) rest) same record { piece = codes "'" ++ (bytes ++ codes "'"); is = (cut.0, refl); whole = quoted_text b bs bytes rest (eqb-true b 39 q) cut.1 }
     by_tests false false true p q r e =
         let (digits, read, same) = numbered_is (codes "-") (digits_at bs) found rest e in

@@ -3,13 +3,14 @@ use Rattle.std.proofs.Common.{◌≡◌, ℕ, List, [], ◌∷◌, ◌++◌, Som
 use Rattle.std.specs.List.{AllPass}
 use Rattle.std.proofs.lemmas.List.{append-nil}
 use Rattle.std.proofs.lemmas.Option.{option_and_then_some, same_Some}
-use Rattle.esi_vars.specs.Reference.{is_ws}
+use Rattle.edge_types.specs.WhiteSpace.{is_ws}
 use Rattle.esi_expr.specs.declared.reading.TheConstants.{NESTING_LIMIT}
 use Rattle.esi_expr.specs.Tree.{Test}
 use Rattle.esi_expr.specs.Reading.{after_ws, neg_at, ended, read_test}
 use Rattle.esi_expr.specs.Spelling.{IsTest}
 use Rattle.esi_expr.specs.Laws.{ReadsTests, TestsAreOne}
-use Rattle.esi_expr.proofs.Sound.{Stands, Shallow, white_at, neg_sound, test_sound}
+use Rattle.esi_vars.proofs.Sound.{Stands}
+use Rattle.esi_expr.proofs.Sound.{Shallow, white_at, neg_sound, test_sound}
 use Rattle.esi_expr.proofs.Complete.{all_white, white_ends, neg_again, test_again}
 
 white_by : (rest : List ℕ) → (ws : List ℕ) × AllPass is_ws ws × (rest ≡ ws ++ after_ws rest) → after_ws rest ≡ [] → AllPass is_ws rest

@@ -1,7 +1,8 @@
 -- Texts that are numbers, and which number each is.
-use Rattle.std.specs.Prelude.{ℕ, ◌+◌, ◌-◌, ◌*◌, ℤ, pos, neg_ℤ, Bool, true, false, ◌&&◌, ◌==◌, nat_lt, nat_le, List, [], ◌∷◌, length, fold, Option, Some, None, if◌then◌else◌}
+use Rattle.std.specs.Prelude.{ℕ, ℤ, pos, neg_ℤ, Bool, true, false, ◌&&◌, ◌==◌, nat_lt, nat_le, List, [], ◌∷◌, length, Option, Some, None, if◌then◌else◌}
 use Rattle.std.specs.List.{list_all}
 use Rattle.std.specs.Char.{is_ascii_digit}
+use Rattle.std.specs.Str.Parse.{digits_value}
 use Rattle.esi_expr.specs.declared.number.TheConstants.{DIGIT_LIMIT}
 
 -- whether a number may have so many digits: 1 to 18
@@ -26,15 +27,11 @@ after_minus (b ∷ bs) = if b == 45 then bs else b ∷ bs
 abbrev pub is_number : List ℕ → Bool
 is_number text = are_digits (after_minus text)
 
--- what digits stand for in the decimal system
-abbrev pub magnitude : List ℕ → ℕ
-magnitude digits = fold (λ n digit. 10 * n + (digit - 48)) 0 digits
-
 -- the number of this sign
 abbrev pub signed : Bool → ℕ → ℤ
 signed true n = neg_ℤ (pos n)
 signed false n = pos n
 
--- the number that a text is, where it is one
+-- the number that a text is, in the decimal system, where it is one
 unfoldable pub number_of : List ℕ → Option ℤ
-number_of text = if is_number text then Some (signed (is_negative text) (magnitude (after_minus text))) else None
+number_of text = if is_number text then Some (signed (is_negative text) (digits_value 10 (after_minus text))) else None

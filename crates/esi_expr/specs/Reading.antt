@@ -3,8 +3,8 @@ use Rattle.std.specs.Prelude.{ℕ, zero, suc, ◌==◌, List, [], ◌∷◌, ◌
 use Rattle.std.specs.Char.{is_ascii_digit}
 use Rattle.std.specs.List.{prefix_len}
 use Rattle.esi_vars.specs.declared.reference.Reference.{Reference}
-use Rattle.esi_vars.specs.Reference.{is_ws, is_quoted_byte}
-use Rattle.esi_vars.specs.Reading.{◌>>=◌, after_byte, reference_at}
+use Rattle.edge_types.specs.WhiteSpace.{is_ws}
+use Rattle.esi_vars.specs.Reading.{◌>>=◌, after_byte, cut_at, reference_at}
 use Rattle.esi_expr.specs.declared.expr.Comparison.{Comparison}
 use Rattle.esi_expr.specs.declared.expr.Comparison.TheVariants as comparison
 use Rattle.esi_expr.specs.declared.expr.Operand.{Operand}
@@ -56,15 +56,6 @@ cut n text = (take n text, drop n text)
 unfoldable pub digits_at : List ℕ → Option (List ℕ × List ℕ)
 digits_at text = if is_digit_count (prefix_len is_ascii_digit text) then Some (cut (prefix_len is_ascii_digit text) text) else None
 
--- bytes before a quote, behind another
-abbrev pub closed_by : List ℕ → Option (List ℕ) → Option (List ℕ × List ℕ)
-closed_by bytes None = None
-closed_by bytes (Some rest) = Some (bytes, rest)
-
--- the bytes before the next quote, and what follows the quote
-unfoldable pub quoted_at : List ℕ → Option (List ℕ × List ℕ)
-quoted_at text = closed_by (take (prefix_len is_quoted_byte text) text) (after_byte 39 (drop (prefix_len is_quoted_byte text) text))
-
 -- operands of the three kinds
 abbrev pub referred : Option (Reference × List ℕ) → Option (Operand × List ℕ)
 referred None = None
@@ -82,7 +73,7 @@ numbered sign (Some found) = Some (operand.Number (sign ++ found.0), found.1)
 abbrev pub operand_by : ℕ → List ℕ → List ℕ → Option (Operand × List ℕ)
 operand_by b bs text =
     if b == 36 then referred (reference_at text)
-    else (if b == 39 then quoted (quoted_at bs)
+    else (if b == 39 then quoted (cut_at 39 bs)
     else (if b == 45 then numbered (codes "-") (digits_at bs)
     else numbered [] (digits_at text)))
 

@@ -1,4 +1,4 @@
--- What contracts see of a test: its tree.
+-- What contracts see of a test, which is its tree, and of what the readers return.
 use Rattle.std.specs.Prelude.{ℕ, List, Option, Some, None, fold}
 use Rattle.std.specs.Borrow.{Bor}
 use Rattle.esi_expr.specs.declared.expr.Expr.{Expr}
@@ -47,8 +47,3 @@ shown_by tree (Some found) = Some (tree found.0, found.1.now)
 abbrev pub shown : {A : Type 0} → Option (A × Bor (List ℕ)) → Option (A × List ℕ)
 shown None = None
 shown (Some found) = Some (found.0, found.1.now)
-
--- the same of a reader that finds bytes
-abbrev pub shown_run : Option (Bor (List ℕ) × Bor (List ℕ)) → Option (List ℕ × List ℕ)
-shown_run None = None
-shown_run (Some found) = Some (found.0.now, found.1.now)

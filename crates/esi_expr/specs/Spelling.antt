@@ -2,7 +2,8 @@
 -- "Operators"; their rank, the operands and the limits are our profile.
 use Rattle.std.specs.Prelude.{◌≡◌, ℕ, ◌+◌, ◌≤◌, max, true, List, ◌++◌, codes}
 use Rattle.std.specs.List.{AllPass}
-use Rattle.esi_vars.specs.Reference.{is_ws, is_quoted_byte, IsReference}
+use Rattle.edge_types.specs.WhiteSpace.{is_ws}
+use Rattle.esi_vars.specs.Reference.{is_quoted_byte, IsReference}
 use Rattle.esi_expr.specs.declared.expr.Comparison.{Comparison}
 use Rattle.esi_expr.specs.declared.expr.Comparison.TheVariants as comparison
 use Rattle.esi_expr.specs.declared.expr.Operand.{Operand}

@@ -1,4 +1,4 @@
-//! Comparisons of texts.
+// Comparisons of texts.
 
 ghost use Rattle.std.specs.Prelude.{◌≡◌};
 ghost use Rattle.esi_expr.specs.Truth.{accepts, order_of, compares};

@@ -12,4 +12,5 @@ mod tests;
 pub mod truth;
 
 pub use expr::{Comparison, Conjunction, Expr, Negation, Operand};
-pub use reading::parse;
+pub use number::DIGIT_LIMIT;
+pub use reading::{NESTING_LIMIT, parse};

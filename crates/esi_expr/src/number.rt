@@ -1,9 +1,10 @@
-//! Texts that are numbers.
+// Texts that are numbers.
 
 ghost use Rattle.std.specs.Prelude.{◌≡◌, ◌<◌, ◌^◌, true};
 ghost use Rattle.std.specs.Char.{is_ascii_digit};
 ghost use Rattle.std.specs.List.{list_all};
-ghost use Rattle.esi_expr.specs.Numbers.{is_digit_count, are_digits, is_negative, after_minus, magnitude, number_of};
+ghost use Rattle.std.specs.Str.Parse.{digits_value};
+ghost use Rattle.esi_expr.specs.Numbers.{is_digit_count, are_digits, is_negative, after_minus, number_of};
 
 /// The most digits of a number.
 ///
@@ -68,7 +69,7 @@ pub(crate) fn is_digit_count(len: usize) -> bool
 // What digits stand for.
 fn magnitude(digits: &[u8]) -> u64
     requires { are_digits digits.now ≡ true }
-    ensures value { result ≡ magnitude digits.now }
+    ensures value { result ≡ digits_value 10 digits.now }
     ensures small { result < 10 ^ 18 }
 {
     let mut magnitude = 0;

@@ -1,29 +1,22 @@
-//! The parts of a test's text, each with the white space before it.
+// The parts of a test's text, each with the white space before it.
 
 ghost use Rattle.std.specs.Prelude.{◌≡◌, ◌≤◌, length, IfOk};
 ghost use Rattle.std.specs.Char.{is_ascii_digit};
 ghost use Rattle.std.specs.List.{prefix_len};
 ghost use Rattle.std.specs.Option.{option_copied};
-ghost use Rattle.esi_vars.specs.Reference as vars;
-ghost use Rattle.esi_vars.specs.Reading.{after_byte, reference_at};
-ghost use Rattle.esi_expr.specs.Reading.{after_ws, after_sign, paired, alone, symbol_at, comparison_at, digits_at, quoted_at, referred, quoted, numbered, operand_by, operand_at};
-ghost use Rattle.esi_expr.specs.Shown.{shown, shown_run};
+ghost use Rattle.esi_vars.specs.Reading.{cut_at, reference_at};
+ghost use Rattle.esi_vars.specs.Shown.{shown_run};
+ghost use Rattle.esi_expr.specs.Reading.{after_ws, after_sign, paired, alone, symbol_at, comparison_at, digits_at, referred, quoted, numbered, operand_by, operand_at};
+ghost use Rattle.esi_expr.specs.Shown.{shown};
 
 use crate::expr::{Comparison, Operand};
 use crate::number::is_digit_count;
-use edge_types::{NoMemory, Octets};
-use esi_vars::reference_at;
+use edge_types::{NoMemory, Octets, is_ws};
+use esi_vars::{after_byte, cut_at, reference_at};
 use std::alloc::Global;
 
 /// The quotation mark round texts.
 const QUOTE: u8 = b'\'';
-
-// White space of templates.
-fn is_ws(byte: u8) -> bool
-    ensures { result ≡ vars.is_ws byte }
-{
-    matches!(byte, b' ' | b'\t' | b'\r' | b'\n')
-}
 
 /// What follows the white space at the front.
 pub(crate) fn after_ws(text: &[u8]) -> &[u8]
@@ -45,16 +38,6 @@ pub(crate) fn after_sign(sign: u8, text: &[u8]) -> Option<&[u8]>
     ensures { option_copied result ≡ after_sign sign text.now }
 {
     after_byte(sign, after_ws(text))
-}
-
-// What follows this byte at the front.
-fn after_byte(byte: u8, text: &[u8]) -> Option<&[u8]>
-    ensures { option_copied result ≡ after_byte byte text.now }
-{
-    match text.split_first() {
-        Some((first, rest)) if *first == byte => Some(rest),
-        _ => None,
-    }
 }
 
 // The comparison of this byte and `=`.
@@ -119,31 +102,6 @@ fn digits_at(text: &[u8]) -> Option<(&[u8], &[u8])>
     }
 }
 
-// How many bytes stand before the next quote, or the end.
-fn quoted_len(text: &[u8]) -> usize
-    ensures value { result ≡ prefix_len vars.is_quoted_byte text.now }
-    ensures within { result ≤ length text.now }
-{
-    for (i, byte) in text.iter().enumerate() {
-        if *byte == QUOTE {
-            return i;
-        }
-    }
-    text.len()
-}
-
-// The bytes before the next quote, and what follows the quote.
-#[tactic(auto, unfolding(crate::specs::Reading::quoted_at))]
-fn quoted_at(text: &[u8]) -> Option<(&[u8], &[u8])>
-    ensures { shown_run result ≡ quoted_at text.now }
-{
-    let (bytes, rest) = text.split_at(quoted_len(text));
-    match after_byte(QUOTE, rest) {
-        Some(after) => Some((bytes, after)),
-        None => None,
-    }
-}
-
 // A reference as an operand, and what follows it.
 fn referred(alloc: Global, text: &[u8]) -> Result<Option<(Operand, &[u8])>, NoMemory>
     ensures { IfOk result (λ found. shown found ≡ referred (reference_at text.now)) }
@@ -156,9 +114,9 @@ fn referred(alloc: Global, text: &[u8]) -> Result<Option<(Operand, &[u8])>, NoMe
 
 // Bytes between quotes as an operand, behind the first quote, and what follows the second.
 fn quoted(alloc: Global, text: &[u8]) -> Result<Option<(Operand, &[u8])>, NoMemory>
-    ensures { IfOk result (λ found. shown found ≡ quoted (quoted_at text.now)) }
+    ensures { IfOk result (λ found. shown found ≡ quoted (cut_at 39 text.now)) }
 {
-    match quoted_at(text) {
+    match cut_at(QUOTE, text) {
         Some((bytes, rest)) => {
             let bytes = Octets::of(bytes.to_vec(alloc)?);
             Ok(Some((Operand::Quoted(bytes), rest)))

@@ -1,18 +1,19 @@
 -- What the code's loop over elements keeps.
-use Rattle.std.proofs.Common.{◌≡◌, ℕ, ◌+◌, ◌<◌, ◌≤◌, List, ◌∷◌, ◌++◌, length, Option, Some, None, refl, sym, ◌∙◌, ap, append_assoc, length-append, arith, subst, drop, get_or, drop-cons, add-one}
+use Rattle.std.proofs.Common.{◌≡◌, ℕ, ◌+◌, ◌<◌, ◌≤◌, List, ◌∷◌, ◌++◌, length, refl, sym, ◌∙◌, ap, append_assoc, length-append, arith, subst, drop, get_or, drop-cons, add-one}
 use Rattle.std.proofs.lemmas.List.Folds.{concat-append}
-use Rattle.edge_types.specs.Pieces.{joined as spelt}
+use Rattle.edge_types.specs.Pieces.{joined}
 use Rattle.edge_types.specs.declared.request.Request.{Request}
 use Rattle.esi_vars.specs.declared.part.Part.{Part}
 use Rattle.esi_tree.specs.declared.node.Node.{Node}
 use Rattle.esi_tree.specs.Shown.{element_of, elements_of}
 use Rattle.esi_meaning.specs.Meaning.{element_run, elements_run}
-use Rattle.esi_meaning.specs.Run.{Run, joined, with_front}
+use Rattle.esi_meaning.specs.Run.{Run, in_turn, with_front}
 use Rattle.esi_meaning.specs.Ending.{Ends, Adds}
 use Rattle.esi_meaning.specs.declared.limits.TheConstants.{MAX_LEGS}
 use Rattle.esi_meaning.specs.declared.progress.Ending.{Ending}
 use Rattle.esi_meaning.specs.declared.progress.Ending.TheVariants.{Complete}
 use Rattle.esi_meaning.specs.declared.progress.Progress.{Progress}
+use Rattle.esi_meaning.proofs.RunLemmas.{with_front-with_front}
 
 -- what is left of a run, after these legs and this text
 pub record Leaves (whole rest : Run) (start now : Progress) : Type 0 where
@@ -25,19 +26,15 @@ pub record Leaves (whole rest : Run) (start now : Progress) : Type 0 where
 pub adds-more : (x y : List ℕ) (a b c : List (List ℕ)) → Adds x a b → Adds y b c → Adds (x ++ y) a c
 adds-more x y a b c first second = record {
   pieces = first.pieces ++ second.pieces;
-  behind = second.behind ∙ ap (λ (ps : List (List ℕ)). ps ++ second.pieces) first.behind ∙ append_assoc a first.pieces second.pieces;
-  spell = concat-append first.pieces second.pieces ∙ ap (λ (bytes : List ℕ). bytes ++ spelt second.pieces) first.spell ∙ ap (λ (bytes : List ℕ). x ++ bytes) second.spell;
+  appended = second.appended ∙ ap (λ (ps : List (List ℕ)). ps ++ second.pieces) first.appended ∙ append_assoc a first.pieces second.pieces;
+  spell = concat-append first.pieces second.pieces ∙ ap (λ (bytes : List ℕ). bytes ++ joined second.pieces) first.spell ∙ ap (λ (bytes : List ℕ). x ++ bytes) second.spell;
 }
 
-with_front-with_front : (a b : List ℕ) (o : Option (List ℕ)) → with_front a (with_front b o) ≡ with_front (a ++ b) o
-with_front-with_front a b None = refl
-with_front-with_front a b (Some c) = ap Some (sym (append_assoc a b c))
-
-module _ (whole a b : Run) (start old new : Progress) (left : Leaves whole (joined a b) start old) where
+module _ (whole a b : Run) (start old new : Progress) (left : Leaves whole (in_turn a b) start old) where
   pub leaves-more : Ends a old new Complete → Leaves whole b start new
   leaves-more e =
-      let legs : length (joined a b).legs ≡ length a.legs + length b.legs = rw e.0.gave (length-append a.legs b.legs) in
-      let gave : (joined a b).text ≡ with_front e.0.text b.text = rw e.0.gave refl in
+      let legs : length (in_turn a b).legs ≡ length a.legs + length b.legs = rw e.0.gave (length-append a.legs b.legs) in
+      let gave : (in_turn a b).text ≡ with_front e.0.text b.text = rw e.0.gave refl in
       record {
         few = e.1.few;
         sum = omega (arith, e.1.sum, left.sum, legs);

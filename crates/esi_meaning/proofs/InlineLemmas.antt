@@ -1,11 +1,12 @@
 -- The inline that a URL names is the first that does among the template's, in text order.
-use Rattle.std.proofs.Common.{◌≡◌, ℕ, Bool, true, false, cond, List, ◌++◌, Option, Some, None, if◌then◌else◌, refl, ap}
-use Rattle.std.specs.List.{find}
+use Rattle.std.proofs.Common.{◌≡◌, ℕ, Bool, true, false, cond, List, [], ◌∷◌, ◌++◌, bytes_eq, Option, Some, None, if◌then◌else◌, refl, ◌∙◌, ap}
+use Rattle.std.specs.List.{find, cons_option, filter_map}
 use Rattle.std.specs.Option.{option_or, option_map}
 use Rattle.std.proofs.lemmas.List.Folds.{find-append}
+use Rattle.edge_types.specs.Asked.{resolve}
 use Rattle.esi_tree.specs.Tree.{Element, Text, VarsText, Include, Choose, Try, Vars, Inline, Nothing, Elements, End, Then, Branches, NoBranch, When, Otherwise}
-use Rattle.esi_meaning.specs.Inlines.{names, inline_in, inline_for, inline_in_branches, NamedBody, inlines_in, inlines, inlines_among}
-use Rattle.esi_meaning.specs.Laws.{FirstInlineCounts}
+use Rattle.esi_meaning.specs.Inlines.{is_url, names, inline_in, inline_for, inline_in_branches, NamedBody, inlines_in, inlines, inlines_among, UrlBody, with_url, inline_urls}
+use Rattle.esi_meaning.specs.Laws.{FirstInlineCounts, InlinesByUrl}
 
 -- the content of a found inline
 abbrev content_of : Option NamedBody → Option Elements
@@ -63,3 +64,28 @@ module _ (u w : List ℕ) where
 
 pub first_inline_counts : FirstInlineCounts
 first_inline_counts u w t = first_for u w t
+
+-- the content of the first of these inlines whose URL is w
+abbrev first_at : List ℕ → List UrlBody → Option Elements
+first_at w all = option_map (λ (i : UrlBody). i.content) (find (λ (i : UrlBody). bytes_eq i.url w) all)
+
+by_url_if : (i : NamedBody) (j : UrlBody) (rest : Option NamedBody) (others : Option UrlBody) → i.content ≡ j.content
+    → content_of rest ≡ option_map (λ (x : UrlBody). x.content) others → (b : Bool)
+    → content_of (cond b (Some i) rest) ≡ option_map (λ (x : UrlBody). x.content) (cond b (Some j) others)
+by_url_if i j rest others same e true = ap Some same
+by_url_if i j rest others same e false = e
+
+by_url_step : (w : List ℕ) (i : NamedBody) (rest : Option NamedBody) (others : List UrlBody) → content_of rest ≡ first_at w others → (url : Option (List ℕ))
+    → content_of (cond (is_url w url) (Some i) rest) ≡ first_at w (cons_option (option_map (λ v. record { url = v; content = i.content }) url) others)
+by_url_step w i rest others e None = e
+by_url_step w i rest others e (Some found) =
+    by_url_if i (record { url = found; content = i.content }) rest (find (λ (x : UrlBody). bytes_eq x.url w) others) refl e (bytes_eq found w)
+
+by_url : (u w : List ℕ) (all : List NamedBody) → first_of u w all ≡ first_at w (filter_map (with_url u) all)
+unfolding names
+by_url u w [] = refl
+by_url u w (i ∷ all) = by_url_step w i (find (is_named u w) all) (filter_map (with_url u) all) (by_url u w all) (resolve u i.name)
+
+pub inlines_by_url : InlinesByUrl
+unfolding inline_urls
+inlines_by_url u w t = first_for u w t ∙ by_url u w (inlines t)

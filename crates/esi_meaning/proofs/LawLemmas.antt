@@ -2,6 +2,7 @@
 -- leaves no text, and what is fetched ahead is named by its template, and by no inline of it.
 use Rattle.std.proofs.Common.{◌≡◌, ◌⊎◌, ◌≢◌, ℕ, zero, suc, ◌≤◌, Bool, true, false, cond, List, [], ◌∷◌, ◌++◌, length, take, Option, Some, None, if◌then◌else◌, refl, sym, ◌∙◌, ap, subst, inl, inr, arith}
 use Rattle.std.specs.List.{AllByRecursion, Contains, cons_option, filter_map}
+use Rattle.std.proofs.lemmas.List.{append-nil}
 use Rattle.std.proofs.lemmas.Slice.Eq.{bytes_eq-Decides}
 use Rattle.std.proofs.lemmas.List.Elements.{Contains-append_left, Contains-append_right, Contains-append_cases}
 use Rattle.edge_types.specs.declared.request.Request.{Request}
@@ -13,11 +14,12 @@ use Rattle.esi_vars.specs.Values.{substituted}
 use Rattle.esi_expr.specs.Truth.{holds}
 use Rattle.esi_tree.specs.Tree.{Element, Text, VarsText, Include, Choose, Try, Vars, Inline, Nothing, Elements, End, Then, Branches, NoBranch, When, Otherwise}
 use Rattle.esi_meaning.specs.declared.limits.TheConstants.{MAX_LEGS}
-use Rattle.esi_meaning.specs.Ahead.{open_in, open_sources, open_among, unless_inline, asked_url, ahead, sources_in, sources, sources_among}
+use Rattle.esi_meaning.specs.Ahead.{ahead_in, ahead_sources, ahead_among, unless_inline, asked_url, ahead, sources_in, sources, sources_among}
 use Rattle.esi_meaning.specs.Inlines.{inline_for}
-use Rattle.esi_meaning.specs.Laws.{SameReply, UnaskedChangesNothing, AsksFew, FailedAttemptLeavesNoText, AheadIsNamed}
-use Rattle.esi_meaning.specs.Meaning.{urls, most_legs, reply_legs, asked}
-use Rattle.esi_meaning.specs.Run.{Leg}
+use Rattle.esi_meaning.specs.Laws.{SameReply, UnaskedChangesNothing, AsksFew, FailedAttemptLeavesNoText, AttemptWithTextStands, AheadHasSource}
+use Rattle.esi_meaning.specs.Meaning.{elements_run, urls, most_legs, reply_legs, asked}
+use Rattle.esi_meaning.specs.Run.{Leg, Asks, AsksNobody, Run, or_else}
+use Rattle.esi_meaning.proofs.LegLemmas.{all_mapped}
 use Rattle.esi_meaning.proofs.OutcomeLemmas.{rests_on_asked}
 use Rattle.esi_meaning.proofs.StateLemmas.{false_if_not}
 
@@ -28,10 +30,6 @@ no_later y xs x none h = none (Contains-append_right (y ∷ []) xs x h)
 all_others : {X : Type 0} (xs : List X) (x : X) → ¬ Contains xs x → AllByRecursion (λ y. y ≢ x) xs
 all_others [] x none = tt
 all_others (y ∷ xs) x none = (λ e. none (0, omega arith, e), all_others xs x (no_later y xs x none))
-
-all_mapped : {X : Type 0} (P Q : X → Type 0) → ((x : X) → P x → Q x) → (xs : List X) → AllByRecursion P xs → AllByRecursion Q xs
-all_mapped P Q f [] all = tt
-all_mapped P Q f (x ∷ xs) all = (f x all.0, all_mapped P Q f xs all.1)
 
 -- an answer of another URL changes no reply
 found_after : (x : Answered) (w : List ℕ) (old new : Option Answered) → old ≡ new → (b : Bool) → cond b (Some x) old ≡ cond b (Some x) new
@@ -59,8 +57,8 @@ unasked_changes_nothing r front back beside L u none =
 few_urls : (n : ℕ) (legs : List Leg) → length (urls (take n legs)) ≤ n
 few_urls zero legs = omega arith
 few_urls (suc n) [] = omega arith
-few_urls (suc n) (None ∷ legs) = omega (arith, few_urls n legs)
-few_urls (suc n) (Some w ∷ legs) = omega (arith, few_urls n legs)
+few_urls (suc n) (AsksNobody ∷ legs) = omega (arith, few_urls n legs)
+few_urls (suc n) (Asks level w ∷ legs) = omega (arith, few_urls n legs)
 
 most_are : most_legs ≡ MAX_LEGS
 unfolding most_legs
@@ -73,20 +71,28 @@ asks_few r T L u = omega (arith, few_urls most_legs (reply_legs r T L u (reply_o
 pub failed_attempt_leaves_no_text : FailedAttemptLeavesNoText
 failed_attempt_leaves_no_text r leg attempt except swapped fails = rw fails refl
 
--- each source that a page may come to is one of its template
+stands : (legs : List Leg) (given : Option (List ℕ)) (except : Run) (text : List ℕ) → given ≡ Some text
+    → or_else (record { legs = legs; text = given }) except ≡ record { legs = legs; text = given }
+stands legs given except text e = rw (e, append-nil legs) refl
+
+pub attempt_with_text_stands : AttemptWithTextStands
+attempt_with_text_stands r leg attempt except swapped text e =
+    stands (elements_run r leg attempt).legs (elements_run r leg attempt).text (elements_run r leg except) text e
+
+-- each source that is fetched ahead is one of the template
 is_source_if : (b : Bool) (xs ys vs ws : List (List Part)) (s : List Part) → (Contains xs s → Contains vs s ⊎ Contains ws s) → (Contains ys s → Contains vs s ⊎ Contains ws s)
     → Contains (if b then xs else ys) s → Contains vs s ⊎ Contains ws s
 is_source_if true xs ys vs ws s f g h = f h
 is_source_if false xs ys vs ws s f g h = g h
 
 mutual
-  is_source_in : (r : Request) (e : Element) (s : List Part) → Contains (open_in r e) s → Contains (sources_in e) s
+  is_source_in : (r : Request) (e : Element) (s : List Part) → Contains (ahead_in r e) s → Contains (sources_in e) s
   is_source_in r (Text text) s h = h
   is_source_in r (VarsText parts) s h = h
   is_source_in r (Include src alt continues) s h = h
   is_source_in r (Choose branches) s h = elim (is_source_among r [] branches s h) [ inl none ↦ absurd (omega (arith, none.1)) | inr some ↦ some ]
   is_source_in r (Try attempt except swapped) s h =
-      elim (Contains-append_cases (open_sources r attempt) (open_sources r except) s h) [
+      elim (Contains-append_cases (ahead_sources r attempt) (ahead_sources r except) s h) [
         | inl a ↦ Contains-append_left (sources attempt) (sources except) s (is_source r attempt s a)
         | inr b ↦ Contains-append_right (sources attempt) (sources except) s (is_source r except s b)
       ]
@@ -94,23 +100,23 @@ mutual
   is_source_in r (Inline name content) s h = is_source r content s h
   is_source_in r Nothing s h = h
 
-  is_source : (r : Request) (t : Elements) (s : List Part) → Contains (open_sources r t) s → Contains (sources t) s
+  is_source : (r : Request) (t : Elements) (s : List Part) → Contains (ahead_sources r t) s → Contains (sources t) s
   is_source r End s h = h
   is_source r (Then first rest) s h =
-      elim (Contains-append_cases (open_in r first) (open_sources r rest) s h) [
+      elim (Contains-append_cases (ahead_in r first) (ahead_sources r rest) s h) [
         | inl a ↦ Contains-append_left (sources_in first) (sources rest) s (is_source_in r first s a)
         | inr b ↦ Contains-append_right (sources_in first) (sources rest) s (is_source r rest s b)
       ]
 
-  is_source_among : (r : Request) (otherwise : List (List Part)) (bs : Branches) (s : List Part) → Contains (open_among r otherwise bs) s → Contains otherwise s ⊎ Contains (sources_among bs) s
+  is_source_among : (r : Request) (otherwise : List (List Part)) (bs : Branches) (s : List Part) → Contains (ahead_among r otherwise bs) s → Contains otherwise s ⊎ Contains (sources_among bs) s
   is_source_among r otherwise NoBranch s h = inl h
   is_source_among r otherwise (When test content rest) s h =
-      is_source_if (holds r test) (open_sources r content) (open_among r otherwise rest) otherwise (sources content ++ sources_among rest) s
+      is_source_if (holds r test) (ahead_sources r content) (ahead_among r otherwise rest) otherwise (sources content ++ sources_among rest) s
       (λ a. inr (Contains-append_left (sources content) (sources_among rest) s (is_source r content s a)))
       (λ b. elim (is_source_among r otherwise rest s b) [ inl o ↦ inl o | inr c ↦ inr (Contains-append_right (sources content) (sources_among rest) s c) ])
       h
   is_source_among r otherwise (Otherwise content rest) s h =
-      elim (is_source_among r (open_sources r content) rest s h) [
+      elim (is_source_among r (ahead_sources r content) rest s h) [
         | inl a ↦ inr (Contains-append_left (sources content) (sources_among rest) s (is_source r content s a))
         | inr c ↦ inr (Contains-append_right (sources content) (sources_among rest) s c)
       ]
@@ -151,9 +157,9 @@ asked_is u w t (Some v) e =
     let is = unless_is v w (inline_for u v t) e in
     (ap Some is.0, subst (λ (x : List ℕ). inline_for u x t ≡ None) is.0 is.1)
 
-pub ahead_is_named : AheadIsNamed
+pub ahead_has_source : AheadHasSource
 unfolding ahead
-ahead_is_named r u t w c =
-    let f = from_filter (λ (s : List Part). asked_url u t (resolve u (substituted r s))) (open_sources r t) w c in
+ahead_has_source r u t w c =
+    let f = from_filter (λ (s : List Part). asked_url u t (resolve u (substituted r s))) (ahead_sources r t) w c in
     let is = asked_is u w t (resolve u (substituted r f.source)) f.is in
     (record { source = f.source; stands = is_source r t f.source f.stands; is_url = is.0 }, is.1)

@@ -27,6 +27,6 @@ pub chosen_run_content : (r : Request) (leg : List Part → Run) (bs : Branches)
 chosen_run_content r leg bs = chosen_run-content r leg End bs
 
 pub leg_above : (r : Request) (T : List Answered) (n : ℕ) (u : List ℕ) (t : Elements) (s : List Part) → 0 < n
-    → leg_run r T n u t s ≡ resolved_run r (leg_run r T (n - 1)) T u t (resolve u (substituted r s))
+    → leg_run r T n u t s ≡ resolved_run r (leg_run r T (n - 1)) T (suc (n - 1)) u t (resolve u (substituted r s))
 leg_above r T zero u t s above = absurd (omega arith)
 leg_above r T (suc n) u t s above = let e : suc n - 1 ≡ n = omega arith in rw e refl

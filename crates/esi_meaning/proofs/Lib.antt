@@ -1,3 +1,4 @@
+pub mod RunLemmas
 pub mod Endings
 pub mod Depths
 pub mod Legs
@@ -5,7 +6,12 @@ pub mod NearRuns
 pub mod NearMeanings
 pub mod OutcomeLemmas
 pub mod StateLemmas
+pub mod StateLaws
+pub mod LegLemmas
+pub mod WaitLaws
+pub mod ChoiceLaws
 pub mod LawLemmas
 pub mod AskedLemmas
+pub mod LegalLaws
 pub mod InlineLemmas
 pub mod TextLemmas

@@ -12,8 +12,8 @@ use Rattle.esi_tree.specs.Reading.{tree_of}
 use Rattle.esi_tree.specs.Tree.{Element, Text, VarsText, Include, Choose, Try, Vars, Inline, Nothing, Elements, End, Then, Branches, NoBranch, When, Otherwise}
 use Rattle.esi_meaning.specs.Inlines.{inline_for}
 use Rattle.esi_meaning.specs.Meaning.{alt_run, element_run, elements_run, chosen_run, template_run, reply_run, named_run, resolved_run, leg_run, page_run}
-use Rattle.esi_meaning.specs.Run.{Run}
-use Rattle.esi_meaning.proofs.NearRuns.{Near, near_refl, near-joined, near-or_else, near-tries}
+use Rattle.esi_meaning.specs.Run.{Asks, AsksNobody, Run}
+use Rattle.esi_meaning.proofs.NearRuns.{Near, near_refl, near-in_turn, near-or_else, near-tries}
 
 near-alt : {S T : List Answered} (f g : List Part → Run) → ((s : List Part) → Near S T (f s) (g s)) → (alt : Option (List Part)) → Near S T (alt_run f alt) (alt_run g alt)
 near-alt f g n None = near_refl
@@ -36,7 +36,7 @@ mutual
 
   pub near-elements : {S T : List Answered} (r : Request) (f g : List Part → Run) → ((s : List Part) → Near S T (f s) (g s)) → (es : Elements) → Near S T (elements_run r f es) (elements_run r g es)
   near-elements r f g n End = near_refl
-  near-elements r f g n (Then first rest) = near-joined (near-element r f g n first) (near-elements r f g n rest)
+  near-elements r f g n (Then first rest) = near-in_turn (near-element r f g n first) (near-elements r f g n rest)
 
   near-chosen : {S T : List Answered} (r : Request) (f g : List Part → Run) → ((s : List Part) → Near S T (f s) (g s)) → (a b : Run) → Near S T a b → (bs : Branches) → Near S T (chosen_run r f a bs) (chosen_run r g b bs)
   near-chosen r f g n a b o NoBranch = o
@@ -52,17 +52,17 @@ module _ {S T : List Answered} (r : Request) (f g : List ℕ → Elements → Li
   near-reply : (w : List ℕ) (reply : Reply) → Near S T (reply_run r f w reply) (reply_run r g w reply)
   near-reply w reply = near_if (processed reply) (near-template w (tree_of (body_of reply))) near_refl
 
-  near-named : (u : List ℕ) (t : Elements) (w : List ℕ) (inline : Option Elements) → Near S T (named_run r f S u t w inline) (named_run r g T u t w inline)
-  near-named u t w (Some content) = near-tries None (λ _. near-elements r (f u t) (g u t) (n u t) content)
-  near-named u t w None = near-tries (Some w) (λ same. rw (← same) (near-reply w (reply_of S w)))
+  near-named : (m : ℕ) (u : List ℕ) (t : Elements) (w : List ℕ) (inline : Option Elements) → Near S T (named_run r f S m u t w inline) (named_run r g T m u t w inline)
+  near-named m u t w (Some content) = near-tries AsksNobody (λ _. near-elements r (f u t) (g u t) (n u t) content)
+  near-named m u t w None = near-tries (Asks m w) (λ same. rw (← same) (near-reply w (reply_of S w)))
 
-  near-resolved : (u : List ℕ) (t : Elements) (w : Option (List ℕ)) → Near S T (resolved_run r f S u t w) (resolved_run r g T u t w)
-  near-resolved u t None = near_refl
-  near-resolved u t (Some w) = near-named u t w (inline_for u w t)
+  near-resolved : (m : ℕ) (u : List ℕ) (t : Elements) (w : Option (List ℕ)) → Near S T (resolved_run r f S m u t w) (resolved_run r g T m u t w)
+  near-resolved m u t None = near_refl
+  near-resolved m u t (Some w) = near-named m u t w (inline_for u w t)
 
 pub near-leg : (S T : List Answered) (r : Request) (n : ℕ) (u : List ℕ) (t : Elements) (s : List Part) → Near S T (leg_run r S n u t s) (leg_run r T n u t s)
 near-leg S T r zero u t s = near_refl
-near-leg S T r (suc n) u t s = near-resolved r (leg_run r S n) (leg_run r T n) (near-leg S T r n) u t (resolve u (substituted r s))
+near-leg S T r (suc n) u t s = near-resolved r (leg_run r S n) (leg_run r T n) (near-leg S T r n) (suc n) u t (resolve u (substituted r s))
 
 pub near-page : (S T : List Answered) (r : Request) (n : ℕ) (u : List ℕ) (t : Elements) → Near S T (page_run r S n u t) (page_run r T n u t)
 near-page S T r n u t = near-elements r (leg_run r S n u t) (leg_run r T n u t) (near-leg S T r n u t) t

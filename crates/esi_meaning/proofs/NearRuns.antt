@@ -3,13 +3,13 @@ use Rattle.std.proofs.Common.{◌≡◌, ◌⊎◌, ℕ, zero, suc, ◌+◌, ◌
 use Rattle.std.proofs.Math.Seq.{take-append-add}
 use Rattle.std.proofs.lemmas.List.{take-append-le, length-take, length-append}
 use Rattle.edge_types.specs.Answered.{Answered}
-use Rattle.esi_meaning.specs.Run.{Leg, Run, tries, followed, joined, behind, with_front, or_else, instead}
+use Rattle.esi_meaning.specs.Run.{Leg, Asks, AsksNobody, Run, tries, followed, in_turn, behind, with_front, or_else, instead}
 use Rattle.esi_meaning.specs.Laws.{SameReply}
 
 -- the tables reply alike to a leg
 abbrev pub LegSame : List Answered → List Answered → Leg → Type 0
-LegSame S T None = Unit {0}
-LegSame S T (Some w) = SameReply S T w
+LegSame S T (Asks n w) = SameReply S T w
+LegSame S T AsksNobody = Unit {0}
 
 -- the tables reply alike to the first k legs
 unfoldable pub Alike : List Answered → List Answered → ℕ → List Leg → Type 0
@@ -100,8 +100,8 @@ near-instead : {S T : List Answered} {c d : Run} → Near S T c d → (o : Optio
 near-instead n None = n
 near-instead n (Some text) = near_refl
 
-pub near-joined : {S T : List Answered} {a b c d : Run} → Near S T a b → Near S T c d → Near S T (joined a c) (joined b d)
-near-joined {a = a} {b = b} {c = c} {d = d} na nc = near-followed a b (behind c) (behind d) na (near-behind nc)
+pub near-in_turn : {S T : List Answered} {a b c d : Run} → Near S T a b → Near S T c d → Near S T (in_turn a c) (in_turn b d)
+near-in_turn {a = a} {b = b} {c = c} {d = d} na nc = near-followed a b (behind c) (behind d) na (near-behind nc)
 
 pub near-or_else : {S T : List Answered} {a b c d : Run} → Near S T a b → Near S T c d → Near S T (or_else a c) (or_else b d)
 near-or_else {a = a} {b = b} {c = c} {d = d} na nc = near-followed a b (instead c) (instead d) na (near-instead nc)

@@ -1,5 +1,5 @@
 -- An outcome rests on what was asked for it.
-use Rattle.std.proofs.Common.{◌≡◌, ◌⊎◌, ℕ, zero, suc, ◌<◌, ◌≤◌, Bool, true, false, List, [], ◌∷◌, length, take, Some, None, Result, Ok, Err, refl, sym, ◌∙◌, ap, inl, inr, arith, nat_lt, lt-ltb, if◌then◌else◌}
+use Rattle.std.proofs.Common.{◌≡◌, ◌⊎◌, ℕ, zero, suc, ◌<◌, ◌≤◌, Bool, true, false, List, [], ◌∷◌, length, take, Result, Ok, Err, refl, sym, ◌∙◌, ap, inl, inr, arith, nat_lt, lt-ltb, if◌then◌else◌}
 use Rattle.std.proofs.lemmas.List.{length-take, take-take}
 use Rattle.std.specs.List.{AllByRecursion}
 use Rattle.edge_types.specs.declared.request.Request.{Request}
@@ -12,7 +12,7 @@ use Rattle.esi_tree.specs.Reading.{tree_of}
 use Rattle.esi_tree.specs.Tree.{Elements}
 use Rattle.esi_meaning.specs.Laws.{SameReply, OutcomeRestsOnAsked}
 use Rattle.esi_meaning.specs.Meaning.{page_run, urls, most_legs, run_outcome, tree_legs, reply_legs, tree_outcome, reply_outcome, outcome, asked}
-use Rattle.esi_meaning.specs.Run.{Leg, Run}
+use Rattle.esi_meaning.specs.Run.{Leg, Asks, AsksNobody, Run}
 use Rattle.esi_meaning.proofs.NearRuns.{Alike, Close, Near, le_or_lt}
 use Rattle.esi_meaning.proofs.NearMeanings.{near-page}
 
@@ -20,8 +20,8 @@ alike_from-urls : (S T : List Answered) (k : ℕ) (legs : List Leg) → AllByRec
 unfolding Alike
 alike_from-urls S T zero legs all = tt
 alike_from-urls S T (suc k) [] all = tt
-alike_from-urls S T (suc k) (None ∷ legs) all = (tt, alike_from-urls S T k legs all)
-alike_from-urls S T (suc k) (Some w ∷ legs) all = (all.0, alike_from-urls S T k legs all.1)
+alike_from-urls S T (suc k) (AsksNobody ∷ legs) all = (tt, alike_from-urls S T k legs all)
+alike_from-urls S T (suc k) (Asks n w ∷ legs) all = (all.0, alike_from-urls S T k legs all.1)
 
 take_less : (k : ℕ) (xs ys : List Leg) → take (suc k) xs ≡ take (suc k) ys → take k xs ≡ take k ys
 take_less k xs ys e =

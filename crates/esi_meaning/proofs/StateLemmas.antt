@@ -13,7 +13,7 @@ use Rattle.esi_tree.specs.Reading.{tree_of}
 use Rattle.esi_tree.specs.Tree.{Elements}
 use Rattle.esi_meaning.specs.Laws.{SameReply, StateRestsOnLog, LoggedAnswersSuffice}
 use Rattle.esi_meaning.specs.Meaning.{page_run, urls, most_legs, run_outcome, tree_legs, reply_legs, tree_outcome, reply_outcome, outcome, asked}
-use Rattle.esi_meaning.specs.Run.{Leg, Run}
+use Rattle.esi_meaning.specs.Run.{Leg, Asks, AsksNobody, Run}
 use Rattle.esi_meaning.specs.State.{State, is_missing, state_from, state_over, state}
 use Rattle.esi_meaning.proofs.NearRuns.{Alike, Near}
 use Rattle.esi_meaning.proofs.NearMeanings.{near-page}
@@ -68,20 +68,20 @@ missing_later : (log S T : List Answered) (m : ℕ) (l : Leg) (legs : List Leg) 
     → Missing log S T (suc m) (l ∷ legs) w
 missing_later log S T m l legs w rest alike here = record { k = suc rest.k; below = omega (arith, rest.below); alike = alike rest.k rest.alike; here = here rest.k rest.here }
 
-missing_step : (log S T : List Answered) → Agrees log S → Agrees log T → (m : ℕ) (v : List ℕ) (legs : List Leg) (w : List ℕ)
+missing_step : (log S T : List Answered) → Agrees log S → Agrees log T → (m n : ℕ) (v : List ℕ) (legs : List Leg) (w : List ℕ)
     → (find (is_missing log) (urls (take m legs)) ≡ Some w → Missing log S T m legs w)
-    → (b : Bool) → is_missing log v ≡ b → cond b (Some v) (find (is_missing log) (urls (take m legs))) ≡ Some w → Missing log S T (suc m) (Some v ∷ legs) w
+    → (b : Bool) → is_missing log v ≡ b → cond b (Some v) (find (is_missing log) (urls (take m legs))) ≡ Some w → Missing log S T (suc m) (Asks n v ∷ legs) w
 unfolding Alike
-missing_step log S T s t m v legs w later true is e = record { k = 0; below = omega arith; alike = tt; here = rw is e }
-missing_step log S T s t m v legs w later false is e =
-    missing_later log S T m (Some v) legs w (later e) (λ k h. (logged_same log S T s t v is, h)) (λ k h. rw is h)
+missing_step log S T s t m n v legs w later true is e = record { k = 0; below = omega arith; alike = tt; here = rw is e }
+missing_step log S T s t m n v legs w later false is e =
+    missing_later log S T m (Asks n v) legs w (later e) (λ k h. (logged_same log S T s t v is, h)) (λ k h. rw is h)
 
 first_missing : (log S T : List Answered) → Agrees log S → Agrees log T → (m : ℕ) (legs : List Leg) (w : List ℕ) → find (is_missing log) (urls (take m legs)) ≡ Some w → Missing log S T m legs w
 unfolding Alike
 first_missing log S T s t zero legs w e = absurd (cc)
 first_missing log S T s t (suc m) [] w e = absurd (cc)
-first_missing log S T s t (suc m) (None ∷ legs) w e = missing_later log S T m None legs w (first_missing log S T s t m legs w e) (λ k h. (tt, h)) (λ k h. h)
-first_missing log S T s t (suc m) (Some v ∷ legs) w e = missing_step log S T s t m v legs w (first_missing log S T s t m legs w) (is_missing log v) refl e
+first_missing log S T s t (suc m) (AsksNobody ∷ legs) w e = missing_later log S T m AsksNobody legs w (first_missing log S T s t m legs w e) (λ k h. (tt, h)) (λ k h. h)
+first_missing log S T s t (suc m) (Asks n v ∷ legs) w e = missing_step log S T s t m n v legs w (first_missing log S T s t m legs w) (is_missing log v) refl e
 
 -- what is found among fewer legs is found among more
 found_step : (p : List ℕ → Bool) (v w : List ℕ) (some more : List (List ℕ)) → (find p some ≡ Some w → find p more ≡ Some w) → (b : Bool)
@@ -93,8 +93,8 @@ found_among_more : (p : List ℕ → Bool) (k m : ℕ) (legs : List Leg) (w : Li
 found_among_more p zero m legs w h e = absurd (cc)
 found_among_more p (suc k) zero legs w h e = absurd (omega arith)
 found_among_more p (suc k) (suc m) [] w h e = e
-found_among_more p (suc k) (suc m) (None ∷ legs) w h e = found_among_more p k m legs w (omega arith) e
-found_among_more p (suc k) (suc m) (Some v ∷ legs) w h e =
+found_among_more p (suc k) (suc m) (AsksNobody ∷ legs) w h e = found_among_more p k m legs w (omega arith) e
+found_among_more p (suc k) (suc m) (Asks n v ∷ legs) w h e =
     found_step p v w (urls (take k legs)) (urls (take m legs)) (found_among_more p k m legs w (omega arith)) (p v) e
 
 -- the state of a page whose legs are these
@@ -162,7 +162,7 @@ found_itself (x ∷ log) once (suc k) d within =
     rw differs (found_itself log (λ i j e before inside. once (suc i) (suc j) e (omega arith) (omega arith)) k d (omega arith))
 
 -- a table agrees with itself
-agrees_itself : (log : List Answered) → IsTable log → Agrees log log
+pub agrees_itself : (log : List Answered) → IsTable log → Agrees log log
 agrees_itself log once k d within = ap reply_in (found_itself log once k d within)
 
 pub logged_answers_suffice : LoggedAnswersSuffice

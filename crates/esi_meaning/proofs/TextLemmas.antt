@@ -1,14 +1,11 @@
 -- A text has one list of tokens at most, and that list one tree.
-use Rattle.std.proofs.Common.{◌≡◌, List, sym, subst}
-use Rattle.esi_scanner.specs.declared.token.Token.{Token}
 use Rattle.esi_scanner.proofs.Theorems.{spells-once}
 use Rattle.esi_tree.specs.Items.{items_of}
-use Rattle.esi_tree.specs.Template.{IsTemplate}
 use Rattle.esi_tree.proofs.Theorems.{one-tree}
-use Rattle.esi_meaning.specs.Laws.{OneTreeOfText}
+use Rattle.esi_meaning.specs.Laws.{OneListOfTokens, OneTreeOfTokens}
 
-pub one-tree_of-text : OneTreeOfText
-one-tree_of-text text tokens others t u a b one other =
-    let same : tokens ≡ others = spells-once text tokens others a b in
-    let P : List Token → Type 0 = λ ts. IsTemplate u (items_of text ts) in
-    (same, one-tree t u (items_of text tokens) one (subst P (sym same) other))
+pub one_list_of_tokens : OneListOfTokens
+one_list_of_tokens text tokens others one other = spells-once text tokens others one other
+
+pub one_tree_of_tokens : OneTreeOfTokens
+one_tree_of_tokens text tokens t u one other = one-tree t u (items_of text tokens) one other

@@ -1,5 +1,6 @@
--- The URLs that a template names: those that are fetched ahead, and those that a log may have.
-use Rattle.std.specs.Prelude.{◌≡◌, ℕ, true, List, [], ◌∷◌, ◌++◌, filter_map, Any, Contains, Option, Some, None, Ok, if◌then◌else◌}
+-- The URLs that the sources of a template stand for: those that are fetched ahead, and those that a log may have. Which
+-- are fetched ahead is our profile.
+use Rattle.std.specs.Prelude.{◌≡◌, ℕ, true, List, [], ◌∷◌, ◌++◌, filter_map, Any, Contains, Option, Some, None, Result, Ok, Err, if◌then◌else◌}
 use Rattle.edge_types.specs.declared.request.Request.{Request}
 use Rattle.edge_types.specs.Answered.{Answered, processed, body_of}
 use Rattle.edge_types.specs.Asked.{resolve}
@@ -16,27 +17,28 @@ abbrev pub include_sources : List Part → Option (List Part) → List (List Par
 include_sources src None = src ∷ []
 include_sources src (Some alt) = src ∷ alt ∷ []
 
--- the sources that a page may come to: of each choose those of the branch that is taken, of each try those of the
--- attempt, then those of the except
+-- the sources to fetch ahead: of each choose those of the branch that is taken, of each try those of the attempt, then
+-- those of the except. An inline of a branch that isn't taken can still be reached by its name; its sources are asked
+-- for when they are reached.
 abbrev mutual
-  pub open_in : Request → Element → List (List Part)
-  open_in r (Text text) = []
-  open_in r (VarsText parts) = []
-  open_in r (Include src alt continues) = include_sources src alt
-  open_in r (Choose branches) = open_among r [] branches
-  open_in r (Try attempt except swapped) = open_sources r attempt ++ open_sources r except
-  open_in r (Vars content) = open_sources r content
-  open_in r (Inline name content) = open_sources r content
-  open_in r Nothing = []
+  pub ahead_in : Request → Element → List (List Part)
+  ahead_in r (Text text) = []
+  ahead_in r (VarsText parts) = []
+  ahead_in r (Include src alt continues) = include_sources src alt
+  ahead_in r (Choose branches) = ahead_among r [] branches
+  ahead_in r (Try attempt except swapped) = ahead_sources r attempt ++ ahead_sources r except
+  ahead_in r (Vars content) = ahead_sources r content
+  ahead_in r (Inline name content) = ahead_sources r content
+  ahead_in r Nothing = []
 
-  pub open_sources : Request → Elements → List (List Part)
-  open_sources r End = []
-  open_sources r (Then first rest) = open_in r first ++ open_sources r rest
+  pub ahead_sources : Request → Elements → List (List Part)
+  ahead_sources r End = []
+  ahead_sources r (Then first rest) = ahead_in r first ++ ahead_sources r rest
 
-  pub open_among : Request → List (List Part) → Branches → List (List Part)
-  open_among r otherwise NoBranch = otherwise
-  open_among r otherwise (When test content rest) = if holds r test then open_sources r content else open_among r otherwise rest
-  open_among r otherwise (Otherwise content rest) = open_among r (open_sources r content) rest
+  pub ahead_among : Request → List (List Part) → Branches → List (List Part)
+  ahead_among r otherwise NoBranch = otherwise
+  ahead_among r otherwise (When test content rest) = if holds r test then ahead_sources r content else ahead_among r otherwise rest
+  ahead_among r otherwise (Otherwise content rest) = ahead_among r (ahead_sources r content) rest
 
 -- the URL, unless an inline names it
 abbrev pub unless_inline : List ℕ → Option Elements → Option (List ℕ)
@@ -50,7 +52,15 @@ asked_url u t (Some w) = unless_inline w (inline_for u w t)
 
 -- the URLs to fetch ahead for the template of the URL u with the tree t
 unfoldable pub ahead : Request → List ℕ → Elements → List (List ℕ)
-ahead r u t = filter_map (λ s. asked_url u t (resolve u (substituted r s))) (open_sources r t)
+ahead r u t = filter_map (λ s. asked_url u t (resolve u (substituted r s))) (ahead_sources r t)
+
+-- the URLs to fetch ahead for an answer: none where its body isn't processed or is no template
+abbrev pub ahead_of_tree : Request → List ℕ → Result Elements ℕ → List (List ℕ)
+ahead_of_tree r u (Ok t) = ahead r u t
+ahead_of_tree r u (Err place) = []
+
+unfoldable pub ahead_of : Request → Answered → List (List ℕ)
+ahead_of r answer = if processed answer.reply then ahead_of_tree r answer.url (tree_of (body_of answer.reply)) else []
 
 -- all sources of a template, those of branches that aren't taken too
 abbrev mutual
@@ -74,27 +84,27 @@ abbrev mutual
   sources_among (Otherwise content rest) = sources content ++ sources_among rest
 
 -- a source of the template of the URL u with the tree t stands for the URL w
-pub record Names (r : Request) (u : List ℕ) (t : Elements) (w : List ℕ) : Type 0 where
+pub record HasSource (r : Request) (u : List ℕ) (t : Elements) (w : List ℕ) : Type 0 where
   pub source : List Part
   pub stands : Contains (sources t) source
   pub is_url : resolve u (substituted r source) ≡ Some w
 
 -- the answer's body is a template that is processed, and a source of it stands for the URL w
-pub record Leads (r : Request) (w : List ℕ) (answer : Answered) : Type 0 where
+pub record LeadsTo (r : Request) (w : List ℕ) (answer : Answered) : Type 0 where
   pub t : Elements
   pub is_processed : processed answer.reply ≡ true
   pub is_tree : tree_of (body_of answer.reply) ≡ Ok t
-  pub names : Names r answer.url t w
+  pub has_source : HasSource r answer.url t w
 
 -- and no inline of this template names the URL: its leg there asks the origin for it
 pub record AsksFor (r : Request) (w : List ℕ) (answer : Answered) : Type 0 where
-  pub leads : Leads r w answer
+  pub leads : LeadsTo r w answer
   pub unnamed : inline_for answer.url w leads.t ≡ None
 
 -- the URL w may be asked next, after these answers: the page's own is the first
 abbrev pub MayFollow : Request → List ℕ → List Answered → List ℕ → Type 0
 MayFollow r u [] w = w ≡ u
-MayFollow r u (first ∷ more) w = Any (Leads r w) (first ∷ more)
+MayFollow r u (first ∷ more) w = Any (LeadsTo r w) (first ∷ more)
 
 -- a log that a page at the URL u may have
 pub record IsLegal (r : Request) (u : List ℕ) (log : List Answered) : Type 0 where

@@ -15,16 +15,16 @@ pub record Counts (run : Run) (old new : ℕ) : Type 0 where
 -- pieces of this text stand after those that were there
 pub record Adds (text : List ℕ) (old new : List (List ℕ)) : Type 0 where
   pub pieces : List (List ℕ)
-  pub behind : new ≡ old ++ pieces
+  pub appended : new ≡ old ++ pieces
   pub spell : joined pieces ≡ text
 
 -- the run's text stands after what was there
-pub record Gives (run : Run) (old new : List (List ℕ)) : Type 0 where
+pub record GivesText (run : Run) (old new : List (List ℕ)) : Type 0 where
   pub text : List ℕ
   pub gave : run.text ≡ Some text
   pub added : Adds text old new
 
 abbrev pub Ends : Run → Progress → Progress → Ending → Type 0
-Ends run old new Complete = Gives run old.body new.body × Counts run old.legs new.legs
+Ends run old new Complete = GivesText run old.body new.body × Counts run old.legs new.legs
 Ends run old new Failed = (run.text ≡ None) × (new.body ≡ old.body) × Counts run old.legs new.legs
 Ends run old new TooManyLegs = MAX_LEGS < old.legs + length run.legs

@@ -1,6 +1,6 @@
--- Which inline of a template a URL names.
-use Rattle.std.specs.Prelude.{ℕ, Bool, true, false, List, [], ◌∷◌, ◌++◌, bytes_eq, Option, Some, None, if◌then◌else◌}
-use Rattle.std.specs.Option.{option_or}
+-- Which inline of a template a URL names: our profile.
+use Rattle.std.specs.Prelude.{ℕ, Bool, true, false, List, [], ◌∷◌, ◌++◌, bytes_eq, filter_map, Option, Some, None, if◌then◌else◌}
+use Rattle.std.specs.Option.{option_or, option_map}
 use Rattle.edge_types.specs.Asked.{resolve}
 use Rattle.esi_tree.specs.Tree.{Element, Text, VarsText, Include, Choose, Try, Vars, Inline, Nothing, Elements, End, Then, Branches, NoBranch, When, Otherwise}
 
@@ -62,3 +62,16 @@ abbrev mutual
   inlines_among NoBranch = []
   inlines_among (When test content rest) = inlines content ++ inlines_among rest
   inlines_among (Otherwise content rest) = inlines content ++ inlines_among rest
+
+-- an inline whose name stands for a URL
+pub record UrlBody : Type 0 where
+  pub url : List ℕ
+  pub content : Elements
+
+abbrev pub with_url : List ℕ → NamedBody → Option UrlBody
+with_url u inline = option_map (λ w. record { url = w; content = inline.content }) (resolve u inline.name)
+
+-- the inlines of the template of the URL u with the tree t, each name resolved once; those that stand for no URL are
+-- left out
+unfoldable pub inline_urls : List ℕ → Elements → List UrlBody
+inline_urls u t = filter_map (with_url u) (inlines t)

@@ -5,4 +5,4 @@ pub mod Ahead
 pub mod State
 pub mod Laws
 pub mod Ending
-pub mod Plain
+pub mod Evaluator

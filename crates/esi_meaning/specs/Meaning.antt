@@ -1,4 +1,6 @@
--- The sequential meaning of a page: what each element gives, which legs it tries, and the outcome.
+-- The sequential meaning of a page: what each element gives, which legs it tries, and the outcome. What an element gives
+-- is that of the ESI Language Specification 1.0; that branches and the parts of a try stand in any order, that an inline
+-- is processed where it stands, levels, the count of legs and the order of the faults are our profile.
 use Rattle.std.specs.Prelude.{ℕ, zero, suc, ◌≤◌, Bool, true, false, nat_lt, List, [], ◌∷◌, length, take, Option, Some, None, Result, Ok, Err, if◌then◌else◌}
 use Rattle.edge_types.specs.declared.request.Request.{Request}
 use Rattle.edge_types.specs.declared.answer.Reply.{Reply}
@@ -15,7 +17,7 @@ use Rattle.esi_tree.specs.Tree.{Element, Text, VarsText, Include, Choose, Try, V
 use Rattle.esi_tree.specs.Reading.{tree_of}
 use Rattle.esi_meaning.specs.declared.limits.TheConstants.{MAX_LEGS, MIN_LEVELS, MAX_LEVELS}
 use Rattle.esi_meaning.specs.Inlines.{inline_for}
-use Rattle.esi_meaning.specs.Run.{Leg, Run, gives, tries, joined, or_else}
+use Rattle.esi_meaning.specs.Run.{Leg, Asks, AsksNobody, Run, gives, tries, in_turn, or_else}
 
 -- What the elements give, where `leg` says what a `src` or an `alt` comes to.
 
@@ -30,7 +32,7 @@ on_error true = gives (Some [])
 on_error false = gives None
 
 abbrev mutual
-  -- one element: ESI 1.0, "include", "choose", "try", "vars", "inline", "comment", "remove"
+  -- one element: "include", "choose", "try", "vars", "inline", "comment", "remove"
   pub element_run : Request → (List Part → Run) → Element → Run
   element_run r leg (Text text) = gives (Some text)
   element_run r leg (VarsText parts) = gives (Some (substituted r parts))
@@ -44,7 +46,7 @@ abbrev mutual
   -- elements one after another
   pub elements_run : Request → (List Part → Run) → Elements → Run
   elements_run r leg End = gives (Some [])
-  elements_run r leg (Then first rest) = joined (element_run r leg first) (elements_run r leg rest)
+  elements_run r leg (Then first rest) = in_turn (element_run r leg first) (elements_run r leg rest)
 
   -- the first `when` whose test holds, else the otherwise, wherever it stands
   pub chosen_run : Request → (List Part → Run) → Run → Branches → Run
@@ -60,35 +62,36 @@ chosen_content r otherwise (When test content rest) = if holds r test then conte
 chosen_content r otherwise (Otherwise content rest) = chosen_content r content rest
 
 -- an answer that isn't processed: its body as it stands, where the fetch succeeded
-abbrev pub plain_run : Reply → Run
-plain_run reply = gives (if succeeded reply then Some (body_of reply) else None)
+abbrev pub unprocessed_run : Reply → Run
+unprocessed_run reply = gives (if succeeded reply then Some (body_of reply) else None)
 
 -- A leg, one level down: `below` says what the legs of a template of the URL and the tree come to.
 module _ (r : Request) (below : List ℕ → Elements → List Part → Run) where
-  -- a template's text, processed
+  -- A text of the URL w, processed. Which tree a text has is told by esi_tree's `Template`; its law `ReadsTexts` says
+  -- that `tree_of` reads just this tree.
   abbrev pub template_run : List ℕ → Result Elements ℕ → Run
   template_run w (Ok t) = elements_run r (below w t) t
   template_run w (Err place) = gives None
 
   -- what an origin's reply comes to
   abbrev pub reply_run : List ℕ → Reply → Run
-  reply_run w reply = if processed reply then template_run w (tree_of (body_of reply)) else plain_run reply
+  reply_run w reply = if processed reply then template_run w (tree_of (body_of reply)) else unprocessed_run reply
 
   -- a leg of the URL w in the template of the URL u with the tree t: the content of an inline of this template, which
-  -- asks nobody, or else what the origin replies
-  abbrev pub named_run : List Answered → List ℕ → Elements → List ℕ → Option Elements → Run
-  named_run T u t w (Some content) = tries None (elements_run r (below u t) content)
-  named_run T u t w None = tries (Some w) (reply_run w (reply_of T w))
+  -- asks nobody, or else what the origin replies; the leg is tried at level n
+  abbrev pub named_run : List Answered → ℕ → List ℕ → Elements → List ℕ → Option Elements → Run
+  named_run T n u t w (Some content) = tries AsksNobody (elements_run r (below u t) content)
+  named_run T n u t w None = tries (Asks n w) (reply_run w (reply_of T w))
 
   -- a leg of this URL, or of none
-  abbrev pub resolved_run : List Answered → List ℕ → Elements → Option (List ℕ) → Run
-  resolved_run T u t None = tries None (gives None)
-  resolved_run T u t (Some w) = named_run T u t w (inline_for u w t)
+  abbrev pub resolved_run : List Answered → ℕ → List ℕ → Elements → Option (List ℕ) → Run
+  resolved_run T n u t None = tries AsksNobody (gives None)
+  resolved_run T n u t (Some w) = named_run T n u t w (inline_for u w t)
 
 -- the leg s at level n, in the template of the URL u with the tree t
 abbrev pub leg_run : Request → List Answered → ℕ → List ℕ → Elements → List Part → Run
-leg_run r T zero u t s = tries None (gives None)
-leg_run r T (suc n) u t s = resolved_run r (leg_run r T n) T u t (resolve u (substituted r s))
+leg_run r T zero u t s = tries AsksNobody (gives None)
+leg_run r T (suc n) u t s = resolved_run r (leg_run r T n) T (suc n) u t (resolve u (substituted r s))
 
 -- the page's tree, at level n
 abbrev pub page_run : Request → List Answered → ℕ → List ℕ → Elements → Run
@@ -108,11 +111,11 @@ run_outcome limit status content_type run =
 unfoldable pub most_legs : ℕ
 most_legs = MAX_LEGS
 
--- the URLs of legs that have one
+-- the URLs that legs ask
 abbrev pub urls : List Leg → List (List ℕ)
 urls [] = []
-urls (None ∷ legs) = urls legs
-urls (Some w ∷ legs) = w ∷ urls legs
+urls (Asks n w ∷ legs) = w ∷ urls legs
+urls (AsksNobody ∷ legs) = urls legs
 
 module _ (r : Request) (T : List Answered) (L : ℕ) (u : List ℕ) where
   -- The legs of a page, where it is processed and a template.
@@ -137,9 +140,13 @@ module _ (r : Request) (T : List Answered) (L : ℕ) (u : List ℕ) where
   unfoldable pub outcome : Shown
   outcome = reply_outcome (reply_of T u)
 
-  -- the URLs that the outcome rests on: the page's, and those among the legs that a page may try
+  -- the first of its legs, as many as a page may try
+  abbrev pub page_legs : List Leg
+  page_legs = take most_legs (reply_legs (reply_of T u))
+
+  -- the URLs that the outcome rests on: the page's, and those that these legs ask
   unfoldable pub asked : List (List ℕ)
-  asked = u ∷ urls (take most_legs (reply_legs (reply_of T u)))
+  asked = u ∷ urls page_legs
 
 -- a number of levels under a page
 pub record AreLevels (levels : ℕ) : Type 0 where

@@ -2,9 +2,10 @@
 -- fails. A leg is one `src` or one `alt` that is tried.
 use Rattle.std.specs.Prelude.{ℕ, List, [], ◌∷◌, ◌++◌, Option, Some, None}
 
--- a leg's URL, or none where it asks nobody
-abbrev pub Leg : Type 0
-Leg = Option (List ℕ)
+-- a leg: the level at which it is tried and the URL that it asks, or one that asks nobody
+pub data Leg : Type 0 where
+  Asks : (level : ℕ) (url : List ℕ) → Leg
+  AsksNobody : Leg
 
 pub record Run : Type 0 where
   pub legs : List Leg
@@ -32,8 +33,8 @@ behind b None = gives None
 behind b (Some front) = record { legs = b.legs; text = with_front front b.text }
 
 -- a and then b: nothing of b is tried where a fails
-abbrev pub joined : Run → Run → Run
-joined a b = followed a (behind b)
+abbrev pub in_turn : Run → Run → Run
+in_turn a b = followed a (behind b)
 
 abbrev pub instead : Run → Option (List ℕ) → Run
 instead b None = b

@@ -9,7 +9,7 @@ use esi_tree::{Branch, Node};
 
 /// The content of the first `when` whose test holds, else of the otherwise, else nothing.
 #[tactic(auto, using(crate::proofs::Depths::depth_chosen_content))]
-pub fn chosen<'a>(request: &Request, branches: &'a [Branch]) -> &'a [Node]
+pub(crate) fn chosen<'a>(request: &Request, branches: &'a [Branch]) -> &'a [Node]
     ensures content { elements_of result.now ≡ chosen_content request.now End (branches_of branches.now) }
     ensures shallow { depth (elements_of result.now) ≤ branches_depth (branches_of branches.now) }
 {

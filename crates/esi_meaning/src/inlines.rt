@@ -3,7 +3,7 @@ ghost use Rattle.std.specs.Prelude.{◌≡◌, ◌≤◌, IfOk, IfSome};
 ghost use Rattle.esi_tree.specs.Shown.{element_of, elements_of, branches_of};
 ghost use Rattle.esi_tree.specs.Tree.{depth};
 ghost use Rattle.esi_meaning.specs.Inlines.{names, inline_for, inline_in, inline_in_branches};
-ghost use Rattle.esi_meaning.specs.Plain.{shown_slice};
+ghost use Rattle.esi_meaning.specs.Evaluator.{shown_slice};
 
 use edge_types::{NoMemory, PageUrl};
 use esi_tree::{Branch, Node};
@@ -13,7 +13,7 @@ use std::alloc::Global;
 ///
 /// It goes over the whole template for each leg, and resolves the name of each inline anew.
 #[tactic(auto, using(crate::proofs::Depths::depth_inline_for))]
-pub fn inline_for<'a>(
+pub(crate) fn inline_for<'a>(
     alloc: Global,
     base: &PageUrl,
     url: &PageUrl,
@@ -64,16 +64,14 @@ fn inline_in<'a>(
             except,
             swapped,
         } => {
-            if *swapped {
-                match inline_among(alloc, base, url, except.as_slice())? {
-                    Some(found) => Ok(Some(found)),
-                    None => inline_among(alloc, base, url, attempt.as_slice()),
-                }
+            let (first, second) = if *swapped {
+                (except, attempt)
             } else {
-                match inline_among(alloc, base, url, attempt.as_slice())? {
-                    Some(found) => Ok(Some(found)),
-                    None => inline_among(alloc, base, url, except.as_slice()),
-                }
+                (attempt, except)
+            };
+            match inline_among(alloc, base, url, first.as_slice())? {
+                Some(found) => Ok(Some(found)),
+                None => inline_among(alloc, base, url, second.as_slice()),
             }
         }
         Node::Vars(content) => inline_among(alloc, base, url, content.as_slice()),
@@ -110,7 +108,7 @@ fn names(alloc: Global, base: &PageUrl, url: &PageUrl, name: &[u8]) -> Result<bo
     ensures { IfOk result (λ b. b ≡ names base.now url.now name.now) }
 {
     match base.resolve(alloc, name)? {
-        Some(named) => Ok(named.as_bytes() == url.as_bytes()),
+        Some(named) => Ok(named == *url),
         None => Ok(false),
     }
 }

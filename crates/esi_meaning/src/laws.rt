@@ -1,8 +1,10 @@
 //! Laws of the meaning: each is the contract of a function that does nothing.
 ghost use Rattle.std.specs.Prelude.{◌≡◌};
-ghost use Rattle.esi_meaning.specs.Laws.{AheadIsNamed, AskedIsNamed, AsksFew, FailedAttemptLeavesNoText};
-ghost use Rattle.esi_meaning.specs.Laws.{FirstInlineCounts, LoggedAnswersSuffice, OutcomeRestsOnAsked, StateRestsOnLog};
-ghost use Rattle.esi_meaning.specs.Laws.{OneTreeOfText, UnaskedChangesNothing};
+ghost use Rattle.esi_meaning.specs.Laws.{OutcomeRestsOnAsked, StateRestsOnLog, LoggedAnswersSuffice, WaitsForAsked, DoneIsOutcome};
+ghost use Rattle.esi_meaning.specs.Laws.{WaitsAtLeg, LegIsWaitedFor, UnaskedChangesNothing, AsksFew, FailedAttemptLeavesNoText, AttemptWithTextStands};
+ghost use Rattle.esi_meaning.specs.Laws.{FirstWhenCounts, FirstWhenIsAhead, FirstInlineCounts, InlinesByUrl, AheadHasSource, AskedHasSource};
+ghost use Rattle.esi_meaning.specs.Laws.{NothingIsLegal, LegalGrows, StillFollows, WaitedForFollows, AheadFollows};
+ghost use Rattle.esi_meaning.specs.Laws.{OneListOfTokens, OneTreeOfTokens};
 
 use crate::limits::{MAX_LEGS, MAX_LEVELS, MIN_LEVELS};
 
@@ -30,6 +32,37 @@ pub fn logged_answers_suffice()
     ensures { LoggedAnswersSuffice }
 {}
 
+/// What a page waits for isn't logged, and is asked for it over every table that agrees with the
+/// logged answers. Takes no memory.
+///
+/// Our profile.
+pub fn waits_for_asked()
+    ensures { WaitsForAsked }
+{}
+
+/// A page that is done has its outcome over every table that agrees with the logged answers, and
+/// each URL that is asked for it is logged. Takes no memory.
+///
+/// Our profile.
+pub fn done_is_outcome()
+    ensures { DoneIsOutcome }
+{}
+
+/// A page that waits for a URL waits for its own and at no leg, or at a leg that asks this URL, at
+/// one of the levels under the page. Takes no memory.
+///
+/// Our profile.
+pub fn waits_at_leg()
+    ensures { WaitsAtLeg }
+{}
+
+/// A page that waits at a leg waits for the URL of this leg. Takes no memory.
+///
+/// Our profile.
+pub fn leg_is_waited_for()
+    ensures { LegIsWaitedFor }
+{}
+
 /// What was fetched and isn't asked changes no outcome: a table with one answer more, of a URL
 /// that isn't asked, gives the same. Takes no memory.
 ///
@@ -53,6 +86,23 @@ pub fn failed_attempt_leaves_no_text()
     ensures { FailedAttemptLeavesNoText }
 {}
 
+/// Of a try whose attempt has a text no more than the attempt is tried. Takes no memory.
+///
+/// Source: ESI Language Specification 1.0, "try".
+pub fn attempt_with_text_stands()
+    ensures { AttemptWithTextStands }
+{}
+
+/// A choose is the content of its first `when` whose test holds, else of its otherwise, wherever
+/// this stands, else nothing; and of this content the sources are fetched ahead. Takes no memory.
+///
+/// Source: ESI Language Specification 1.0, "choose"; the order of branches and what is fetched
+/// ahead are our profile.
+pub fn first_when_counts()
+    ensures run { FirstWhenCounts }
+    ensures ahead { FirstWhenIsAhead }
+{}
+
 /// Of the inlines of a template, in the text's order, the first that names a URL counts, wherever
 /// it stands: also in a branch that isn't taken, or within another inline, which comes before it.
 /// Takes no memory.
@@ -62,27 +112,49 @@ pub fn first_inline_counts()
     ensures { FirstInlineCounts }
 {}
 
+/// The inline that counts for a URL is the first of this URL in the list of the template's inlines
+/// in which each name is resolved once. Takes no memory.
+///
+/// Our profile.
+pub fn inlines_by_url()
+    ensures { InlinesByUrl }
+{}
+
 /// What is fetched ahead for a template is a URL that a `src` or an `alt` of it stands for, and
 /// that no inline of it names. Takes no memory.
 ///
 /// Our profile.
-pub fn ahead_is_named()
-    ensures { AheadIsNamed }
+pub fn ahead_has_source()
+    ensures { AheadHasSource }
 {}
 
 /// What is asked for a page is its own URL, or one that a `src` or an `alt` stands for in the
 /// template of an answer, and that no inline of this template names. Takes no memory.
 ///
 /// Our profile.
-pub fn asked_is_named()
-    ensures { AskedIsNamed }
+pub fn asked_has_source()
+    ensures { AskedHasSource }
+{}
+
+/// No answers are a legal log; a legal log grows by the answer of a URL that may follow and isn't
+/// logged; such a URL is the one that a page waits for, and each that is fetched ahead for a logged
+/// answer, then and later. Takes no memory.
+///
+/// Our profile.
+pub fn legal_logs()
+    ensures nothing { NothingIsLegal }
+    ensures grows { LegalGrows }
+    ensures still { StillFollows }
+    ensures waited { WaitedForFollows }
+    ensures ahead { AheadFollows }
 {}
 
 /// A text has at most one list of tokens, and that list at most one tree. Takes no memory.
 ///
 /// Our profile.
-pub fn one_tree_of_a_text()
-    ensures { OneTreeOfText }
+pub fn one_list_of_tokens_and_one_tree()
+    ensures tokens { OneListOfTokens }
+    ensures tree { OneTreeOfTokens }
 {}
 
 /// The limits of a page, in figures. Takes no memory.

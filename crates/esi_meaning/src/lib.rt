@@ -1,15 +1,15 @@
-//! The sequential meaning of a page, and the plain evaluator that follows it.
+//! The sequential meaning of a page, and the evaluator that follows it.
 #![tactic(auto)]
 
 mod choice;
+mod evaluator;
 mod inlines;
 pub mod laws;
-pub mod limits;
-pub mod page;
-mod plain;
+mod limits;
+mod page;
 mod progress;
 #[cfg(test)]
 mod tests;
 
-pub use limits::are_levels;
+pub use limits::{MAX_LEGS, MAX_LEVELS, MIN_LEVELS, are_levels};
 pub use page::plain_page;

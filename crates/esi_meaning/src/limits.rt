@@ -1,4 +1,4 @@
-//! How far a page may go.
+// How far a page may go.
 ghost use Rattle.std.specs.Prelude.{◌↔◌, IsTrue};
 ghost use Rattle.esi_meaning.specs.Meaning.{AreLevels};
 

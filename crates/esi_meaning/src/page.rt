@@ -1,13 +1,13 @@
-//! The plain evaluator of pages.
+// The outcome of a page.
 ghost use Rattle.std.specs.Prelude.{◌≡◌, IfOk};
 ghost use Rattle.std.specs.Arc.{arc_value};
 ghost use Rattle.edge_types.specs.Answered.{body_of};
 ghost use Rattle.edge_types.specs.Outcome.{shown};
 ghost use Rattle.edge_types.specs.Pieces.{joined};
 ghost use Rattle.esi_meaning.specs.Meaning.{outcome, AreLevels};
-ghost use Rattle.esi_meaning.specs.Plain.{answered_page, processed_page};
+ghost use Rattle.esi_meaning.specs.Evaluator.{answered_page, processed_page};
 
-use crate::plain::{Place, Setting, elements};
+use crate::evaluator::{Setting, Standing, elements};
 use crate::progress::{Ending, Progress, push_whole};
 use edge_types::{
     Answer, NoMemory, Octets, Outcome, PageBody, PageFault, PageUrl, Reply, Request, Table,
@@ -18,9 +18,9 @@ use std::sync::Arc;
 
 /// The outcome of the page at this URL, where a table has what the origins answer.
 ///
-/// It is the slow evaluator, for reference: a fragment's body is read as a template anew each
-/// time that a leg reaches it. `are_levels` tests the number of levels. `NoMemory` where a growth
-/// was refused, which leaves nothing behind.
+/// A fragment's body is read as a template anew each time that a leg reaches it, and the inlines of
+/// a template are looked through anew for each of its legs. `are_levels` tests the number of levels.
+/// `NoMemory` where a growth was refused, which leaves nothing behind.
 ///
 /// Source: ESI Language Specification 1.0, "ESI Language" and "Variables"; inlines by name, the
 /// order of the faults and the limits of legs and levels are our profile.
@@ -41,13 +41,13 @@ pub fn plain_page(
         table,
     };
     match table.get(url) {
-        Some(answer) => answered(&setting, url, levels, answer),
+        Some(answer) => answered_page(&setting, url, levels, answer),
         None => Ok(Outcome::Fault(PageFault::PageFetch)),
     }
 }
 
 // The outcome of a page of this answer.
-fn answered(
+fn answered_page(
     setting: &Setting<'_>,
     url: &PageUrl,
     levels: u8,
@@ -66,7 +66,7 @@ fn answered(
         return Ok(Outcome::Fault(PageFault::PageFetch));
     };
     if answer.processed() {
-        return processed(setting, url, levels, *status, content_type, body.as_bytes());
+        return processed_page(setting, url, levels, *status, content_type, body.as_bytes());
     }
     Ok(Outcome::Page {
         status: *status,
@@ -86,7 +86,7 @@ fn whole(alloc: Global, answer: &Arc<Answer>) -> Result<PageBody, NoMemory>
 
 // The outcome of a page whose body is to be processed.
 #[tactic(auto, unfolding(crate::specs::Meaning::most_legs))]
-fn processed(
+fn processed_page(
     setting: &Setting<'_>,
     url: &PageUrl,
     levels: u8,
@@ -102,16 +102,16 @@ fn processed(
         Err(TreeFault::Bad(at)) => return Ok(Outcome::Fault(PageFault::BadTemplate(at))),
         Err(TreeFault::NoMemory) => return Err(NoMemory),
     };
-    let place = Place {
+    let standing = Standing {
         level: levels,
         url,
-        tree: &template,
+        template: &template,
     };
     let mut progress = Progress {
         legs: 0,
         body: PageBody::new(setting.alloc),
     };
-    match elements(setting, place, template.nodes(), &mut progress)? {
+    match elements(setting, standing, template.nodes(), &mut progress)? {
         Ending::Complete => Ok(Outcome::Page {
             status,
             content_type: content_type.copy(setting.alloc)?,

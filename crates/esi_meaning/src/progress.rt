@@ -5,18 +5,18 @@ ghost use Rattle.std.specs.Arc.{arc_value};
 ghost use Rattle.edge_types.specs.Answered.{body_of};
 ghost use Rattle.esi_vars.specs.Values.{substituted};
 ghost use Rattle.esi_meaning.specs.Ending.{Adds, Ends};
-ghost use Rattle.esi_meaning.specs.Meaning.{on_error, plain_run};
-ghost use Rattle.esi_meaning.specs.Run.{gives, tries};
+ghost use Rattle.esi_meaning.specs.Meaning.{on_error, unprocessed_run};
+ghost use Rattle.esi_meaning.specs.Run.{AsksNobody, gives, tries};
 
 use crate::limits::MAX_LEGS;
-use edge_types::{Answer, NoMemory, Octets, PageBody, Reply, Request};
+use edge_types::{Answer, NoMemory, Octets, PageBody, Request};
 use esi_vars::{Part, substitute};
 use std::alloc::Global;
 use std::sync::Arc;
 
 /// How a run ends.
 #[derive(Clone, Copy, Debug, Drop, PartialEq, Eq)]
-pub enum Ending {
+pub(crate) enum Ending {
     /// Its text stands at the end of the output.
     Complete,
     /// It failed, and the output is as it was.
@@ -27,15 +27,19 @@ pub enum Ending {
 
 /// How far a page has come.
 #[derive(Drop)]
-pub struct Progress {
+pub(crate) struct Progress {
     /// How many legs were tried.
-    pub legs: u16,
+    pub(crate) legs: u16,
     /// The text so far.
-    pub body: PageBody,
+    pub(crate) body: PageBody,
 }
 
 /// A text that is given out as it stands.
-pub fn own_text(alloc: Global, text: &Octets, progress: &mut Progress) -> Result<Ending, NoMemory>
+pub(crate) fn push_text(
+    alloc: Global,
+    text: &Octets,
+    progress: &mut Progress,
+) -> Result<Ending, NoMemory>
     requires { progress.old.legs ≤ MAX_LEGS }
     ensures { IfOk result
         (Ends (gives (Some text.now)) progress.old progress.new) }
@@ -45,7 +49,7 @@ pub fn own_text(alloc: Global, text: &Octets, progress: &mut Progress) -> Result
 }
 
 /// A text that is given out with the values of its references.
-pub fn values(
+pub(crate) fn push_values(
     alloc: Global,
     request: &Request,
     parts: &[Part],
@@ -61,7 +65,7 @@ pub fn values(
 }
 
 /// An include that can't be had: nothing, or a failure.
-pub fn on_error(continues: bool) -> Ending
+pub(crate) fn on_error(continues: bool) -> Ending
     ensures { (p : Progress) → p.legs ≤ MAX_LEGS → Ends (on_error continues) p p result }
 {
     if continues {
@@ -72,18 +76,18 @@ pub fn on_error(continues: bool) -> Ending
 }
 
 /// A leg that asks nobody and has no text.
-pub fn no_leg(progress: &mut Progress) -> Ending
+pub(crate) fn no_leg(progress: &mut Progress) -> Ending
     requires { progress.old.legs ≤ MAX_LEGS }
-    ensures { Ends (tries None (gives None)) progress.old progress.new result }
+    ensures { Ends (tries AsksNobody (gives None)) progress.old progress.new result }
 {
-    if !counted(&mut progress.legs) {
+    if !count_leg(&mut progress.legs) {
         return Ending::TooManyLegs;
     }
     Ending::Failed
 }
 
 /// Counts one leg more, unless the page may try no more.
-pub fn counted(legs: &mut u16) -> bool
+pub(crate) fn count_leg(legs: &mut u16) -> bool
     ensures room { IsTrue result ↔ (legs.old < MAX_LEGS) }
     ensures counted { OnTrue result (legs.new ≡ legs.old + 1) }
 {
@@ -95,10 +99,10 @@ pub fn counted(legs: &mut u16) -> bool
 }
 
 /// An answer that isn't processed: its body as it stands, where the fetch succeeded.
-pub fn plain(answer: &Arc<Answer>, progress: &mut Progress) -> Result<Ending, NoMemory>
+pub(crate) fn unprocessed(answer: &Arc<Answer>, progress: &mut Progress) -> Result<Ending, NoMemory>
     requires { progress.old.legs ≤ MAX_LEGS }
     ensures { IfOk result
-        (Ends (plain_run (arc_value answer.now).reply) progress.old progress.new) }
+        (Ends (unprocessed_run (arc_value answer.now).reply) progress.old progress.new) }
 {
     if !answer.succeeded() {
         return Ok(Ending::Failed);
@@ -107,19 +111,9 @@ pub fn plain(answer: &Arc<Answer>, progress: &mut Progress) -> Result<Ending, No
     Ok(Ending::Complete)
 }
 
-/// Adds an answer's body at the end of the output, as it stands.
-pub fn push_whole(answer: &Arc<Answer>, output: &mut PageBody) -> Result<(), NoMemory>
-    ensures { OnOk result (Adds (body_of (arc_value answer.now).reply) output.old output.new) }
+/// Adds an answer's body at the end of a page's, as it stands.
+pub(crate) fn push_whole(answer: &Arc<Answer>, page: &mut PageBody) -> Result<(), NoMemory>
+    ensures { OnOk result (Adds (body_of (arc_value answer.now).reply) page.old page.new) }
 {
-    output.push_part(answer, 0, body(answer).len())
-}
-
-/// The body of an answer, which a failure doesn't have.
-pub fn body(answer: &Answer) -> &[u8]
-    ensures { result.now ≡ body_of answer.now.reply }
-{
-    match answer.reply() {
-        Reply::Failed => &[],
-        Reply::Got { body, .. } => body.as_bytes(),
-    }
+    page.push_part(answer, 0, answer.body().len())
 }

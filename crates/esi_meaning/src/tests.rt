@@ -1,5 +1,6 @@
 // A case has a line for each answer: its path, `failed` or a status with `esi` or `plain`, and the
-// body. The page is at `/p`. What is told is the status and the body, or the fault.
+// body. An answer's content type is `text` and its path. The page is at `/p`. What is told is the
+// status, the content type and the body, or the fault.
 use super::*;
 use edge_types::{Answer, Control, NoMemory, Octets, Outcome, PageFault, PageUrl, Request, Table};
 use std::alloc::Global;
@@ -60,6 +61,9 @@ fn answer(alloc: Global, line: &str) -> Result<Option<Answer>, NoMemory> {
     let Ok(status) = status.parse::<u16>() else {
         return Ok(None);
     };
+    let mut content_type = String::new(alloc);
+    content_type.push_str("text")?;
+    content_type.push_str(path)?;
     let control = Control {
         no_store: false,
         max_age: None,
@@ -69,7 +73,7 @@ fn answer(alloc: Global, line: &str) -> Result<Option<Answer>, NoMemory> {
     Ok(Answer::got(
         url,
         status,
-        octets(alloc, "text/html")?,
+        octets(alloc, content_type.as_str())?,
         control,
         octets(alloc, body)?,
     ))
@@ -88,12 +92,17 @@ fn table(alloc: Global, case: &str) -> Result<Option<Table>, NoMemory> {
     Ok(Some(table))
 }
 
-// The outcome as a text: the status and the body, or the fault.
+// The outcome as a text: the status, the content type and the body, or the fault.
 fn told(alloc: Global, outcome: &Outcome) -> Result<String, NoMemory> {
     let mut out = String::new(alloc);
     match outcome {
-        Outcome::Page { status, body, .. } => {
-            write!(out, "{status} ")?;
+        Outcome::Page {
+            status,
+            content_type,
+            body,
+        } => {
+            let content_type = str::from_utf8(content_type.as_bytes()).unwrap_or("?");
+            write!(out, "{status} {content_type} ")?;
             for i in 0..body.mark() {
                 let piece = body.piece(i).unwrap_or(&[]);
                 out.push_str(str::from_utf8(piece).unwrap_or("?"))?;

@@ -4,7 +4,8 @@ use Rattle.std.specs.List.{AllPass, prefix_len}
 use Rattle.std.proofs.lemmas.List.{take-append-drop, drop_at, take_at, length-append, length-take, drop_more}
 use Rattle.esi_scanner.specs.declared.attribute.Attribute.{Attribute}
 use Rattle.esi_scanner.specs.Names.{attribute_name_of}
-use Rattle.esi_scanner.specs.Bytes.{is_ws, is_attribute_byte, is_quote, ws_len, attribute_len, after_ws, after_bytes, ◌>>=◌}
+use Rattle.edge_types.specs.WhiteSpace.{is_ws}
+use Rattle.esi_scanner.specs.Bytes.{is_attribute_byte, is_quote, ws_len, attribute_len, after_ws, after_bytes, ◌>>=◌}
 use Rattle.esi_scanner.specs.Entities.{decoded}
 use Rattle.esi_scanner.specs.Tag.{name_at, equals_at, place_of, quoted_by, quoted_at, attribute_at, then_attributes, attributes_at}
 use Rattle.esi_scanner.specs.Spelling.{SpellsAttribute, SpellsAttributes}

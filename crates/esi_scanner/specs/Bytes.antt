@@ -3,10 +3,7 @@ use Rattle.std.specs.Prelude.{ℕ, Bool, false, not, ◌||◌, ◌==◌, nat_eq,
 use Rattle.std.specs.List.{starts_with, prefix_len}
 use Rattle.std.specs.Char.{is_ascii_alphanumeric}
 use Rattle.std.specs.Borrow.{Bor}
-
--- the bytes space, tab, carriage return and line feed
-abbrev pub is_ws : ℕ → Bool
-is_ws b = b == 32 || b == 9 || b == 13 || b == 10
+use Rattle.edge_types.specs.WhiteSpace.{is_ws}
 
 -- any byte but white space, `/` and `>`
 abbrev pub is_element_byte : ℕ → Bool

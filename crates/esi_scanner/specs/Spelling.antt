@@ -1,6 +1,7 @@
 -- Which tokens spell a text: the grammar, apart from how it is read.
 use Rattle.std.specs.Prelude.{◌≡◌, ◌≢◌, ◌⊎◌, ℕ, ◌+◌, ◌<◌, Bool, true, false, not, ◌==◌, List, [], ◌∷◌, ◌++◌, length, drop, codes, Option, Some, None, is_some}
 use Rattle.std.specs.List.{AllPass}
+use Rattle.edge_types.specs.WhiteSpace.{is_ws}
 use Rattle.esi_scanner.specs.declared.element_name.ElementName.{ElementName}
 use Rattle.esi_scanner.specs.declared.element_name.ElementName.TheVariants as element
 use Rattle.esi_scanner.specs.declared.entity.Entity.{Entity}
@@ -12,7 +13,7 @@ use Rattle.esi_scanner.specs.declared.token.Token.{Token}
 use Rattle.esi_scanner.specs.declared.fault.ScanFault.{ScanFault}
 use Rattle.esi_scanner.specs.declared.fault.ScanFault.TheVariants.{Malformed, NoMemory}
 use Rattle.esi_scanner.specs.Names.{element_text, attribute_name_of}
-use Rattle.esi_scanner.specs.Bytes.{is_ws, is_attribute_byte, is_quote, begins_ws, begins_with}
+use Rattle.esi_scanner.specs.Bytes.{is_attribute_byte, is_quote, begins_ws, begins_with}
 use Rattle.esi_scanner.specs.Entities.{entity_text, entity_byte}
 use Rattle.esi_scanner.specs.Tag.{all_distinct, names_of}
 use Rattle.esi_scanner.specs.Scan.{begins_opener, block_after}

@@ -1,4 +1,4 @@
-//! The attributes of a tag. Clauses see the list of them, in the text's order.
+// An attribute of a tag: its name, its value.
 
 ghost use Rattle.std.specs.Prelude.{◌≡◌, IfOk};
 ghost use Rattle.std.specs.Option.{option_copied};
@@ -64,7 +64,7 @@ pub enum AttributeName {
 impl AttributeName {
     /// The name that these bytes are.
     #[tactic(auto, unfolding(crate::specs::Names::attribute_name_of))]
-    pub fn of(alloc: Global, bytes: &[u8]) -> Result<AttributeName, NoMemory>
+    pub(crate) fn of(alloc: Global, bytes: &[u8]) -> Result<AttributeName, NoMemory>
         ensures { IfOk result (λ name. name ≡ attribute_name_of bytes.now) }
     {
         match KnownAttribute::of(bytes) {
@@ -74,7 +74,7 @@ impl AttributeName {
     }
 
     /// Whether it is this known name. Takes no memory.
-    pub fn is(&self, name: KnownAttribute) -> bool
+    pub(crate) fn is(&self, name: KnownAttribute) -> bool
         ensures { result ≡ is_named name self.now }
     {
         match self {

@@ -1,4 +1,4 @@
-//! The attributes of one tag. Clauses see the list of them, in the text's order.
+// The attributes of one tag. Clauses see the list of them, in the text's order.
 
 ghost use Rattle.std.specs.Prelude.{◌≡◌};
 ghost use Rattle.std.specs.Option.{option_copied};
@@ -25,7 +25,7 @@ impl Attributes {
     ghost use Rattle.esi_scanner.specs.Tag.{value_of};
 
     /// Keeps these attributes. Takes no memory.
-    pub fn of(items: Vec<Attribute>) -> Attributes
+    pub(crate) fn of(items: Vec<Attribute>) -> Attributes
         ensures { result ≡ items.items }
     {
         Attributes { items }

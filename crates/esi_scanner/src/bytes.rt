@@ -1,14 +1,9 @@
-//! Runs of bytes at the front of a text.
+// Runs of bytes at the front of a text.
 
 ghost use Rattle.std.specs.Prelude.{◌≡◌, ◌≤◌, length};
 ghost use Rattle.esi_scanner.specs.Bytes as spec;
 
-/// Whether the byte is a space, a tab, a carriage return or a line feed.
-pub fn is_ws(byte: u8) -> bool
-    ensures { result ≡ spec.is_ws byte }
-{
-    matches!(byte, b' ' | b'\t' | b'\r' | b'\n')
-}
+use edge_types::is_ws;
 
 // Whether the byte can stand in an element's name.
 fn is_element_byte(byte: u8) -> bool
@@ -25,7 +20,7 @@ fn is_attribute_byte(byte: u8) -> bool
 }
 
 // How many bytes of white space stand at the front.
-pub fn ws_len(text: &[u8]) -> usize
+pub(crate) fn ws_len(text: &[u8]) -> usize
     ensures value { result ≡ spec.ws_len text.now }
     ensures within { result ≤ length text.now }
 {
@@ -38,7 +33,7 @@ pub fn ws_len(text: &[u8]) -> usize
 }
 
 // How many bytes of an element's name stand at the front.
-pub fn element_len(text: &[u8]) -> usize
+pub(crate) fn element_len(text: &[u8]) -> usize
     ensures value { result ≡ spec.element_len text.now }
     ensures within { result ≤ length text.now }
 {
@@ -51,7 +46,7 @@ pub fn element_len(text: &[u8]) -> usize
 }
 
 // How many bytes of an attribute's name stand at the front.
-pub fn attribute_len(text: &[u8]) -> usize
+pub(crate) fn attribute_len(text: &[u8]) -> usize
     ensures value { result ≡ spec.attribute_len text.now }
     ensures within { result ≤ length text.now }
 {
@@ -64,7 +59,7 @@ pub fn attribute_len(text: &[u8]) -> usize
 }
 
 // What follows the white space at the front.
-pub fn after_ws(text: &[u8]) -> &[u8]
+pub(crate) fn after_ws(text: &[u8]) -> &[u8]
     ensures value { result.now ≡ spec.after_ws text.now }
     ensures within { length result.now ≤ length text.now }
 {
@@ -73,7 +68,7 @@ pub fn after_ws(text: &[u8]) -> &[u8]
 }
 
 /// Whether the first byte is white space. Takes no memory.
-pub fn begins_ws(text: &[u8]) -> bool
+pub(crate) fn begins_ws(text: &[u8]) -> bool
     ensures { result ≡ spec.begins_ws text.now }
 {
     match text {

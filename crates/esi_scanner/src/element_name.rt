@@ -1,4 +1,4 @@
-//! The names of the standard's elements.
+// The names of the standard's elements.
 
 ghost use Rattle.std.specs.Prelude.{◌≡◌};
 ghost use Rattle.esi_scanner.specs.Names.{element_text, element_of};

@@ -1,4 +1,4 @@
-//! The entities of attribute values, and the values that they spell.
+// The entities of attribute values, and the values that they spell.
 
 ghost use Rattle.std.specs.Prelude.{◌≡◌, ◌<◌, ◌≤◌, length, IfOk, IfSome};
 ghost use Rattle.esi_scanner.specs.Entities.{entity_text, entity_byte, entity_at, decoded};
@@ -10,7 +10,7 @@ use std::alloc::Global;
 
 /// A spelling that stands for one byte.
 #[derive(Clone, Copy, Debug, Drop, PartialEq, Eq)]
-pub enum Entity {
+pub(crate) enum Entity {
     Amp,
     Lt,
     Gt,
@@ -84,7 +84,7 @@ fn letter_at(raw: &[u8]) -> Option<(u8, &[u8])>
 }
 
 /// The value that a raw text spells, decoded once from the left.
-pub fn decoded(alloc: Global, raw: &[u8]) -> Result<Octets, NoMemory>
+pub(crate) fn decoded(alloc: Global, raw: &[u8]) -> Result<Octets, NoMemory>
     ensures { IfOk result (λ value. value ≡ decoded raw.now) }
 {
     let mut value = Vec::with_capacity(alloc, raw.len())?;

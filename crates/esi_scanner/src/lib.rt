@@ -20,7 +20,6 @@ mod token;
 
 pub use attribute::{Attribute, AttributeName, KnownAttribute};
 pub use attributes::Attributes;
-pub use bytes::is_ws;
 pub use element_name::ElementName;
 pub use fault::ScanFault;
 pub use scanner::scan;

@@ -9,7 +9,7 @@ use memchr::{memchr, memchr2};
 
 // The mark at the front, and what follows it.
 #[tactic(auto, unfolding(crate::specs::Scan::mark_at))]
-pub fn mark_at(block: bool, text: &[u8]) -> Option<(Kind, &[u8])>
+pub(crate) fn mark_at(block: bool, text: &[u8]) -> Option<(Kind, &[u8])>
     ensures value { shown result ≡ mark_at block text.now }
     ensures shorter { IfSome result (λ found. length found.1.now < length text.now) }
 {
@@ -53,7 +53,7 @@ fn plain_len(block: bool, text: &[u8]) -> usize
 }
 
 /// How many bytes stand before the first opener. Takes no memory.
-pub fn text_len(block: bool, text: &[u8]) -> usize
+pub(crate) fn text_len(block: bool, text: &[u8]) -> usize
     ensures value { result ≡ bytes_before (begins_opener block) text.now }
     ensures within { result ≤ length text.now }
     ensures some { begins_opener block text.now ≡ false → 0 < length text.now → 0 < result }

@@ -1,4 +1,4 @@
-//! The content of a `remove` element.
+// The content of a `remove` element.
 
 ghost use Rattle.std.specs.Prelude.{◌≡◌, ◌≤◌, ◌<◌, length, IfSome, IsSome};
 ghost use Rattle.std.specs.Option.{option_copied};
@@ -19,7 +19,7 @@ fn removed_len(text: &[u8]) -> usize
 
 /// What follows the first end tag of a `remove` element. Takes no memory.
 #[tactic(auto, unfolding(crate::specs::Tag::after_removed))]
-pub fn after_removed(text: &[u8]) -> Option<&[u8]>
+pub(crate) fn after_removed(text: &[u8]) -> Option<&[u8]>
     ensures value { option_copied result ≡ after_removed text.now }
     ensures shorter { IfSome result (λ rest. length rest.now ≤ length text.now) }
 {

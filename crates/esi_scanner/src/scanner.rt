@@ -1,4 +1,4 @@
-//! Cuts a text into its tokens.
+// Cuts a text into its tokens.
 
 ghost use Rattle.std.specs.Prelude.{◌≡◌, ℕ, ◌<◌, ◌≤◌, List, length, Ok, Err, IfOk, IfErr, IfSome};
 ghost use Rattle.esi_scanner.specs.declared.token.Token.{Token};

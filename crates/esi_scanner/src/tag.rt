@@ -1,4 +1,4 @@
-//! Tags, read from the front of a text.
+// Tags, read from the front of a text.
 
 ghost use Rattle.std.specs.Prelude.{◌≡◌, ◌<◌, ◌≤◌, length, IfOk, IfSome};
 ghost use Rattle.std.specs.Option.{option_copied};
@@ -125,7 +125,7 @@ fn element_at(text: &[u8]) -> Option<(ElementName, &[u8])>
 
 /// A closing tag, behind its `</esi:`, and what follows.
 #[tactic(auto, unfolding(crate::specs::Tag::closing_at))]
-pub fn closing_at(text: &[u8]) -> Option<(ElementName, &[u8])>
+pub(crate) fn closing_at(text: &[u8]) -> Option<(ElementName, &[u8])>
     ensures value { shown result ≡ closing_at text.now }
     ensures shorter { IfSome result (λ found. length found.1.now ≤ length text.now) }
 {
@@ -181,7 +181,7 @@ fn distinct_attributes_at(
 
 /// An opening tag, behind its `<esi:`, and what follows; `None` where no tag stands there.
 #[tactic(auto, unfolding(crate::specs::Tag::tag_at))]
-pub fn tag_at(alloc: Global, text: &[u8]) -> Result<Option<(Tag, &[u8])>, NoMemory>
+pub(crate) fn tag_at(alloc: Global, text: &[u8]) -> Result<Option<(Tag, &[u8])>, NoMemory>
     ensures value { IfOk result (λ found. shown found ≡ tag_at text.now) }
     ensures shorter { IfOk result (λ found. IfSome found (λ x. length x.1.now ≤ length text.now)) }
 {

@@ -1,4 +1,4 @@
-//! The tokens of a text.
+// The tokens of a text.
 
 use crate::element_name::ElementName;
 use crate::tag::Tag;

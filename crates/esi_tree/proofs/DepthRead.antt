@@ -14,10 +14,10 @@ use Rattle.esi_expr.specs.Tree.{Test}
 use Rattle.esi_tree.specs.declared.open_elements.TheConstants.{OPEN_LIMIT}
 use Rattle.esi_tree.specs.Tree as tree
 use Rattle.esi_tree.specs.Tree.{Element, Elements, Branches, NoBranch, element_depth, depth, branches_depth}
-use Rattle.esi_tree.specs.Shown.{row, Arm, arm, arms}
+use Rattle.esi_tree.specs.Shown.{row, Branch, branch_before, branch_row}
 use Rattle.esi_tree.specs.Items.{Item, Text, Open, Close, Remove, Block, item_of}
 use Rattle.esi_tree.specs.Attributes.{src_of, alt_of, continues, when_test, inline_name, is_white}
-use Rattle.esi_tree.specs.Reading.{Halves, Neither, AttemptAlone, ExceptAlone, Both, Frame, InInclude, InComment, InInline, InVars, InChoose, InWhen, InOtherwise, InTry, InAttempt, InExcept, State, start, Piece, AnElement, ABranch, AnAttempt, AnExcept, with_attempt, with_except, with_element, with_branch, with_half, grown, grown_page, put_in, put, is_run, in_vars, text_element, after_text, after_remove, is_when, may_stand, opened_by, inside, entered, name_of, is_same, piece_of, left_in, left, after_tag, after, ended, then_read, read_from, tree_of_tokens}
+use Rattle.esi_tree.specs.Reading.{Halves, Neither, AttemptAlone, ExceptAlone, Both, Frame, InInclude, InComment, InInline, InVars, InChoose, InWhen, InOtherwise, InTry, InAttempt, InExcept, State, start, Child, AnElement, ABranch, AnAttempt, AnExcept, with_attempt, with_except, with_element, with_branch, with_half, grown, grown_page, put_in, put, is_run, in_vars, text_element, after_text, after_remove, is_when, may_stand, opened_by, inside, entered, name_of, is_same, child_of, left_in, left, after_tag, after, ended, then_read, read_from, tree_of_tokens}
 
 -- how deep the parts of a try are
 abbrev halves_depth : Halves → ℕ
@@ -32,23 +32,23 @@ frame_depth (InInclude src alt onward) = 0
 frame_depth InComment = 0
 frame_depth (InInline name content) = depth (row content)
 frame_depth (InVars content) = depth (row content)
-frame_depth (InChoose branches) = branches_depth (arms branches)
+frame_depth (InChoose branches) = branches_depth (branch_row branches)
 frame_depth (InWhen test content) = depth (row content)
 frame_depth (InOtherwise content) = depth (row content)
 frame_depth (InTry halves) = halves_depth halves
 frame_depth (InAttempt content) = depth (row content)
 frame_depth (InExcept content) = depth (row content)
 
--- how deep a piece is
-abbrev piece_depth : Piece → ℕ
-piece_depth (AnElement e) = element_depth e
-piece_depth (ABranch branch) = depth branch.content
-piece_depth (AnAttempt content) = depth content
-piece_depth (AnExcept content) = depth content
+-- how deep a child is
+abbrev child_depth : Child → ℕ
+child_depth (AnElement e) = element_depth e
+child_depth (ABranch branch) = depth branch.content
+child_depth (AnAttempt content) = depth content
+child_depth (AnExcept content) = depth content
 
-abbrev depth_in : Option Piece → ℕ
+abbrev depth_in : Option Child → ℕ
 depth_in None = 0
-depth_in (Some piece) = piece_depth piece
+depth_in (Some child) = child_depth child
 
 abbrev frame_depth_in : Option Frame → ℕ
 frame_depth_in None = 0
@@ -58,16 +58,16 @@ row-push : (es : List Element) (e : Element) → depth (row (es ++ e ∷ [])) �
 row-push [] e = omega arith
 row-push (x ∷ es) e = let behind = row-push es e in omega arith
 
-arm-depth : (test : Option Test) (content : Elements) (rest : Branches) → branches_depth (arm test content rest) ≡ max (depth content) (branches_depth rest)
-arm-depth None content rest = refl
-arm-depth (Some test) content rest = refl
+branch-depth : (test : Option Test) (content : Elements) (rest : Branches) → branches_depth (branch_before test content rest) ≡ max (depth content) (branches_depth rest)
+branch-depth None content rest = refl
+branch-depth (Some test) content rest = refl
 
-arms-push : (bs : List Arm) (b : Arm) → branches_depth (arms (bs ++ b ∷ [])) ≡ max (branches_depth (arms bs)) (depth b.content)
-arms-push [] b = let alone = arm-depth b.test b.content NoBranch in omega arith
-arms-push (x ∷ bs) b =
-    let longer = arm-depth x.test x.content (arms (bs ++ b ∷ [])) in
-    let before = arm-depth x.test x.content (arms bs) in
-    let behind = arms-push bs b in
+branch_row-push : (bs : List Branch) (b : Branch) → branches_depth (branch_row (bs ++ b ∷ [])) ≡ max (branches_depth (branch_row bs)) (depth b.content)
+branch_row-push [] b = let alone = branch-depth b.test b.content NoBranch in omega arith
+branch_row-push (x ∷ bs) b =
+    let longer = branch-depth x.test x.content (branch_row (bs ++ b ∷ [])) in
+    let before = branch-depth x.test x.content (branch_row bs) in
+    let behind = branch_row-push bs b in
     omega arith
 
 with_attempt-depth : (content : Elements) (halves : Halves) → halves_depth (with_attempt content halves) ≤ max (halves_depth halves) (depth content)
@@ -94,12 +94,12 @@ with_element-depth e (InTry halves) = omega arith
 with_element-depth e (InAttempt content) = let longer = row-push content e in omega arith
 with_element-depth e (InExcept content) = let longer = row-push content e in omega arith
 
-with_branch-depth : (branch : Arm) (frame : Frame) → frame_depth (with_branch branch frame) ≤ max (frame_depth frame) (depth branch.content)
+with_branch-depth : (branch : Branch) (frame : Frame) → frame_depth (with_branch branch frame) ≤ max (frame_depth frame) (depth branch.content)
 with_branch-depth branch (InInclude src alt onward) = omega arith
 with_branch-depth branch InComment = omega arith
 with_branch-depth branch (InInline name content) = omega arith
 with_branch-depth branch (InVars content) = omega arith
-with_branch-depth branch (InChoose branches) = let longer = arms-push branches branch in omega arith
+with_branch-depth branch (InChoose branches) = let longer = branch_row-push branches branch in omega arith
 with_branch-depth branch (InWhen test content) = omega arith
 with_branch-depth branch (InOtherwise content) = omega arith
 with_branch-depth branch (InTry halves) = omega arith
@@ -118,40 +118,40 @@ with_half-depth more n (InTry halves) most = most halves
 with_half-depth more n (InAttempt content) most = omega arith
 with_half-depth more n (InExcept content) most = omega arith
 
-grown-depth : (piece : Piece) (frame : Frame) → frame_depth (grown piece frame) ≤ max (frame_depth frame) (piece_depth piece)
+grown-depth : (child : Child) (frame : Frame) → frame_depth (grown child frame) ≤ max (frame_depth frame) (child_depth child)
 grown-depth (AnElement e) frame = with_element-depth e frame
 grown-depth (ABranch branch) frame = with_branch-depth branch frame
 grown-depth (AnAttempt content) frame = with_half-depth (with_attempt content) (depth content) frame (with_attempt-depth content)
 grown-depth (AnExcept content) frame = with_half-depth (with_except content) (depth content) frame (with_except-depth content)
 
-grown_page-depth : (piece : Piece) (content : List Element) → depth (row (grown_page piece content)) ≤ max (depth (row content)) (piece_depth piece)
+grown_page-depth : (child : Child) (content : List Element) → depth (row (grown_page child content)) ≤ max (depth (row content)) (child_depth child)
 grown_page-depth (AnElement e) content = let longer = row-push content e in omega arith
 grown_page-depth (ABranch branch) content = omega arith
 grown_page-depth (AnAttempt attempt) content = omega arith
 grown_page-depth (AnExcept except) content = omega arith
 
-try-depth : (halves : Halves) (piece : Piece) → piece_of (InTry halves) ≡ Some piece → piece_depth piece ≤ halves_depth halves + 1
-unfolding piece_of
-try-depth Neither piece e = absurd (cc)
-try-depth (AttemptAlone attempt) piece e = absurd (cc)
-try-depth (ExceptAlone except) piece e = absurd (cc)
-try-depth (Both attempt except swapped) piece e = let same = ap depth_in e in omega arith
+try-depth : (halves : Halves) (child : Child) → child_of (InTry halves) ≡ Some child → child_depth child ≤ halves_depth halves + 1
+unfolding child_of
+try-depth Neither child e = absurd (cc)
+try-depth (AttemptAlone attempt) child e = absurd (cc)
+try-depth (ExceptAlone except) child e = absurd (cc)
+try-depth (Both attempt except swapped) child e = let same = ap depth_in e in omega arith
 
 -- what an element gives at its end is deeper by one at most
-piece_of-depth : (frame : Frame) (piece : Piece) → piece_of frame ≡ Some piece → piece_depth piece ≤ frame_depth frame + 1
-unfolding piece_of
-piece_of-depth (InInclude src alt onward) piece e = let same = ap depth_in e in omega arith
-piece_of-depth InComment piece e = let same = ap depth_in e in omega arith
-piece_of-depth (InInline name content) piece e = let same = ap depth_in e in omega arith
-piece_of-depth (InVars content) piece e = let same = ap depth_in e in omega arith
-piece_of-depth (InChoose branches) piece e =
-    let same = ap piece_depth (cond_some (list_any is_when branches) (AnElement (tree.Choose (arms branches))) piece e).1 in
+child_of-depth : (frame : Frame) (child : Child) → child_of frame ≡ Some child → child_depth child ≤ frame_depth frame + 1
+unfolding child_of
+child_of-depth (InInclude src alt onward) child e = let same = ap depth_in e in omega arith
+child_of-depth InComment child e = let same = ap depth_in e in omega arith
+child_of-depth (InInline name content) child e = let same = ap depth_in e in omega arith
+child_of-depth (InVars content) child e = let same = ap depth_in e in omega arith
+child_of-depth (InChoose branches) child e =
+    let same = ap child_depth (cond_some (list_any is_when branches) (AnElement (tree.Choose (branch_row branches))) child e).1 in
     omega arith
-piece_of-depth (InWhen test content) piece e = let same = ap depth_in e in omega arith
-piece_of-depth (InOtherwise content) piece e = let same = ap depth_in e in omega arith
-piece_of-depth (InTry halves) piece e = try-depth halves piece e
-piece_of-depth (InAttempt content) piece e = let same = ap depth_in e in omega arith
-piece_of-depth (InExcept content) piece e = let same = ap depth_in e in omega arith
+child_of-depth (InWhen test content) child e = let same = ap depth_in e in omega arith
+child_of-depth (InOtherwise content) child e = let same = ap depth_in e in omega arith
+child_of-depth (InTry halves) child e = try-depth halves child e
+child_of-depth (InAttempt content) child e = let same = ap depth_in e in omega arith
+child_of-depth (InExcept content) child e = let same = ap depth_in e in omega arith
 
 -- nothing has been read in an element that has just been opened
 opened_by-depth : (name : ElementName) (attributes : List Attribute) (frame : Frame) → opened_by name attributes ≡ Some frame → frame_depth frame ≡ 0
@@ -190,10 +190,10 @@ carried state next e fits =
     let same : state ≡ next = ap (λ o. unwrap_or o next) e in
     subst P same fits
 
-put-fits : (piece : Piece) (frames : List Frame) (content : List Element) → Fit frames → depth (row content) ≤ OPEN_LIMIT + 1 → piece_depth piece + length frames ≤ OPEN_LIMIT + 1 → Fits (put_in piece frames content)
-put-fits piece [] content fit page room = record { frames = tt; page = let most = grown_page-depth piece content in omega arith }
-put-fits piece (frame ∷ outer) content fit page room =
-    let most = grown-depth piece frame in
+put-fits : (child : Child) (frames : List Frame) (content : List Element) → Fit frames → depth (row content) ≤ OPEN_LIMIT + 1 → child_depth child + length frames ≤ OPEN_LIMIT + 1 → Fits (put_in child frames content)
+put-fits child [] content fit page room = record { frames = tt; page = let most = grown_page-depth child content in omega arith }
+put-fits child (frame ∷ outer) content fit page room =
+    let most = grown-depth child frame in
     let held = fit.0 in
     record { frames = (omega arith, fit.1, fit.2); page = page }
 
@@ -205,11 +205,11 @@ left-fits : (name : ElementName) (frames : List Frame) (content : List Element) 
 left-fits name [] content next e fit page = absurd (cc)
 left-fits name (frame ∷ outer) content next e fit page =
     let outside : State = record { frames = outer; content = content } in
-    let ends = (chosen (is_same name (name_of frame)) (piece_of frame >>= λ piece. Some (put piece outside)) next e).1 in
-    option_and_then_some (λ (piece : Piece). Some (put piece outside)) (piece_of frame) next ends (λ piece first rest.
-    let most = piece_of-depth frame piece first in
+    let ends = (chosen (is_same name (name_of frame)) (child_of frame >>= λ child. Some (put child outside)) next e).1 in
+    option_and_then_some (λ (child : Child). Some (put child outside)) (child_of frame) next ends (λ child first rest.
+    let most = child_of-depth frame child first in
     let held = fit.0 in
-    carried (put piece outside) next rest (put-fits piece outer content fit.2 page (omega arith)))
+    carried (put child outside) next rest (put-fits child outer content fit.2 page (omega arith)))
 
 text_element-depth : (vars : Bool) (bytes : List ℕ) → element_depth (text_element vars bytes) ≡ 1
 text_element-depth false bytes = refl
@@ -223,10 +223,10 @@ either-fits false false grown_state state next e more fits = absurd (cc)
 text-fits : (bytes : List ℕ) (state next : State) → after_text bytes state ≡ Some next → Fits state → Fits next
 unfolding after_text
 text-fits bytes state next e fits =
-    let piece : Piece = AnElement (text_element (in_vars state.frames) bytes) in
+    let child : Child = AnElement (text_element (in_vars state.frames) bytes) in
     let one = text_element-depth (in_vars state.frames) bytes in
     let room = few state.frames fits.frames in
-    either-fits (is_run state.frames) (is_white bytes) (put piece state) state next e (put-fits piece state.frames state.content fits.frames fits.page (omega arith)) fits
+    either-fits (is_run state.frames) (is_white bytes) (put child state) state next e (put-fits child state.frames state.content fits.frames fits.page (omega arith)) fits
 
 remove-fits : (state next : State) → after_remove state ≡ Some next → Fits state → Fits next
 unfolding after_remove

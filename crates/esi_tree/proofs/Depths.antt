@@ -10,7 +10,7 @@ use Rattle.esi_tree.specs.Tree.{Element}
 use Rattle.esi_tree.specs.Items.{Item, Text, Open, Close, Remove, Block}
 use Rattle.esi_tree.specs.Attributes.{is_white}
 use Rattle.esi_tree.specs.Template.{open_at_most}
-use Rattle.esi_tree.specs.Reading.{Frame, State, Piece, AnElement, put_in, is_run, in_vars, text_element, after_text, after_remove, left, after}
+use Rattle.esi_tree.specs.Reading.{Frame, State, Child, AnElement, put_in, is_run, in_vars, text_element, after_text, after_remove, left, after}
 use Rattle.esi_tree.proofs.Runs.{opened, taken, fits, after-is, run, steps, chosen_some, Enters, opened-inverts, left-inverts}
 
 -- how many are open at the item, where n were open before it
@@ -26,9 +26,9 @@ abbrev depth_of : Option State → ℕ
 depth_of None = 0
 depth_of (Some state) = length state.frames
 
-put-depth : (piece : Piece) (frames : List Frame) (content : List Element) → length (put_in piece frames content).frames ≡ length frames
-put-depth piece [] content = refl
-put-depth piece (frame ∷ outer) content = refl
+put-depth : (child : Child) (frames : List Frame) (content : List Element) → length (put_in child frames content).frames ≡ length frames
+put-depth child [] content = refl
+put-depth child (frame ∷ outer) content = refl
 
 text-depth : (bytes : List ℕ) (state next : State) → after_text bytes state ≡ Some next → length next.frames ≡ length state.frames
 unfolding after_text
@@ -48,7 +48,7 @@ left-depth : (name : ElementName) (frames : List Frame) (content : List Element)
 left-depth name frames content next e =
     let leaves = left-inverts name frames content next e in
     let same = ap (λ (s : State). length s.frames) leaves.next_is in
-    let kept = put-depth leaves.piece leaves.outer content in
+    let kept = put-depth leaves.child leaves.outer content in
     let was = ap (λ (fs : List Frame). length fs) leaves.frames_are in
     omega arith
 

@@ -11,15 +11,15 @@ use Rattle.esi_vars.specs.declared.part.Part.{Part}
 use Rattle.esi_expr.specs.Tree.{Test}
 use Rattle.esi_tree.specs.Tree as tree
 use Rattle.esi_tree.specs.Tree.{Element, Elements, Branches, NoBranch}
-use Rattle.esi_tree.specs.Shown.{row, Arm, arm, arms}
+use Rattle.esi_tree.specs.Shown.{row, Branch, branch_before, branch_row}
 use Rattle.esi_tree.specs.Items.{Item}
 use Rattle.esi_tree.specs.Attributes.{src_of, alt_of, continues, when_test, inline_name}
 use Rattle.esi_tree.specs.Template.{IsIncludeTag, HasWhen, AreBranches}
-use Rattle.esi_tree.specs.Reading.{Halves, Neither, AttemptAlone, ExceptAlone, Both, Frame, InInclude, InComment, InInline, InVars, InChoose, InWhen, InOtherwise, InTry, InAttempt, InExcept, Piece, AnElement, ABranch, AnAttempt, AnExcept, is_when, may_stand, opened_by, name_of, piece_of}
+use Rattle.esi_tree.specs.Reading.{Halves, Neither, AttemptAlone, ExceptAlone, Both, Frame, InInclude, InComment, InInline, InVars, InChoose, InWhen, InOtherwise, InTry, InAttempt, InExcept, Child, AnElement, ABranch, AnAttempt, AnExcept, is_when, may_stand, opened_by, name_of, child_of}
 use Rattle.esi_tree.proofs.Runs.{chosen_some}
 use Rattle.esi_tree.proofs.Places.{emptied, is_run-may_stand}
 use Rattle.esi_tree.proofs.Rounds.{Shape}
-use Rattle.esi_tree.proofs.Inside.{IsPiece, Fits, Inside, BeginBranches, arms_then, branch_of}
+use Rattle.esi_tree.proofs.Inside.{IsChild, Fits, Inside, BeginBranches, branches_then, branch_with}
 
 -- what a tag opens: an element of its name, in which nothing has been read
 pub record IsFresh (name : ElementName) (attributes : List Attribute) (frame : Frame) : Type 0 where
@@ -74,93 +74,93 @@ says-when test attributes e =
     let same : t ≡ test = cc in
     is ∙ ap Some same)
 
-has_when-arm : (test : Option Test) (content : Elements) (bs : List Arm) → (list_any is_when bs ≡ true → HasWhen (arms bs)) → list_any is_when (branch_of test content ∷ bs) ≡ true → HasWhen (arm test content (arms bs))
-has_when-arm None content bs behind e = behind e
-has_when-arm (Some test) content bs behind e = tt
+has_when-branch : (test : Option Test) (content : Elements) (bs : List Branch) → (list_any is_when bs ≡ true → HasWhen (branch_row bs)) → list_any is_when (branch_with test content ∷ bs) ≡ true → HasWhen (branch_before test content (branch_row bs))
+has_when-branch None content bs behind e = behind e
+has_when-branch (Some test) content bs behind e = tt
 
-has_when-arms : (bs : List Arm) → list_any is_when bs ≡ true → HasWhen (arms bs)
-has_when-arms [] e = absurd (cc)
-has_when-arms (b ∷ bs) e = has_when-arm b.test b.content bs (λ behind. has_when-arms bs behind) e
+has_when-branch_row : (bs : List Branch) → list_any is_when bs ≡ true → HasWhen (branch_row bs)
+has_when-branch_row [] e = absurd (cc)
+has_when-branch_row (b ∷ bs) e = has_when-branch b.test b.content bs (λ behind. has_when-branch_row bs behind) e
 
-arms_then-none : (bs : List Arm) → arms_then bs NoBranch ≡ arms bs
-arms_then-none [] = refl
-arms_then-none (b ∷ bs) = ap (λ rest. arm b.test b.content rest) (arms_then-none bs)
+branches_then-none : (bs : List Branch) → branches_then bs NoBranch ≡ branch_row bs
+branches_then-none [] = refl
+branches_then-none (b ∷ bs) = ap (λ rest. branch_before b.test b.content rest) (branches_then-none bs)
 
-all-branches : (vars : Bool) (bs : List Arm) (items : List Item) → BeginBranches vars bs items → AreBranches vars true (arms bs) items
+all-branches : (vars : Bool) (bs : List Branch) (items : List Item) → BeginBranches vars bs items → AreBranches vars true (branch_row bs) items
 all-branches vars bs items inside =
     let P : Branches → Type 0 = λ all. AreBranches vars true all (items ++ []) in
-    let Q : List Item → Type 0 = λ us. AreBranches vars true (arms bs) us in
-    subst Q (append-nil items) (subst P (arms_then-none bs) (inside NoBranch [] tt))
+    let Q : List Item → Type 0 = λ us. AreBranches vars true (branch_row bs) us in
+    subst Q (append-nil items) (subst P (branches_then-none bs) (inside NoBranch [] tt))
 
-given : (vars : Bool) (a b : Piece) (items : List Item) → Some a ≡ Some b → IsPiece vars a items → IsPiece vars b items
+given : (vars : Bool) (a b : Child) (items : List Item) → Some a ≡ Some b → IsChild vars a items → IsChild vars b items
 given vars a b items e is =
-    let P : Piece → Type 0 = λ p. IsPiece vars p items in
+    let P : Child → Type 0 = λ p. IsChild vars p items in
     let same : a ≡ b = ap (λ o. unwrap_or o b) e in
     subst P same is
 
-whole-try : (vars : Bool) (halves : Halves) (piece : Piece) (tag : Tag) (inner items : List Item) → tag.name ≡ element.Try → Inside vars (InTry halves) inner → piece_of (InTry halves) ≡ Some piece → Shape tag element.Try inner items → IsPiece vars piece items
-unfolding piece_of
-whole-try vars Neither piece tag inner items named inside is shape = absurd (cc)
-whole-try vars (AttemptAlone attempt) piece tag inner items named inside is shape = absurd (cc)
-whole-try vars (ExceptAlone except) piece tag inner items named inside is shape = absurd (cc)
-whole-try vars (Both attempt except false) piece tag inner items named inside is shape =
-    given vars (AnElement (tree.Try attempt except false)) piece items is (record { tag = tag; content = inner; named = named; fits = inside; shape = shape })
-whole-try vars (Both attempt except true) piece tag inner items named inside is shape =
-    given vars (AnElement (tree.Try attempt except true)) piece items is (record { tag = tag; content = inner; named = named; fits = inside; shape = shape })
+whole-try : (vars : Bool) (halves : Halves) (child : Child) (tag : Tag) (inner items : List Item) → tag.name ≡ element.Try → Inside vars (InTry halves) inner → child_of (InTry halves) ≡ Some child → Shape tag element.Try inner items → IsChild vars child items
+unfolding child_of
+whole-try vars Neither child tag inner items named inside is shape = absurd (cc)
+whole-try vars (AttemptAlone attempt) child tag inner items named inside is shape = absurd (cc)
+whole-try vars (ExceptAlone except) child tag inner items named inside is shape = absurd (cc)
+whole-try vars (Both attempt except false) child tag inner items named inside is shape =
+    given vars (AnElement (tree.Try attempt except false)) child items is (record { tag = tag; content = inner; named = named; fits = inside; shape = shape })
+whole-try vars (Both attempt except true) child tag inner items named inside is shape =
+    given vars (AnElement (tree.Try attempt except true)) child items is (record { tag = tag; content = inner; named = named; fits = inside; shape = shape })
 
 -- the tag, what has been read inside and the end are what the element gives
-pub whole : (vars : Bool) (frame : Frame) (piece : Piece) (tag : Tag) (inner items : List Item) → tag.name ≡ name_of frame → opened_by (name_of frame) tag.attributes ≡ Some (emptied frame)
-    → Inside vars frame inner → piece_of frame ≡ Some piece → Shape tag (name_of frame) inner items → IsPiece vars piece items
-unfolding piece_of
-whole vars (InInclude src alt onward) piece tag inner items named says inside is shape =
-    given vars (AnElement (tree.Include src alt onward)) piece items is
+pub whole : (vars : Bool) (frame : Frame) (child : Child) (tag : Tag) (inner items : List Item) → tag.name ≡ name_of frame → opened_by (name_of frame) tag.attributes ≡ Some (emptied frame)
+    → Inside vars frame inner → child_of frame ≡ Some child → Shape tag (name_of frame) inner items → IsChild vars child items
+unfolding child_of
+whole vars (InInclude src alt onward) child tag inner items named says inside is shape =
+    given vars (AnElement (tree.Include src alt onward)) child items is
     (record { tag = tag; content = inner; named = named; fits = (inside, says-include src alt onward tag.attributes says); shape = shape })
-whole vars InComment piece tag inner items named says inside is shape =
-    given vars (AnElement tree.Nothing) piece items is (inr (record { tag = tag; content = inner; named = named; fits = inside; shape = shape }))
-whole vars (InInline label content) piece tag inner items named says inside is shape =
-    given vars (AnElement (tree.Inline label (row content))) piece items is
+whole vars InComment child tag inner items named says inside is shape =
+    given vars (AnElement tree.Nothing) child items is (inr (record { tag = tag; content = inner; named = named; fits = inside; shape = shape }))
+whole vars (InInline label content) child tag inner items named says inside is shape =
+    given vars (AnElement (tree.Inline label (row content))) child items is
     (record { tag = tag; content = inner; named = named; fits = (says-inline label tag.attributes says, inside); shape = shape })
-whole vars (InVars content) piece tag inner items named says inside is shape =
-    given vars (AnElement (tree.Vars (row content))) piece items is (record { tag = tag; content = inner; named = named; fits = inside; shape = shape })
-whole vars (InChoose bs) piece tag inner items named says inside is shape =
-    let parts = chosen_some (list_any is_when bs) (Some (AnElement (tree.Choose (arms bs)))) piece is in
-    given vars (AnElement (tree.Choose (arms bs))) piece items parts.1
-    (record { tag = tag; content = inner; named = named; fits = (has_when-arms bs parts.0, all-branches vars bs inner inside); shape = shape })
-whole vars (InWhen test content) piece tag inner items named says inside is shape =
-    given vars (ABranch (branch_of (Some test) (row content))) piece items is
+whole vars (InVars content) child tag inner items named says inside is shape =
+    given vars (AnElement (tree.Vars (row content))) child items is (record { tag = tag; content = inner; named = named; fits = inside; shape = shape })
+whole vars (InChoose bs) child tag inner items named says inside is shape =
+    let parts = chosen_some (list_any is_when bs) (Some (AnElement (tree.Choose (branch_row bs)))) child is in
+    given vars (AnElement (tree.Choose (branch_row bs))) child items parts.1
+    (record { tag = tag; content = inner; named = named; fits = (has_when-branch_row bs parts.0, all-branches vars bs inner inside); shape = shape })
+whole vars (InWhen test content) child tag inner items named says inside is shape =
+    given vars (ABranch (branch_with (Some test) (row content))) child items is
     (record { tag = tag; content = inner; named = named; fits = (says-when test tag.attributes says, inside); shape = shape })
-whole vars (InOtherwise content) piece tag inner items named says inside is shape =
-    given vars (ABranch (branch_of None (row content))) piece items is (record { tag = tag; content = inner; named = named; fits = inside; shape = shape })
-whole vars (InTry halves) piece tag inner items named says inside is shape = whole-try vars halves piece tag inner items named inside is shape
-whole vars (InAttempt content) piece tag inner items named says inside is shape =
-    given vars (AnAttempt (row content)) piece items is (record { tag = tag; content = inner; named = named; fits = inside; shape = shape })
-whole vars (InExcept content) piece tag inner items named says inside is shape =
-    given vars (AnExcept (row content)) piece items is (record { tag = tag; content = inner; named = named; fits = inside; shape = shape })
+whole vars (InOtherwise content) child tag inner items named says inside is shape =
+    given vars (ABranch (branch_with None (row content))) child items is (record { tag = tag; content = inner; named = named; fits = inside; shape = shape })
+whole vars (InTry halves) child tag inner items named says inside is shape = whole-try vars halves child tag inner items named inside is shape
+whole vars (InAttempt content) child tag inner items named says inside is shape =
+    given vars (AnAttempt (row content)) child items is (record { tag = tag; content = inner; named = named; fits = inside; shape = shape })
+whole vars (InExcept content) child tag inner items named says inside is shape =
+    given vars (AnExcept (row content)) child items is (record { tag = tag; content = inner; named = named; fits = inside; shape = shape })
 
-fits-is : (a b : Piece) (frames : List Frame) → Some a ≡ Some b → Fits a frames → Fits b frames
+fits-is : (a b : Child) (frames : List Frame) → Some a ≡ Some b → Fits a frames → Fits b frames
 fits-is a b frames e fit =
-    let P : Piece → Type 0 = λ p. Fits p frames in
+    let P : Child → Type 0 = λ p. Fits p frames in
     let same : a ≡ b = ap (λ o. unwrap_or o b) e in
     subst P same fit
 
-fits-try : (halves : Halves) (piece : Piece) (frames : List Frame) → piece_of (InTry halves) ≡ Some piece → may_stand element.Try frames ≡ true → Fits piece frames
-unfolding piece_of
-fits-try Neither piece frames is may = absurd (cc)
-fits-try (AttemptAlone attempt) piece frames is may = absurd (cc)
-fits-try (ExceptAlone except) piece frames is may = absurd (cc)
-fits-try (Both attempt except swapped) piece frames is may = fits-is (AnElement (tree.Try attempt except swapped)) piece frames is (is_run-may_stand element.Try frames refl may)
+fits-try : (halves : Halves) (child : Child) (frames : List Frame) → child_of (InTry halves) ≡ Some child → may_stand element.Try frames ≡ true → Fits child frames
+unfolding child_of
+fits-try Neither child frames is may = absurd (cc)
+fits-try (AttemptAlone attempt) child frames is may = absurd (cc)
+fits-try (ExceptAlone except) child frames is may = absurd (cc)
+fits-try (Both attempt except swapped) child frames is may = fits-is (AnElement (tree.Try attempt except swapped)) child frames is (is_run-may_stand element.Try frames refl may)
 
 -- where an element may stand, what it gives may stand
-pub fits-piece : (frame : Frame) (piece : Piece) (frames : List Frame) → piece_of frame ≡ Some piece → may_stand (name_of frame) frames ≡ true → Fits piece frames
-unfolding piece_of
-fits-piece (InInclude src alt onward) piece frames is may = fits-is (AnElement (tree.Include src alt onward)) piece frames is (is_run-may_stand element.Include frames refl may)
-fits-piece InComment piece frames is may = fits-is (AnElement tree.Nothing) piece frames is (is_run-may_stand element.Comment frames refl may)
-fits-piece (InInline label content) piece frames is may = fits-is (AnElement (tree.Inline label (row content))) piece frames is (is_run-may_stand element.Inline frames refl may)
-fits-piece (InVars content) piece frames is may = fits-is (AnElement (tree.Vars (row content))) piece frames is (is_run-may_stand element.Vars frames refl may)
-fits-piece (InChoose bs) piece frames is may =
-    fits-is (AnElement (tree.Choose (arms bs))) piece frames (chosen_some (list_any is_when bs) (Some (AnElement (tree.Choose (arms bs)))) piece is).1 (is_run-may_stand element.Choose frames refl may)
-fits-piece (InWhen test content) piece frames is may = fits-is (ABranch (branch_of (Some test) (row content))) piece frames is may
-fits-piece (InOtherwise content) piece frames is may = fits-is (ABranch (branch_of None (row content))) piece frames is may
-fits-piece (InTry halves) piece frames is may = fits-try halves piece frames is may
-fits-piece (InAttempt content) piece frames is may = fits-is (AnAttempt (row content)) piece frames is may
-fits-piece (InExcept content) piece frames is may = fits-is (AnExcept (row content)) piece frames is may
+pub fits-child : (frame : Frame) (child : Child) (frames : List Frame) → child_of frame ≡ Some child → may_stand (name_of frame) frames ≡ true → Fits child frames
+unfolding child_of
+fits-child (InInclude src alt onward) child frames is may = fits-is (AnElement (tree.Include src alt onward)) child frames is (is_run-may_stand element.Include frames refl may)
+fits-child InComment child frames is may = fits-is (AnElement tree.Nothing) child frames is (is_run-may_stand element.Comment frames refl may)
+fits-child (InInline label content) child frames is may = fits-is (AnElement (tree.Inline label (row content))) child frames is (is_run-may_stand element.Inline frames refl may)
+fits-child (InVars content) child frames is may = fits-is (AnElement (tree.Vars (row content))) child frames is (is_run-may_stand element.Vars frames refl may)
+fits-child (InChoose bs) child frames is may =
+    fits-is (AnElement (tree.Choose (branch_row bs))) child frames (chosen_some (list_any is_when bs) (Some (AnElement (tree.Choose (branch_row bs)))) child is).1 (is_run-may_stand element.Choose frames refl may)
+fits-child (InWhen test content) child frames is may = fits-is (ABranch (branch_with (Some test) (row content))) child frames is may
+fits-child (InOtherwise content) child frames is may = fits-is (ABranch (branch_with None (row content))) child frames is may
+fits-child (InTry halves) child frames is may = fits-try halves child frames is may
+fits-child (InAttempt content) child frames is may = fits-is (AnAttempt (row content)) child frames is may
+fits-child (InExcept content) child frames is may = fits-is (AnExcept (row content)) child frames is may

@@ -4,10 +4,10 @@ use Rattle.std.proofs.lemmas.List.{append-nil}
 use Rattle.std.specs.List.{list_any}
 use Rattle.esi_tree.specs.Tree as tree
 use Rattle.esi_tree.specs.Tree.{Element, Elements, End, Then, Branches, NoBranch, When}
-use Rattle.esi_tree.specs.Shown.{row, Arm, arms}
+use Rattle.esi_tree.specs.Shown.{row, Branch, branch_row}
 use Rattle.esi_tree.specs.Items.{Item}
 use Rattle.esi_tree.specs.Template.{HasWhen}
-use Rattle.esi_tree.specs.Reading.{Frame, InChoose, State, AnElement, with_element, put, inside, is_when, piece_of}
+use Rattle.esi_tree.specs.Reading.{Frame, InChoose, State, AnElement, with_element, put, inside, is_when, child_of}
 use Rattle.esi_tree.proofs.Runs.{run}
 
 -- the elements of a run, as a list
@@ -20,24 +20,24 @@ row-listed End = refl
 row-listed (Then first rest) = ap (Then first) (row-listed rest)
 
 -- the branches of a choose, as a list
-abbrev pub listed_arms : Branches → List Arm
-listed_arms NoBranch = []
-listed_arms (When test content rest) = record { test = Some test; content = content } ∷ listed_arms rest
-listed_arms (tree.Otherwise content rest) = record { test = None; content = content } ∷ listed_arms rest
+abbrev pub listed_branches : Branches → List Branch
+listed_branches NoBranch = []
+listed_branches (When test content rest) = record { test = Some test; content = content } ∷ listed_branches rest
+listed_branches (tree.Otherwise content rest) = record { test = None; content = content } ∷ listed_branches rest
 
-pub arms-listed : (bs : Branches) → arms (listed_arms bs) ≡ bs
-arms-listed NoBranch = refl
-arms-listed (When test content rest) = ap (When test content) (arms-listed rest)
-arms-listed (tree.Otherwise content rest) = ap (tree.Otherwise content) (arms-listed rest)
+pub branch_row-listed : (bs : Branches) → branch_row (listed_branches bs) ≡ bs
+branch_row-listed NoBranch = refl
+branch_row-listed (When test content rest) = ap (When test content) (branch_row-listed rest)
+branch_row-listed (tree.Otherwise content rest) = ap (tree.Otherwise content) (branch_row-listed rest)
 
-has_when-listed : (bs : Branches) → HasWhen bs → list_any is_when (listed_arms bs) ≡ true
+has_when-listed : (bs : Branches) → HasWhen bs → list_any is_when (listed_branches bs) ≡ true
 has_when-listed NoBranch has = absurd has
 has_when-listed (When test content rest) has = refl
 has_when-listed (tree.Otherwise content rest) has = has_when-listed rest has
 
-pub piece-choose : (bs : Branches) → HasWhen bs → piece_of (InChoose (listed_arms bs)) ≡ Some (AnElement (tree.Choose bs))
-unfolding piece_of
-piece-choose bs has = rw (has_when-listed bs has, arms-listed bs) refl
+pub child-choose : (bs : Branches) → HasWhen bs → child_of (InChoose (listed_branches bs)) ≡ Some (AnElement (tree.Choose bs))
+unfolding child_of
+child-choose bs has = rw (has_when-listed bs has, branch_row-listed bs) refl
 
 -- what stands in no element
 abbrev pub page : List Element → State

@@ -9,44 +9,44 @@ use Rattle.esi_scanner.specs.declared.element_name.ElementName.TheVariants as el
 use Rattle.esi_expr.specs.Tree.{Test}
 use Rattle.esi_tree.specs.Tree as tree
 use Rattle.esi_tree.specs.Tree.{Element, Elements, End, Then, Branches, NoBranch, When}
-use Rattle.esi_tree.specs.Shown.{row, Arm, arm}
+use Rattle.esi_tree.specs.Shown.{row, Branch, branch_before}
 use Rattle.esi_tree.specs.Items.{Item}
 use Rattle.esi_tree.specs.Template.{AreWhite, Splits, AfterWhite, IsPart, IsWhen, IsElement, IsRun, AreBranches}
-use Rattle.esi_tree.specs.Reading.{Halves, Neither, AttemptAlone, ExceptAlone, Both, Frame, InInclude, InComment, InInline, InVars, InChoose, InWhen, InOtherwise, InTry, InAttempt, InExcept, Piece, AnElement, ABranch, AnAttempt, AnExcept, with_attempt, with_except, with_element, with_branch, with_half, grown, holds_run, is_run, is_vars, is_otherwise, stands_in_run, stands_in_choose, stands_in_try, stands_in, may_stand}
+use Rattle.esi_tree.specs.Reading.{Halves, Neither, AttemptAlone, ExceptAlone, Both, Frame, InInclude, InComment, InInline, InVars, InChoose, InWhen, InOtherwise, InTry, InAttempt, InExcept, Child, AnElement, ABranch, AnAttempt, AnExcept, with_attempt, with_except, with_element, with_branch, with_half, grown, holds_run, is_run, is_vars, is_otherwise, stands_in_run, stands_in_choose, stands_in_try, stands_in, may_stand}
 
 -- these items are a branch
-abbrev pub IsArm : Bool → Option Test → Elements → List Item → Type 0
-IsArm vars None content items = IsPart element.Otherwise (IsRun vars content) items
-IsArm vars (Some test) content items = IsWhen test (IsRun vars content) items
+abbrev pub IsBranch : Bool → Option Test → Elements → List Item → Type 0
+IsBranch vars None content items = IsPart element.Otherwise (IsRun vars content) items
+IsBranch vars (Some test) content items = IsWhen test (IsRun vars content) items
 
--- these items are a piece
-abbrev pub IsPiece : Bool → Piece → List Item → Type 0
-IsPiece vars (AnElement e) items = IsElement vars e items
-IsPiece vars (ABranch branch) items = IsArm vars branch.test branch.content items
-IsPiece vars (AnAttempt content) items = IsPart element.Attempt (IsRun vars content) items
-IsPiece vars (AnExcept content) items = IsPart element.Except (IsRun vars content) items
+-- these items are a child
+abbrev pub IsChild : Bool → Child → List Item → Type 0
+IsChild vars (AnElement e) items = IsElement vars e items
+IsChild vars (ABranch branch) items = IsBranch vars branch.test branch.content items
+IsChild vars (AnAttempt content) items = IsPart element.Attempt (IsRun vars content) items
+IsChild vars (AnExcept content) items = IsPart element.Except (IsRun vars content) items
 
 -- the name of a branch
-abbrev pub arm_name : Option Test → ElementName
-arm_name None = element.Otherwise
-arm_name (Some test) = element.When
+abbrev pub branch_name : Option Test → ElementName
+branch_name None = element.Otherwise
+branch_name (Some test) = element.When
 
--- a piece may stand at the innermost place
-abbrev pub Fits : Piece → List Frame → Type 0
+-- a child may stand at the innermost place
+abbrev pub Fits : Child → List Frame → Type 0
 Fits (AnElement e) frames = is_run frames ≡ true
-Fits (ABranch branch) frames = may_stand (arm_name branch.test) frames ≡ true
+Fits (ABranch branch) frames = may_stand (branch_name branch.test) frames ≡ true
 Fits (AnAttempt content) frames = may_stand element.Attempt frames ≡ true
 Fits (AnExcept content) frames = may_stand element.Except frames ≡ true
 
 -- branches with others behind them
-abbrev pub arms_then : List Arm → Branches → Branches
-arms_then [] rest = rest
-arms_then (b ∷ bs) rest = arm b.test b.content (arms_then bs rest)
+abbrev pub branches_then : List Branch → Branches → Branches
+branches_then [] rest = rest
+branches_then (b ∷ bs) rest = branch_before b.test b.content (branches_then bs rest)
 
 -- these items, with whatever other branches behind them, are the branches with those
-abbrev pub BeginBranches : Bool → List Arm → List Item → Type 0
+abbrev pub BeginBranches : Bool → List Branch → List Item → Type 0
 BeginBranches vars bs items =
-    (rest : Branches) (more : List Item) → AreBranches vars (not (list_any is_otherwise bs)) rest more → AreBranches vars true (arms_then bs rest) (items ++ more)
+    (rest : Branches) (more : List Item) → AreBranches vars (not (list_any is_otherwise bs)) rest more → AreBranches vars true (branches_then bs rest) (items ++ more)
 
 -- the parts of a try so far
 abbrev pub IsHalves : Bool → Halves → List Item → Type 0
@@ -136,7 +136,7 @@ inside-white vars InComment items ws none white is = white-append items ws is wh
 inside-white vars (InInline label content) items ws none white is = absurd (cc)
 inside-white vars (InVars content) items ws none white is = absurd (cc)
 inside-white vars (InChoose bs) items ws none white is = λ rest more are.
-    let P : List Item → Type 0 = λ us. AreBranches vars true (arms_then bs rest) us in
+    let P : List Item → Type 0 = λ us. AreBranches vars true (branches_then bs rest) us in
     subst P (sym (append_assoc items ws more)) (is rest (ws ++ more) (branches-white vars (not (list_any is_otherwise bs)) rest ws more white are))
 inside-white vars (InWhen test content) items ws none white is = absurd (cc)
 inside-white vars (InOtherwise content) items ws none white is = absurd (cc)
@@ -156,61 +156,61 @@ push-element vars e (InTry halves) items ws top is inside = absurd (cc)
 push-element vars e (InAttempt content) items ws top is inside = run-push vars content e items ws inside is
 push-element vars e (InExcept content) items ws top is inside = run-push vars content e items ws inside is
 
-arms_then-push : (bs : List Arm) (b : Arm) (rest : Branches) → arms_then (bs ++ b ∷ []) rest ≡ arms_then bs (arm b.test b.content rest)
-arms_then-push [] b rest = refl
-arms_then-push (x ∷ bs) b rest = ap (λ more. arm x.test x.content more) (arms_then-push bs b rest)
+branches_then-push : (bs : List Branch) (b : Branch) (rest : Branches) → branches_then (bs ++ b ∷ []) rest ≡ branches_then bs (branch_before b.test b.content rest)
+branches_then-push [] b rest = refl
+branches_then-push (x ∷ bs) b rest = ap (λ more. branch_before x.test x.content more) (branches_then-push bs b rest)
 
 not-true : (b : Bool) → not b ≡ true → b ≡ false
 not-true true e = absurd (cc)
 not-true false e = refl
 
 -- a branch of this test and content
-abbrev pub branch_of : Option Test → Elements → Arm
-branch_of test content = record { test = test; content = content }
+abbrev pub branch_with : Option Test → Elements → Branch
+branch_with test content = record { test = test; content = content }
 
 -- one branch more
-pub push-arm : (vars : Bool) (bs : List Arm) (test : Option Test) (content : Elements) (items ws : List Item) → stands_in_choose (arm_name test) bs ≡ true → IsArm vars test content ws → BeginBranches vars bs items → BeginBranches vars (bs ++ branch_of test content ∷ []) (items ++ ws)
-push-arm vars bs (Some test) content items ws may is inside = λ rest more are.
-    let branch = branch_of (Some test) content in
+pub push-branch : (vars : Bool) (bs : List Branch) (test : Option Test) (content : Elements) (items ws : List Item) → stands_in_choose (branch_name test) bs ≡ true → IsBranch vars test content ws → BeginBranches vars bs items → BeginBranches vars (bs ++ branch_with test content ∷ []) (items ++ ws)
+push-branch vars bs (Some test) content items ws may is inside = λ rest more are.
+    let branch = branch_with (Some test) content in
     let same : list_any is_otherwise (bs ++ branch ∷ []) ≡ list_any is_otherwise bs = list_any-append is_otherwise bs (branch ∷ []) ∙ or-false (list_any is_otherwise bs) in
     let Behind : Bool → Type 0 = λ some. AreBranches vars (not some) rest more in
-    let whole : AreBranches vars true (arms_then bs (When test content rest)) (items ++ (ws ++ more)) =
+    let whole : AreBranches vars true (branches_then bs (When test content rest)) (items ++ (ws ++ more)) =
     inside (When test content rest) (ws ++ more)
     (record { front = []; back = ws ++ more; joined = refl; first = tt; second = record { front = ws; back = more; joined = refl; first = is; second = subst Behind same are } }) in
-    let P : List Item → Type 0 = λ us. AreBranches vars true (arms_then bs (When test content rest)) us in
+    let P : List Item → Type 0 = λ us. AreBranches vars true (branches_then bs (When test content rest)) us in
     let Q : Branches → Type 0 = λ all. AreBranches vars true all ((items ++ ws) ++ more) in
-    subst Q (sym (arms_then-push bs branch rest)) (subst P (sym (append_assoc items ws more)) whole)
-push-arm vars bs None content items ws may is inside = λ rest more are.
-    let branch = branch_of None content in
+    subst Q (sym (branches_then-push bs branch rest)) (subst P (sym (append_assoc items ws more)) whole)
+push-branch vars bs None content items ws may is inside = λ rest more are.
+    let branch = branch_with None content in
     let same : list_any is_otherwise (bs ++ branch ∷ []) ≡ true = list_any-append is_otherwise bs (branch ∷ []) ∙ ap (λ b. b || true) (not-true (list_any is_otherwise bs) may) in
     let Behind : Bool → Type 0 = λ some. AreBranches vars (not some) rest more in
-    let whole : AreBranches vars true (arms_then bs (tree.Otherwise content rest)) (items ++ (ws ++ more)) =
+    let whole : AreBranches vars true (branches_then bs (tree.Otherwise content rest)) (items ++ (ws ++ more)) =
     inside (tree.Otherwise content rest) (ws ++ more)
     (may, record { front = []; back = ws ++ more; joined = refl; first = tt; second = record { front = ws; back = more; joined = refl; first = is; second = subst Behind same are } }) in
-    let P : List Item → Type 0 = λ us. AreBranches vars true (arms_then bs (tree.Otherwise content rest)) us in
+    let P : List Item → Type 0 = λ us. AreBranches vars true (branches_then bs (tree.Otherwise content rest)) us in
     let Q : Branches → Type 0 = λ all. AreBranches vars true all ((items ++ ws) ++ more) in
-    subst Q (sym (arms_then-push bs branch rest)) (subst P (sym (append_assoc items ws more)) whole)
+    subst Q (sym (branches_then-push bs branch rest)) (subst P (sym (append_assoc items ws more)) whole)
 
-pub arm-no_run : (test : Option Test) → stands_in_run (arm_name test) ≡ true → ⊥
-arm-no_run None e = absurd (cc)
-arm-no_run (Some test) e = absurd (cc)
+pub branch-no_run : (test : Option Test) → stands_in_run (branch_name test) ≡ true → ⊥
+branch-no_run None e = absurd (cc)
+branch-no_run (Some test) e = absurd (cc)
 
-arm-no_try : (test : Option Test) (halves : Halves) → stands_in_try (arm_name test) halves ≡ true → ⊥
-arm-no_try None halves e = absurd (cc)
-arm-no_try (Some test) halves e = absurd (cc)
+branch-no_try : (test : Option Test) (halves : Halves) → stands_in_try (branch_name test) halves ≡ true → ⊥
+branch-no_try None halves e = absurd (cc)
+branch-no_try (Some test) halves e = absurd (cc)
 
-push-branch : (vars : Bool) (test : Option Test) (content : Elements) (frame : Frame) (items ws : List Item) → stands_in (arm_name test) frame ≡ true → IsArm (is_vars frame || vars) test content ws → Inside vars frame items
-    → Inside vars (with_branch (branch_of test content) frame) (items ++ ws)
-push-branch vars test content (InInclude src alt onward) items ws may is inside = absurd (cc)
-push-branch vars test content InComment items ws may is inside = absurd (cc)
-push-branch vars test content (InInline label others) items ws may is inside = absurd (arm-no_run test may)
-push-branch vars test content (InVars others) items ws may is inside = absurd (arm-no_run test may)
-push-branch vars test content (InChoose bs) items ws may is inside = push-arm vars bs test content items ws may is inside
-push-branch vars test content (InWhen other others) items ws may is inside = absurd (arm-no_run test may)
-push-branch vars test content (InOtherwise others) items ws may is inside = absurd (arm-no_run test may)
-push-branch vars test content (InTry halves) items ws may is inside = absurd (arm-no_try test halves may)
-push-branch vars test content (InAttempt others) items ws may is inside = absurd (arm-no_run test may)
-push-branch vars test content (InExcept others) items ws may is inside = absurd (arm-no_run test may)
+push-branch_in : (vars : Bool) (test : Option Test) (content : Elements) (frame : Frame) (items ws : List Item) → stands_in (branch_name test) frame ≡ true → IsBranch (is_vars frame || vars) test content ws → Inside vars frame items
+    → Inside vars (with_branch (branch_with test content) frame) (items ++ ws)
+push-branch_in vars test content (InInclude src alt onward) items ws may is inside = absurd (cc)
+push-branch_in vars test content InComment items ws may is inside = absurd (cc)
+push-branch_in vars test content (InInline label others) items ws may is inside = absurd (branch-no_run test may)
+push-branch_in vars test content (InVars others) items ws may is inside = absurd (branch-no_run test may)
+push-branch_in vars test content (InChoose bs) items ws may is inside = push-branch vars bs test content items ws may is inside
+push-branch_in vars test content (InWhen other others) items ws may is inside = absurd (branch-no_run test may)
+push-branch_in vars test content (InOtherwise others) items ws may is inside = absurd (branch-no_run test may)
+push-branch_in vars test content (InTry halves) items ws may is inside = absurd (branch-no_try test halves may)
+push-branch_in vars test content (InAttempt others) items ws may is inside = absurd (branch-no_run test may)
+push-branch_in vars test content (InExcept others) items ws may is inside = absurd (branch-no_run test may)
 
 -- a try's attempt, and its except
 pub halves-attempt : (vars : Bool) (content : Elements) (halves : Halves) (items ws : List Item) → stands_in_try element.Attempt halves ≡ true → IsPart element.Attempt (IsRun vars content) ws → IsHalves vars halves items → IsHalves vars (with_attempt content halves) (items ++ ws)
@@ -251,9 +251,9 @@ push-except vars content (InTry halves) items ws may is inside = halves-except v
 push-except vars content (InAttempt others) items ws may is inside = absurd (cc)
 push-except vars content (InExcept others) items ws may is inside = absurd (cc)
 
--- one piece more
-pub inside-push : (vars : Bool) (piece : Piece) (frame : Frame) (outer : List Frame) (items ws : List Item) → Fits piece (frame ∷ outer) → IsPiece (is_vars frame || vars) piece ws → Inside vars frame items → Inside vars (grown piece frame) (items ++ ws)
+-- one child more
+pub inside-push : (vars : Bool) (child : Child) (frame : Frame) (outer : List Frame) (items ws : List Item) → Fits child (frame ∷ outer) → IsChild (is_vars frame || vars) child ws → Inside vars frame items → Inside vars (grown child frame) (items ++ ws)
 inside-push vars (AnElement e) frame outer items ws fit is inside = push-element vars e frame items ws fit is inside
-inside-push vars (ABranch branch) frame outer items ws fit is inside = push-branch vars branch.test branch.content frame items ws fit is inside
+inside-push vars (ABranch branch) frame outer items ws fit is inside = push-branch_in vars branch.test branch.content frame items ws fit is inside
 inside-push vars (AnAttempt content) frame outer items ws fit is inside = push-attempt vars content frame items ws fit is inside
 inside-push vars (AnExcept content) frame outer items ws fit is inside = push-except vars content frame items ws fit is inside

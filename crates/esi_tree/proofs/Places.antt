@@ -1,10 +1,10 @@
--- What may stand at a place, and what a piece more there leaves as it was.
+-- What may stand at a place, and what a child more there leaves as it was.
 use Rattle.std.proofs.Common.{◌≡◌, true, List, [], ◌∷◌, ◌||◌, refl, ap}
 use Rattle.esi_scanner.specs.declared.element_name.ElementName.{ElementName}
 use Rattle.esi_scanner.specs.declared.element_name.ElementName.TheVariants as element
 use Rattle.esi_tree.specs.Tree.{Element}
-use Rattle.esi_tree.specs.Shown.{Arm}
-use Rattle.esi_tree.specs.Reading.{Halves, Neither, Frame, InInclude, InComment, InInline, InVars, InChoose, InWhen, InOtherwise, InTry, InAttempt, InExcept, Piece, AnElement, ABranch, AnAttempt, AnExcept, with_element, with_branch, with_half, with_attempt, with_except, grown, put_in, holds_run, is_run, is_vars, in_vars, stands_in_run, stands_in_choose, stands_in_try, may_stand, name_of}
+use Rattle.esi_tree.specs.Shown.{Branch}
+use Rattle.esi_tree.specs.Reading.{Halves, Neither, Frame, InInclude, InComment, InInline, InVars, InChoose, InWhen, InOtherwise, InTry, InAttempt, InExcept, Child, AnElement, ABranch, AnAttempt, AnExcept, with_element, with_branch, with_half, with_attempt, with_except, grown, put_in, holds_run, is_run, is_vars, in_vars, stands_in_run, stands_in_choose, stands_in_try, may_stand, name_of}
 
 -- an open element as it was when its tag had been read
 abbrev pub emptied : Frame → Frame
@@ -38,7 +38,7 @@ keeps-element e (InTry halves) = record { holds = refl; vars = refl; named = ref
 keeps-element e (InAttempt content) = record { holds = refl; vars = refl; named = refl; empty = refl }
 keeps-element e (InExcept content) = record { holds = refl; vars = refl; named = refl; empty = refl }
 
-keeps-branch : (branch : Arm) (frame : Frame) → Keeps frame (with_branch branch frame)
+keeps-branch : (branch : Branch) (frame : Frame) → Keeps frame (with_branch branch frame)
 keeps-branch branch (InInclude src alt onward) = record { holds = refl; vars = refl; named = refl; empty = refl }
 keeps-branch branch InComment = record { holds = refl; vars = refl; named = refl; empty = refl }
 keeps-branch branch (InInline name content) = record { holds = refl; vars = refl; named = refl; empty = refl }
@@ -62,19 +62,19 @@ keeps-half more (InTry halves) = record { holds = refl; vars = refl; named = ref
 keeps-half more (InAttempt content) = record { holds = refl; vars = refl; named = refl; empty = refl }
 keeps-half more (InExcept content) = record { holds = refl; vars = refl; named = refl; empty = refl }
 
-pub keeps : (piece : Piece) (frame : Frame) → Keeps frame (grown piece frame)
+pub keeps : (child : Child) (frame : Frame) → Keeps frame (grown child frame)
 keeps (AnElement e) frame = keeps-element e frame
 keeps (ABranch branch) frame = keeps-branch branch frame
 keeps (AnAttempt content) frame = keeps-half (with_attempt content) frame
 keeps (AnExcept content) frame = keeps-half (with_except content) frame
 
-pub put-is_run : (piece : Piece) (frames : List Frame) (content : List Element) → is_run (put_in piece frames content).frames ≡ is_run frames
-put-is_run piece [] content = refl
-put-is_run piece (frame ∷ outer) content = (keeps piece frame).holds
+pub put-is_run : (child : Child) (frames : List Frame) (content : List Element) → is_run (put_in child frames content).frames ≡ is_run frames
+put-is_run child [] content = refl
+put-is_run child (frame ∷ outer) content = (keeps child frame).holds
 
-pub put-in_vars : (piece : Piece) (frames : List Frame) (content : List Element) → in_vars (put_in piece frames content).frames ≡ in_vars frames
-put-in_vars piece [] content = refl
-put-in_vars piece (frame ∷ outer) content = ap (λ b. b || in_vars outer) (keeps piece frame).vars
+pub put-in_vars : (child : Child) (frames : List Frame) (content : List Element) → in_vars (put_in child frames content).frames ≡ in_vars frames
+put-in_vars child [] content = refl
+put-in_vars child (frame ∷ outer) content = ap (λ b. b || in_vars outer) (keeps child frame).vars
 
 -- where a run stands, any element that stands in runs may stand
 pub may_stand-run : (name : ElementName) (frames : List Frame) → is_run frames ≡ true → may_stand name frames ≡ stands_in_run name
@@ -90,7 +90,7 @@ may_stand-run name (InTry halves ∷ outer) top = absurd (cc)
 may_stand-run name (InAttempt content ∷ outer) top = refl
 may_stand-run name (InExcept content ∷ outer) top = refl
 
-no-choose : (name : ElementName) (branches : List Arm) → stands_in_run name ≡ true → stands_in_choose name branches ≡ true → ⊥
+no-choose : (name : ElementName) (branches : List Branch) → stands_in_run name ≡ true → stands_in_choose name branches ≡ true → ⊥
 no-choose element.When branches in_run in_choose = absurd (cc)
 no-choose element.Otherwise branches in_run in_choose = absurd (cc)
 no-choose _ branches in_run in_choose = absurd (cc)

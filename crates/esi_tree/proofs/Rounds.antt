@@ -11,7 +11,7 @@ use Rattle.esi_tree.specs.Tree.{Element}
 use Rattle.esi_tree.specs.Items.{Item, Text, Open, Close, Remove, Block}
 use Rattle.esi_tree.specs.Attributes.{when_test, inline_name, is_white}
 use Rattle.esi_tree.specs.Template.{AreWhite, AfterWhite, IsIncludeTag}
-use Rattle.esi_tree.specs.Reading.{Frame, InInclude, InInline, InWhen, State, Piece, AnElement, put, is_run, in_vars, text_element, after_text, after_remove, may_stand, opened_by, inside, entered, name_of, piece_of, left}
+use Rattle.esi_tree.specs.Reading.{Frame, InInclude, InInline, InWhen, State, Child, AnElement, put, is_run, in_vars, text_element, after_text, after_remove, may_stand, opened_by, inside, entered, name_of, child_of, left}
 use Rattle.esi_tree.specs.Tree as tree
 use Rattle.esi_tree.proofs.Runs.{run, run-after, run-one, entered-is, opened-is, left-is}
 
@@ -21,23 +21,23 @@ Shape tag name content items =
     ((tag.closed ≡ true) × (content ≡ []) × (items ≡ Open tag ∷ []))
     ⊎ ((tag.closed ≡ false) × (items ≡ Open tag ∷ (content ++ Close name ∷ [])))
 
-pub round : (tag : Tag) (name : ElementName) (content items : List Item) (frame last : Frame) (piece : Piece) (state : State)
+pub round : (tag : Tag) (name : ElementName) (content items : List Item) (frame last : Frame) (child : Child) (state : State)
     → tag.name ≡ name → may_stand name state.frames ≡ true → opened_by name tag.attributes ≡ Some frame → name ≡ name_of last
-    → run content (inside frame state) ≡ Some (inside last state) → piece_of last ≡ Some piece → Shape tag name content items
-    → run items state ≡ Some (put piece state)
-round tag name content items frame last piece state named allowed opens same reads is shape = elim shape [
+    → run content (inside frame state) ≡ Some (inside last state) → child_of last ≡ Some child → Shape tag name content items
+    → run items state ≡ Some (put child state)
+round tag name content items frame last child state named allowed opens same reads is shape = elim shape [
   | inl closed ↦
-      let whole : run (Open tag ∷ []) state ≡ Some (put piece state) =
-      run-one (Open tag) [] state (put piece state)
+      let whole : run (Open tag ∷ []) state ≡ Some (put child state) =
+      run-one (Open tag) [] state (put child state)
       (opened-is tag state (inside frame state) true closed.0 enters
       ∙ ap (λ o. o >>= λ within. left tag.name within) (ap (λ us. run us (inside frame state)) (sym closed.1) ∙ reads)
-      ∙ left-is tag.name last piece state (named ∙ same) is) in
+      ∙ left-is tag.name last child state (named ∙ same) is) in
       ap (λ us. run us state) closed.2 ∙ whole
   | inr unclosed ↦
       ap (λ us. run us state) unclosed.1
       ∙ run-one (Open tag) (content ++ Close name ∷ []) state (inside frame state) (opened-is tag state (inside frame state) false unclosed.0 enters)
       ∙ run-after content (Close name ∷ []) (inside frame state) (inside last state) reads
-      ∙ run-one (Close name) [] (inside last state) (put piece state) (left-is name last piece state same is)
+      ∙ run-one (Close name) [] (inside last state) (put child state) (left-is name last child state same is)
 ]
   where
     enters : entered tag.name tag.attributes state ≡ Some (inside frame state)

@@ -10,7 +10,7 @@ use Rattle.esi_tree.specs.declared.open_elements.TheConstants.{OPEN_LIMIT}
 use Rattle.esi_tree.specs.Tree.{Element}
 use Rattle.esi_tree.specs.Items.{Item, Text, Open, Close, Remove, Block}
 use Rattle.esi_tree.specs.Template.{struck}
-use Rattle.esi_tree.specs.Reading.{Frame, State, Piece, put, put_in, after_text, after_remove, may_stand, opened_by, inside, entered, name_of, is_same, piece_of, left, after_tag, after}
+use Rattle.esi_tree.specs.Reading.{Frame, State, Child, put, put_in, after_text, after_remove, may_stand, opened_by, inside, entered, name_of, is_same, child_of, left, after_tag, after}
 
 -- what has been read after an opening tag, however many elements are open
 abbrev pub opened : Tag → State → Option State
@@ -145,24 +145,24 @@ same-is element.Vars element.Vars e = refl
 same-is _ _ e = absurd (cc)
 
 -- what the end of an element leaves
-pub left-is : (name : ElementName) (frame : Frame) (piece : Piece) (state : State) → name ≡ name_of frame → piece_of frame ≡ Some piece → left name (inside frame state) ≡ Some (put piece state)
+pub left-is : (name : ElementName) (frame : Frame) (child : Child) (state : State) → name ≡ name_of frame → child_of frame ≡ Some child → left name (inside frame state) ≡ Some (put child state)
 unfolding left
-left-is name frame piece state named is = rw (named, same-self (name_of frame), is) refl
+left-is name frame child state named is = rw (named, same-self (name_of frame), is) refl
 
 -- what must have been open where an element ends
 pub record Leaves (name : ElementName) (frames : List Frame) (content : List Element) (next : State) : Type 0 where
   pub frame : Frame
   pub outer : List Frame
-  pub piece : Piece
+  pub child : Child
   pub frames_are : frames ≡ frame ∷ outer
   pub named : name ≡ name_of frame
-  pub piece_is : piece_of frame ≡ Some piece
-  pub next_is : put_in piece outer content ≡ next
+  pub child_is : child_of frame ≡ Some child
+  pub next_is : put_in child outer content ≡ next
 
 pub left-inverts : (name : ElementName) (frames : List Frame) (content : List Element) (next : State) → left name (record { frames = frames; content = content }) ≡ Some next → Leaves name frames content next
 unfolding left
 left-inverts name [] content next e = absurd (cc)
 left-inverts name (frame ∷ outer) content next e =
-    let parts = chosen_some (is_same name (name_of frame)) (piece_of frame >>= λ piece. Some (put_in piece outer content)) next e in
-    option_and_then_some (λ piece. Some (put_in piece outer content)) (piece_of frame) next parts.1 (λ piece is rest.
-    record { frame = frame; outer = outer; piece = piece; frames_are = refl; named = same-is name (name_of frame) parts.0; piece_is = is; next_is = cc })
+    let parts = chosen_some (is_same name (name_of frame)) (child_of frame >>= λ child. Some (put_in child outer content)) next e in
+    option_and_then_some (λ child. Some (put_in child outer content)) (child_of frame) next parts.1 (λ child is rest.
+    record { frame = frame; outer = outer; child = child; frames_are = refl; named = same-is name (name_of frame) parts.0; child_is = is; next_is = cc })

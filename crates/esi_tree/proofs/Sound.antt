@@ -10,11 +10,11 @@ use Rattle.esi_tree.specs.Shown.{row}
 use Rattle.esi_tree.specs.Attributes.{is_white}
 use Rattle.esi_tree.specs.Items.{Item, Text, Open, Close, Remove, Block}
 use Rattle.esi_tree.specs.Template.{struck, AreWhite, IsElement, IsRun}
-use Rattle.esi_tree.specs.Reading.{Frame, State, Piece, AnElement, ABranch, AnAttempt, AnExcept, grown, put_in, is_run, in_vars, text_element, after_text, after_remove, may_stand, opened_by, inside, name_of, piece_of, left}
+use Rattle.esi_tree.specs.Reading.{Frame, State, Child, AnElement, ABranch, AnAttempt, AnExcept, grown, put_in, is_run, in_vars, text_element, after_text, after_remove, may_stand, opened_by, inside, name_of, child_of, left}
 use Rattle.esi_tree.proofs.Runs.{run, taken, Enters, opened-inverts, left-inverts}
 use Rattle.esi_tree.proofs.Places.{emptied, keeps}
-use Rattle.esi_tree.proofs.Inside.{IsPiece, Fits, Inside, arm-no_run, run-push, inside-white, inside-push}
-use Rattle.esi_tree.proofs.Ends.{fresh, whole, fits-piece}
+use Rattle.esi_tree.proofs.Inside.{IsChild, Fits, Inside, branch-no_run, run-push, inside-white, inside-push}
+use Rattle.esi_tree.proofs.Ends.{fresh, whole, fits-child}
 
 -- an element that is open: what stood before its tag, its tag, and what has been read inside
 pub record IsOpened (frame : Frame) (outer : List Frame) (items : List Item) (Before : List Item → Type 0) : Type 0 where
@@ -63,14 +63,14 @@ reads-more frame more outer content us ws read named empty within = record {
   within = within;
 }
 
--- one piece more
-pub reads-put : (piece : Piece) (frames : List Frame) (content : List Element) (us ws : List Item) → Fits piece frames → IsPiece (in_vars frames) piece ws → Reads frames content us → ReadsTo (put_in piece frames content) (us ++ ws)
+-- one child more
+pub reads-put : (child : Child) (frames : List Frame) (content : List Element) (us ws : List Item) → Fits child frames → IsChild (in_vars frames) child ws → Reads frames content us → ReadsTo (put_in child frames content) (us ++ ws)
 reads-put (AnElement e) [] content us ws fit is read = run-push false content e us ws read is
-reads-put (ABranch branch) [] content us ws fit is read = absurd (arm-no_run branch.test fit)
+reads-put (ABranch branch) [] content us ws fit is read = absurd (branch-no_run branch.test fit)
 reads-put (AnAttempt others) [] content us ws fit is read = absurd (cc)
 reads-put (AnExcept others) [] content us ws fit is read = absurd (cc)
-reads-put piece (frame ∷ outer) content us ws fit is read =
-    reads-more frame (grown piece frame) outer content us ws read (keeps piece frame).named (keeps piece frame).empty (inside-push (in_vars outer) piece frame outer read.inner ws fit is read.within)
+reads-put child (frame ∷ outer) content us ws fit is read =
+    reads-more frame (grown child frame) outer content us ws read (keeps child frame).named (keeps child frame).empty (inside-push (in_vars outer) child frame outer read.inner ws fit is read.within)
 
 -- white text where no run stands
 reads-white : (frames : List Frame) (content : List Element) (us ws : List Item) → is_run frames ≡ false → AreWhite ws → Reads frames content us → Reads frames content (us ++ ws)
@@ -87,9 +87,9 @@ reads-text bytes state next us e read = by_place (is_run state.frames) refl e
   where
     by_place : (b : Bool) → is_run state.frames ≡ b → cond b (Some (put_in (AnElement (text_element (in_vars state.frames) bytes)) state.frames state.content)) (cond (is_white bytes) (Some state) None) ≡ Some next → ReadsTo next (us ++ Text bytes ∷ [])
     by_place true top e' =
-        let piece = AnElement (text_element (in_vars state.frames) bytes) in
-        let more = put_in piece state.frames state.content in
-        carried (us ++ Text bytes ∷ []) more next (ap (λ o. unwrap_or o next) e') (reads-put piece state.frames state.content us (Text bytes ∷ []) top (text-is (in_vars state.frames) bytes) read)
+        let child = AnElement (text_element (in_vars state.frames) bytes) in
+        let more = put_in child state.frames state.content in
+        carried (us ++ Text bytes ∷ []) more next (ap (λ o. unwrap_or o next) e') (reads-put child state.frames state.content us (Text bytes ∷ []) top (text-is (in_vars state.frames) bytes) read)
     by_place false none e' =
         let parts = cond_some (is_white bytes) state next e' in
         carried (us ++ Text bytes ∷ []) state next parts.1 (reads-white state.frames state.content us (Text bytes ∷ []) none (parts.0, tt) read)
@@ -97,27 +97,27 @@ reads-text bytes state next us e read = by_place (is_run state.frames) refl e
 reads-remove : (state next : State) (us : List Item) → after_remove state ≡ Some next → ReadsTo state us → ReadsTo next (us ++ Remove ∷ [])
 unfolding after_remove
 reads-remove state next us e read =
-    let piece = AnElement tree.Nothing in
-    let more = put_in piece state.frames state.content in
+    let child = AnElement tree.Nothing in
+    let more = put_in child state.frames state.content in
     let parts = cond_some (is_run state.frames) more next e in
-    carried (us ++ Remove ∷ []) more next parts.1 (reads-put piece state.frames state.content us (Remove ∷ []) parts.0 (inl refl) read)
+    carried (us ++ Remove ∷ []) more next parts.1 (reads-put child state.frames state.content us (Remove ∷ []) parts.0 (inl refl) read)
 
 -- the innermost element with its end
-pub reads-end : (frame : Frame) (piece : Piece) (outer : List Frame) (content : List Element) (us : List Item) → piece_of frame ≡ Some piece → Reads (frame ∷ outer) content us → ReadsTo (put_in piece outer content) (us ++ Close (name_of frame) ∷ [])
-reads-end frame piece outer content us is read =
+pub reads-end : (frame : Frame) (child : Child) (outer : List Frame) (content : List Element) (us : List Item) → child_of frame ≡ Some child → Reads (frame ∷ outer) content us → ReadsTo (put_in child outer content) (us ++ Close (name_of frame) ∷ [])
+reads-end frame child outer content us is read =
     let close = Close (name_of frame) ∷ [] in
     let ws = Open read.tag ∷ (read.inner ++ close) in
-    let all : IsPiece (in_vars outer) piece ws = whole (in_vars outer) frame piece read.tag read.inner ws read.named read.says read.within is (inr (read.unclosed, refl)) in
+    let all : IsChild (in_vars outer) child ws = whole (in_vars outer) frame child read.tag read.inner ws read.named read.says read.within is (inr (read.unclosed, refl)) in
     let same : read.front ++ ws ≡ us ++ close = sym (ap (λ vs. vs ++ close) read.joined ∙ append_assoc read.front (Open read.tag ∷ read.inner) close) in
-    moved (put_in piece outer content) (read.front ++ ws) (us ++ close) same (reads-put piece outer content read.front ws (fits-piece frame piece outer is read.allowed) all read.before)
+    moved (put_in child outer content) (read.front ++ ws) (us ++ close) same (reads-put child outer content read.front ws (fits-child frame child outer is read.allowed) all read.before)
 
 reads-close : (name : ElementName) (frames : List Frame) (content : List Element) (next : State) (us : List Item) → left name (record { frames = frames; content = content }) ≡ Some next → Reads frames content us → ReadsTo next (us ++ Close name ∷ [])
 reads-close name frames content next us e read =
     let leaves = left-inverts name frames content next e in
     let P : List Frame → Type 0 = λ fs. Reads fs content us in
-    let ended = reads-end leaves.frame leaves.piece leaves.outer content us leaves.piece_is (subst P leaves.frames_are read) in
-    carried (us ++ Close name ∷ []) (put_in leaves.piece leaves.outer content) next leaves.next_is
-    (moved (put_in leaves.piece leaves.outer content) (us ++ Close (name_of leaves.frame) ∷ []) (us ++ Close name ∷ []) (ap (λ n. us ++ Close n ∷ []) (sym leaves.named)) ended)
+    let ended = reads-end leaves.frame leaves.child leaves.outer content us leaves.child_is (subst P leaves.frames_are read) in
+    carried (us ++ Close name ∷ []) (put_in leaves.child leaves.outer content) next leaves.next_is
+    (moved (put_in leaves.child leaves.outer content) (us ++ Close (name_of leaves.frame) ∷ []) (us ++ Close name ∷ []) (ap (λ n. us ++ Close n ∷ []) (sym leaves.named)) ended)
 
 front-same : (a b : Frame) (xs ys : List Frame) → a ∷ xs ≡ b ∷ ys → a ≡ b
 front-same a b xs ys e = cc
@@ -132,13 +132,13 @@ reads-closed tag frame state next us is allowed opens rest read =
     let leaves = left-inverts tag.name (frame ∷ state.frames) state.content next rest in
     let same_frame : frame ≡ leaves.frame = front-same frame leaves.frame state.frames leaves.outer leaves.frames_are in
     let same_outer : state.frames ≡ leaves.outer = back-same frame leaves.frame state.frames leaves.outer leaves.frames_are in
-    let gives : piece_of frame ≡ Some leaves.piece = ap piece_of same_frame ∙ leaves.piece_is in
-    let more = put_in leaves.piece state.frames state.content in
+    let gives : child_of frame ≡ Some leaves.child = ap child_of same_frame ∙ leaves.child_is in
+    let more = put_in leaves.child state.frames state.content in
     let may : may_stand (name_of frame) state.frames ≡ true = ap (λ n. may_stand n state.frames) (sym begun.named) ∙ allowed in
-    let all : IsPiece (in_vars state.frames) leaves.piece (Open tag ∷ []) =
-    whole (in_vars state.frames) frame leaves.piece tag [] (Open tag ∷ []) begun.named begun.says (begun.starts (in_vars state.frames)) gives (inl (is, refl, refl)) in
-    carried (us ++ Open tag ∷ []) more next (ap (λ fs. put_in leaves.piece fs state.content) same_outer ∙ leaves.next_is)
-    (reads-put leaves.piece state.frames state.content us (Open tag ∷ []) (fits-piece frame leaves.piece state.frames gives may) all read)
+    let all : IsChild (in_vars state.frames) leaves.child (Open tag ∷ []) =
+    whole (in_vars state.frames) frame leaves.child tag [] (Open tag ∷ []) begun.named begun.says (begun.starts (in_vars state.frames)) gives (inl (is, refl, refl)) in
+    carried (us ++ Open tag ∷ []) more next (ap (λ fs. put_in leaves.child fs state.content) same_outer ∙ leaves.next_is)
+    (reads-put leaves.child state.frames state.content us (Open tag ∷ []) (fits-child frame leaves.child state.frames gives may) all read)
 
 reads-unclosed : (tag : Tag) (frame : Frame) (state : State) (us : List Item) → tag.closed ≡ false → may_stand tag.name state.frames ≡ true → opened_by tag.name tag.attributes ≡ Some frame → ReadsTo state us → ReadsTo (inside frame state) (us ++ Open tag ∷ [])
 reads-unclosed tag frame state us is allowed opens read =

@@ -1,7 +1,8 @@
 -- A stack that is kept as a list whose last item is the top.
-use Rattle.std.proofs.Common.{◌≡◌, ◌-◌, ◌<◌, true, false, IsSome, List, [], ◌∷◌, ◌++◌, length, map, reverse, slice_get, Option, Some, None, option_map, option_to_list, IfNone, IfSome, refl, sym, ◌∙◌, ap, arith}
+use Rattle.std.proofs.Common.{◌≡◌, ℕ, ◌-◌, ◌<◌, true, false, IsSome, List, [], ◌∷◌, ◌++◌, length, get_or, set, map, reverse, slice_get, Option, Some, None, option_map, option_to_list, IfNone, IfSome, refl, sym, ◌∙◌, ap, arith}
 use Rattle.std.proofs.lemmas.List.{reverse-append, reverse-reverse, length-append, length-map, map-append}
 use Rattle.std.proofs.lemmas.Option.{slice_get-map}
+use Rattle.std.proofs.Math.Seq.{set-append_seam}
 
 slice_get-push : {X : Type 0} (front : List X) (top : X) → slice_get (front ++ top ∷ []) (length front) ≡ Some top
 slice_get-push [] top = refl
@@ -39,3 +40,39 @@ popped-none f (Some x) old new is some = tt
 pub popped-some : {X Y : Type 0} (f : X → Y) (r : Option X) (old new : List X) → old ≡ new ++ option_to_list r → IfSome r (λ x. reverse (map f old) ≡ f x ∷ reverse (map f new))
 popped-some f None old new is = tt
 popped-some f (Some x) old new is = ap (λ xs. reverse (map f xs)) is ∙ pushed-is f new x
+
+get_or-push : {X : Type 0} (front : List X) (top d : X) → get_or (front ++ top ∷ []) (length front) d ≡ top
+get_or-push [] top d = refl
+get_or-push (x ∷ front) top d = get_or-push front top d
+
+-- two stacks that differ in their tops
+pub record Topped {Y : Type 0} (old new : List Y) (a b : Y) : Type 0 where
+  pub rest : List Y
+  pub old_is : old ≡ a ∷ rest
+  pub new_is : new ≡ b ∷ rest
+
+topped-reverse : {X Y : Type 0} (f : X → Y) (xs turned : List X) (n : ℕ) (x y : X) → reverse xs ≡ turned → n ≡ length xs → 0 < n → x ≡ get_or xs (n - 1) x
+    → Topped (reverse (map f xs)) (reverse (map f (set xs (n - 1) y))) (f x) (f y)
+topped-reverse f xs [] n x y e long some at =
+    let is : xs ≡ [] = sym (reverse-reverse xs) ∙ ap reverse e in
+    absurd (omega (arith, ap length is))
+topped-reverse f xs (top ∷ rest) n x y e long some at =
+    let is : xs ≡ reverse rest ++ top ∷ [] = sym (reverse-reverse xs) ∙ ap reverse e ∙ reverse-append (top ∷ []) rest in
+    let place : n - 1 ≡ length (reverse rest) = omega (arith, ap length is, length-append (reverse rest) (top ∷ [])) in
+    let found : x ≡ top = at ∙ ap (λ i. get_or xs i x) place ∙ ap (λ ys. get_or ys (length (reverse rest)) x) is ∙ get_or-push (reverse rest) top x in
+    let put : set xs (n - 1) y ≡ reverse rest ++ y ∷ [] = ap (λ i. set xs i y) place ∙ ap (λ ys. set ys (length (reverse rest)) y) is ∙ set-append_seam (reverse rest) top [] y in
+    record {
+      rest = reverse (map f (reverse rest));
+      old_is = ap (λ ys. reverse (map f ys)) is ∙ pushed-is f (reverse rest) top ∙ ap (λ z. f z ∷ reverse (map f (reverse rest))) (sym found);
+      new_is = ap (λ ys. reverse (map f ys)) put ∙ pushed-is f (reverse rest) y;
+    }
+
+-- another value on top
+pub topped : {X Y : Type 0} (f : X → Y) (xs : List X) (n : ℕ) (x y : X) → n ≡ length xs → 0 < n → x ≡ get_or xs (n - 1) x
+    → Topped (reverse (map f xs)) (reverse (map f (set xs (n - 1) y))) (f x) (f y)
+topped f xs n x y long some at = topped-reverse f xs (reverse xs) n x y refl long some at
+
+-- no top
+pub none-left : {X : Type 0} (xs : List X) → (0 < length xs → false ≡ true) → xs ≡ []
+none-left [] none = refl
+none-left (x ∷ xs) none = let wrong : false ≡ true = none (omega arith) in absurd (cc)

@@ -1,9 +1,10 @@
 -- What the attributes of a tag say.
 use Rattle.std.specs.Prelude.{ℕ, Bool, false, List, codes, bytes_eq, Option, Some, None, option_map}
 use Rattle.std.specs.List.{list_all}
+use Rattle.edge_types.specs.WhiteSpace.{is_ws}
 use Rattle.esi_scanner.specs.declared.attribute.Attribute.{Attribute}
 use Rattle.esi_scanner.specs.declared.attribute.KnownAttribute.TheVariants as known
-use Rattle.esi_scanner.specs.Bytes.{is_ws, ◌>>=◌}
+use Rattle.esi_scanner.specs.Bytes.{◌>>=◌}
 use Rattle.esi_scanner.specs.Tag.{value_of}
 use Rattle.esi_vars.specs.declared.part.Part.{Part}
 use Rattle.esi_vars.specs.Parts.{parts_of}

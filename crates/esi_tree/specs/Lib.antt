@@ -1,5 +1,6 @@
 pub mod Tree
 pub mod Shown
+pub mod Answer
 pub mod Fault
 pub mod Items
 pub mod Attributes

@@ -14,7 +14,7 @@ use Rattle.esi_expr.specs.Tree.{Test}
 use Rattle.esi_tree.specs.declared.open_elements.TheConstants.{OPEN_LIMIT}
 use Rattle.esi_tree.specs.Tree as tree
 use Rattle.esi_tree.specs.Tree.{Element, Elements}
-use Rattle.esi_tree.specs.Shown.{row, Arm, arms}
+use Rattle.esi_tree.specs.Shown.{row, Branch, branch_row}
 use Rattle.esi_tree.specs.Items.{Item, Text, Open, Close, Remove, Block, item_of}
 use Rattle.esi_tree.specs.Attributes.{src_of, alt_of, continues, when_test, inline_name, is_white}
 
@@ -31,7 +31,7 @@ pub data Frame : Type 0 where
   InComment : Frame
   InInline : (name : List ℕ) (content : List Element) → Frame
   InVars : (content : List Element) → Frame
-  InChoose : (branches : List Arm) → Frame
+  InChoose : (branches : List Branch) → Frame
   InWhen : (test : Test) (content : List Element) → Frame
   InOtherwise : (content : List Element) → Frame
   InTry : (halves : Halves) → Frame
@@ -48,11 +48,11 @@ abbrev pub start : State
 start = record { frames = []; content = [] }
 
 -- what an element gives to that in which it stands: an element of a run, a branch of a choose, or a part of a try
-pub data Piece : Type 0 where
-  AnElement : (e : Element) → Piece
-  ABranch : (branch : Arm) → Piece
-  AnAttempt : (content : Elements) → Piece
-  AnExcept : (content : Elements) → Piece
+pub data Child : Type 0 where
+  AnElement : (e : Element) → Child
+  ABranch : (branch : Branch) → Child
+  AnAttempt : (content : Elements) → Child
+  AnExcept : (content : Elements) → Child
 
 -- a try's parts with the attempt; a second one is never read
 abbrev pub with_attempt : Elements → Halves → Halves
@@ -77,7 +77,7 @@ with_element e (InExcept content) = InExcept (content ++ e ∷ [])
 with_element e frame = frame
 
 -- a choose with one branch more
-abbrev pub with_branch : Arm → Frame → Frame
+abbrev pub with_branch : Branch → Frame → Frame
 with_branch branch (InChoose branches) = InChoose (branches ++ branch ∷ [])
 with_branch branch frame = frame
 
@@ -86,25 +86,25 @@ abbrev pub with_half : (Halves → Halves) → Frame → Frame
 with_half more (InTry halves) = InTry (more halves)
 with_half more frame = frame
 
--- an open element with one piece more
-abbrev pub grown : Piece → Frame → Frame
+-- an open element with one child more
+abbrev pub grown : Child → Frame → Frame
 grown (AnElement e) frame = with_element e frame
 grown (ABranch branch) frame = with_branch branch frame
 grown (AnAttempt content) frame = with_half (with_attempt content) frame
 grown (AnExcept content) frame = with_half (with_except content) frame
 
--- what stands in no element, with one piece more
-abbrev pub grown_page : Piece → List Element → List Element
+-- what stands in no element, with one child more
+abbrev pub grown_page : Child → List Element → List Element
 grown_page (AnElement e) content = content ++ e ∷ []
-grown_page piece content = content
+grown_page child content = content
 
--- one piece more at the innermost place
-abbrev pub put_in : Piece → List Frame → List Element → State
-put_in piece [] content = record { frames = []; content = grown_page piece content }
-put_in piece (frame ∷ outer) content = record { frames = grown piece frame ∷ outer; content = content }
+-- one child more at the innermost place
+abbrev pub put_in : Child → List Frame → List Element → State
+put_in child [] content = record { frames = []; content = grown_page child content }
+put_in child (frame ∷ outer) content = record { frames = grown child frame ∷ outer; content = content }
 
-abbrev pub put : Piece → State → State
-put piece state = put_in piece state.frames state.content
+abbrev pub put : Child → State → State
+put child state = put_in child state.frames state.content
 
 -- whether any element may stand in an open one
 abbrev pub holds_run : Frame → Bool
@@ -144,11 +144,11 @@ unfoldable pub after_remove : State → Option State
 after_remove state = if is_run state.frames then Some (put (AnElement tree.Nothing) state) else None
 
 -- whether a branch is the otherwise
-abbrev pub is_otherwise : Arm → Bool
+abbrev pub is_otherwise : Branch → Bool
 is_otherwise branch = is_none branch.test
 
 -- whether it is a `when`
-abbrev pub is_when : Arm → Bool
+abbrev pub is_when : Branch → Bool
 is_when branch = is_some branch.test
 
 -- whether a try's attempt may still come, and whether its except may
@@ -173,7 +173,7 @@ stands_in_run element.Vars = true
 stands_in_run _ = false
 
 -- whether it may stand in a choose of these branches
-abbrev pub stands_in_choose : ElementName → List Arm → Bool
+abbrev pub stands_in_choose : ElementName → List Branch → Bool
 stands_in_choose element.When branches = true
 stands_in_choose element.Otherwise branches = not (list_any is_otherwise branches)
 stands_in_choose _ branches = false
@@ -249,31 +249,31 @@ is_same element.Vars element.Vars = true
 is_same _ _ = false
 
 -- a choose with these branches, one of which must be a `when`
-abbrev pub choose_of : List Arm → Option Piece
-choose_of branches = if list_any is_when branches then Some (AnElement (tree.Choose (arms branches))) else None
+abbrev pub choose_of : List Branch → Option Child
+choose_of branches = if list_any is_when branches then Some (AnElement (tree.Choose (branch_row branches))) else None
 
 -- a try with these parts, both of which must be there
-abbrev pub try_of : Halves → Option Piece
+abbrev pub try_of : Halves → Option Child
 try_of (Both attempt except swapped) = Some (AnElement (tree.Try attempt except swapped))
 try_of _ = None
 
 -- what an open element gives at its end, where it may end
-unfoldable pub piece_of : Frame → Option Piece
-piece_of (InInclude src alt onward) = Some (AnElement (tree.Include src alt onward))
-piece_of InComment = Some (AnElement tree.Nothing)
-piece_of (InInline name content) = Some (AnElement (tree.Inline name (row content)))
-piece_of (InVars content) = Some (AnElement (tree.Vars (row content)))
-piece_of (InChoose branches) = choose_of branches
-piece_of (InWhen test content) = Some (ABranch (record { test = Some test; content = row content }))
-piece_of (InOtherwise content) = Some (ABranch (record { test = None; content = row content }))
-piece_of (InTry halves) = try_of halves
-piece_of (InAttempt content) = Some (AnAttempt (row content))
-piece_of (InExcept content) = Some (AnExcept (row content))
+unfoldable pub child_of : Frame → Option Child
+child_of (InInclude src alt onward) = Some (AnElement (tree.Include src alt onward))
+child_of InComment = Some (AnElement tree.Nothing)
+child_of (InInline name content) = Some (AnElement (tree.Inline name (row content)))
+child_of (InVars content) = Some (AnElement (tree.Vars (row content)))
+child_of (InChoose branches) = choose_of branches
+child_of (InWhen test content) = Some (ABranch (record { test = Some test; content = row content }))
+child_of (InOtherwise content) = Some (ABranch (record { test = None; content = row content }))
+child_of (InTry halves) = try_of halves
+child_of (InAttempt content) = Some (AnAttempt (row content))
+child_of (InExcept content) = Some (AnExcept (row content))
 
 -- what has been read once this element, the innermost, has ended by a name
 abbrev pub ended_by : ElementName → Frame → State → Option State
 ended_by name frame outside =
-    if is_same name (name_of frame) then (piece_of frame >>= λ piece. Some (put piece outside)) else None
+    if is_same name (name_of frame) then (child_of frame >>= λ child. Some (put child outside)) else None
 
 abbrev pub left_in : ElementName → List Frame → List Element → Option State
 left_in name [] content = None

@@ -1,16 +1,17 @@
 //! The parts of a try: exactly one attempt and one except, in either order.
 ghost use Rattle.std.specs.Prelude.{◌≡◌, option_map};
 ghost use Rattle.esi_tree.specs.Shown.{elements_of};
-ghost use Rattle.esi_tree.specs.State.{halves_of, shown_piece};
+ghost use Rattle.esi_tree.specs.State.{halves_of, shown_child};
 ghost use Rattle.esi_tree.specs.Reading.{with_attempt, with_except, lacks_attempt, lacks_except, stands_in_try, try_of};
 
+use crate::child::Child;
 use crate::node::Node;
-use crate::piece::Piece;
 use esi_scanner::ElementName;
+use std::mem;
 
 // The parts that have been read.
 #[derive(Drop)]
-pub enum Halves {
+pub(crate) enum Halves {
     Neither,
     AttemptAlone(Vec<Node>),
     ExceptAlone(Vec<Node>),
@@ -23,8 +24,22 @@ pub enum Halves {
 }
 
 impl Halves {
-    // With the attempt. A second one is never read, and would change nothing.
-    pub fn with_attempt(self, attempt: Vec<Node>) -> Halves
+    // Puts the attempt in. A second one is never read, and would change nothing.
+    pub(crate) fn add_attempt(&mut self, attempt: Vec<Node>)
+        ensures { halves_of self.new ≡ with_attempt (elements_of attempt.items) (halves_of self.old) }
+    {
+        *self = mem::replace(self, Halves::Neither).with_attempt(attempt);
+    }
+
+    // Puts the except in. A second one is never read, and would change nothing.
+    pub(crate) fn add_except(&mut self, except: Vec<Node>)
+        ensures { halves_of self.new ≡ with_except (elements_of except.items) (halves_of self.old) }
+    {
+        *self = mem::replace(self, Halves::Neither).with_except(except);
+    }
+
+    // With the attempt.
+    fn with_attempt(self, attempt: Vec<Node>) -> Halves
         ensures { halves_of result ≡ with_attempt (elements_of attempt.items) (halves_of self) }
     {
         match self {
@@ -38,8 +53,8 @@ impl Halves {
         }
     }
 
-    // With the except. A second one is never read, and would change nothing.
-    pub fn with_except(self, except: Vec<Node>) -> Halves
+    // With the except.
+    fn with_except(self, except: Vec<Node>) -> Halves
         ensures { halves_of result ≡ with_except (elements_of except.items) (halves_of self) }
     {
         match self {
@@ -54,7 +69,7 @@ impl Halves {
     }
 
     // Whether an element of this name may come next.
-    pub fn admits(&self, name: ElementName) -> bool
+    pub(crate) fn admits(&self, name: ElementName) -> bool
         ensures { result ≡ stands_in_try name (halves_of self.now) }
     {
         match name {
@@ -77,15 +92,15 @@ impl Halves {
     }
 
     // The whole try, where both parts are there.
-    pub fn into_piece(self) -> Option<Piece>
-        ensures { option_map shown_piece result ≡ try_of (halves_of self) }
+    pub(crate) fn into_child(self) -> Option<Child>
+        ensures { option_map shown_child result ≡ try_of (halves_of self) }
     {
         match self {
             Halves::Both {
                 attempt,
                 except,
                 swapped,
-            } => Some(Piece::Element(Node::Try {
+            } => Some(Child::Element(Node::Try {
                 attempt,
                 except,
                 swapped,

@@ -5,6 +5,7 @@
 //! place of the fault, is computed from the tokens, one after another; the code is that reading.
 #![tactic(auto)]
 
+mod child;
 pub mod fault;
 mod halves;
 pub mod laws;
@@ -12,13 +13,15 @@ pub mod node;
 mod open_element;
 mod open_elements;
 pub mod parts;
-mod piece;
 pub mod reader;
 mod tag;
 #[cfg(test)]
 mod tests;
+pub mod tree;
 
 pub use fault::TreeFault;
-pub use node::{Branch, Node, Template};
+pub use node::{Branch, Node};
+pub use open_elements::OPEN_LIMIT;
 pub use parts::Parts;
 pub use reader::template;
+pub use tree::Template;

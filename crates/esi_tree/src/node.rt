@@ -51,50 +51,26 @@ pub enum Node {
 #[derive(Drop)]
 pub struct Branch {
     /// The test of a `when`.
-    pub test: Option<Expr>,
+    pub test: Option<Box<Expr>>,
     /// What is processed where the branch is taken.
     pub content: Vec<Node>,
 }
 
 impl Branch {
-    ghost use Rattle.esi_tree.specs.Shown.{arm_of};
+    ghost use Rattle.esi_tree.specs.Shown.{branch_of};
     ghost use Rattle.esi_tree.specs.Reading.{is_otherwise, is_when};
 
     // Whether it is the otherwise.
     pub(crate) fn is_otherwise(&self) -> bool
-        ensures { result ≡ is_otherwise (arm_of self.now) }
+        ensures { result ≡ is_otherwise (branch_of self.now) }
     {
         self.test.is_none()
     }
 
     // Whether it is a `when`.
     pub(crate) fn is_when(&self) -> bool
-        ensures { result ≡ is_when (arm_of self.now) }
+        ensures { result ≡ is_when (branch_of self.now) }
     {
         self.test.is_some()
-    }
-}
-
-/// The elements of a template.
-#[derive(Drop)]
-pub struct Template {
-    nodes: Vec<Node>,
-}
-
-impl Template {
-    ghost use Rattle.esi_tree.specs.Shown.{elements_of, tree_in};
-
-    /// The template of these elements. Takes no memory.
-    pub(crate) fn of(nodes: Vec<Node>) -> Template
-        ensures { tree_in result ≡ elements_of nodes.items }
-    {
-        Template { nodes }
-    }
-
-    /// Lends the elements. Takes no memory.
-    pub fn nodes(&self) -> &[Node]
-        ensures { elements_of result.now ≡ tree_in self.now }
-    {
-        self.nodes.as_slice()
     }
 }

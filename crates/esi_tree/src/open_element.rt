@@ -1,21 +1,21 @@
 //! An element whose end hasn't come: what its tag says, and what has been read inside.
-ghost use Rattle.std.specs.Prelude.{◌≡◌, ◌∷◌, [], ◌++◌, map, IfOk, option_map};
+ghost use Rattle.std.specs.Prelude.{◌≡◌, ◌∷◌, [], ◌++◌, map, OnOk, option_map};
 ghost use Rattle.std.specs.List.{list_any};
 ghost use Rattle.esi_tree.specs.Tree as tree;
-ghost use Rattle.esi_tree.specs.Shown.{element_of, arm_of, arms};
-ghost use Rattle.esi_tree.specs.State.{frame_of, shown_piece};
-ghost use Rattle.esi_tree.specs.Reading.{AnElement, with_element, with_branch, grown, holds_run, is_vars, is_when, is_otherwise, stands_in_run, stands_in_choose, stands_in, name_of, choose_of, piece_of};
+ghost use Rattle.esi_tree.specs.Shown.{element_of, elements_of, branch_of, branch_row};
+ghost use Rattle.esi_tree.specs.State.{frame_of, shown_child};
+ghost use Rattle.esi_tree.specs.Reading.{AnElement, with_element, with_branch, with_attempt, with_except, with_half, grown, holds_run, is_vars, is_when, is_otherwise, stands_in_run, stands_in_choose, stands_in, name_of, choose_of, child_of};
 
+use crate::child::Child;
 use crate::halves::Halves;
 use crate::node::{Branch, Node};
 use crate::parts::Parts;
-use crate::piece::Piece;
 use edge_types::{NoMemory, Octets};
 use esi_expr::Expr;
 use esi_scanner::ElementName;
 
 #[derive(Drop)]
-pub enum OpenElement {
+pub(crate) enum OpenElement {
     Include {
         src: Parts,
         alt: Option<Parts>,
@@ -29,7 +29,7 @@ pub enum OpenElement {
     Vars(Vec<Node>),
     Choose(Vec<Branch>),
     When {
-        test: Expr,
+        test: Box<Expr>,
         content: Vec<Node>,
     },
     Otherwise(Vec<Node>),
@@ -38,16 +38,16 @@ pub enum OpenElement {
     Except(Vec<Node>),
 }
 
-// A run with one node more.
-fn followed_by(mut content: Vec<Node>, node: Node) -> Result<Vec<Node>, NoMemory>
-    ensures { IfOk result (λ longer. map element_of longer.items ≡ map element_of content.items ++ element_of node ∷ []) }
+// Puts one node more at the end of a run.
+pub(crate) fn push_node(run: &mut Vec<Node>, node: Node) -> Result<(), NoMemory>
+    ensures { OnOk result (map element_of run.new.items ≡ map element_of run.old.items ++ element_of node ∷ []) }
 {
-    content.push(node)?;
-    Ok(content)
+    run.push(node)?;
+    Ok(())
 }
 
 // Whether an element of this name may stand in a run.
-pub fn stands_in_run(name: ElementName) -> bool
+pub(crate) fn stands_in_run(name: ElementName) -> bool
     ensures { result ≡ stands_in_run name }
 {
     matches!(
@@ -63,14 +63,14 @@ pub fn stands_in_run(name: ElementName) -> bool
 
 // Whether one of the branches is the otherwise.
 fn has_otherwise(branches: &[Branch]) -> bool
-    ensures { result ≡ list_any (λ branch. is_otherwise (arm_of branch)) branches.now }
+    ensures { result ≡ list_any (λ branch. is_otherwise (branch_of branch)) branches.now }
 {
     branches.iter().any(|branch| branch.is_otherwise())
 }
 
 // Whether one of them is a `when`.
 fn has_when(branches: &[Branch]) -> bool
-    ensures { result ≡ list_any (λ branch. is_when (arm_of branch)) branches.now }
+    ensures { result ≡ list_any (λ branch. is_when (branch_of branch)) branches.now }
 {
     branches.iter().any(|branch| branch.is_when())
 }
@@ -78,7 +78,7 @@ fn has_when(branches: &[Branch]) -> bool
 // Whether an element of this name may stand in a choose of these branches.
 #[tactic(auto, using(crate::proofs::AnyLemmas::any_map))]
 fn stands_in_choose(name: ElementName, branches: &[Branch]) -> bool
-    ensures { result ≡ stands_in_choose name (map arm_of branches.now) }
+    ensures { result ≡ stands_in_choose name (map branch_of branches.now) }
 {
     match name {
         ElementName::When => true,
@@ -88,16 +88,16 @@ fn stands_in_choose(name: ElementName, branches: &[Branch]) -> bool
 }
 
 // A choose of these branches.
-fn choose(branches: Vec<Branch>) -> Piece
-    ensures { shown_piece result ≡ AnElement (tree.Choose (arms (map arm_of branches.items))) }
+fn choose(branches: Vec<Branch>) -> Child
+    ensures { shown_child result ≡ AnElement (tree.Choose (branch_row (map branch_of branches.items))) }
 {
-    Piece::Element(Node::Choose(branches))
+    Child::Element(Node::Choose(branches))
 }
 
 // The choose, where one of its branches is a `when`.
 #[tactic(auto, using(crate::proofs::AnyLemmas::any_map))]
-fn choose_of(branches: Vec<Branch>) -> Option<Piece>
-    ensures { option_map shown_piece result ≡ choose_of (map arm_of branches.items) }
+fn choose_of(branches: Vec<Branch>) -> Option<Child>
+    ensures { option_map shown_child result ≡ choose_of (map branch_of branches.items) }
 {
     if has_when(branches.as_slice()) {
         Some(choose(branches))
@@ -108,7 +108,7 @@ fn choose_of(branches: Vec<Branch>) -> Option<Piece>
 
 impl OpenElement {
     // The name in its tags.
-    pub fn name(&self) -> ElementName
+    pub(crate) fn name(&self) -> ElementName
         ensures { result ≡ name_of (frame_of self.now) }
     {
         match self {
@@ -126,7 +126,7 @@ impl OpenElement {
     }
 
     // Whether any element may stand in it.
-    pub fn holds_run(&self) -> bool
+    pub(crate) fn holds_run(&self) -> bool
         ensures { result ≡ holds_run (frame_of self.now) }
     {
         !matches!(
@@ -139,14 +139,14 @@ impl OpenElement {
     }
 
     // Whether references are replaced in the text inside.
-    pub fn is_vars(&self) -> bool
+    pub(crate) fn is_vars(&self) -> bool
         ensures { result ≡ is_vars (frame_of self.now) }
     {
         matches!(self, OpenElement::Vars(_))
     }
 
     // Whether an element of this name may stand in it next.
-    pub fn admits(&self, name: ElementName) -> bool
+    pub(crate) fn admits(&self, name: ElementName) -> bool
         ensures { result ≡ stands_in name (frame_of self.now) }
     {
         match self {
@@ -157,96 +157,101 @@ impl OpenElement {
         }
     }
 
-    // With one node more in its run.
-    fn with_element(self, node: Node) -> Result<OpenElement, NoMemory>
-        ensures { IfOk result (λ longer. frame_of longer ≡ with_element (element_of node) (frame_of self)) }
+    // Puts one node more in its run.
+    fn add_node(&mut self, node: Node) -> Result<(), NoMemory>
+        ensures { OnOk result (frame_of self.new ≡ with_element (element_of node) (frame_of self.old)) }
     {
         match self {
-            OpenElement::Inline { name, content } => {
-                let content = followed_by(content, node)?;
-                Ok(OpenElement::Inline { name, content })
-            }
-            OpenElement::Vars(content) => Ok(OpenElement::Vars(followed_by(content, node)?)),
-            OpenElement::When { test, content } => {
-                let content = followed_by(content, node)?;
-                Ok(OpenElement::When { test, content })
-            }
-            OpenElement::Otherwise(content) => {
-                Ok(OpenElement::Otherwise(followed_by(content, node)?))
-            }
-            OpenElement::Attempt(content) => Ok(OpenElement::Attempt(followed_by(content, node)?)),
-            OpenElement::Except(content) => Ok(OpenElement::Except(followed_by(content, node)?)),
+            OpenElement::Inline { content, .. } => push_node(content, node),
+            OpenElement::Vars(content) => push_node(content, node),
+            OpenElement::When { content, .. } => push_node(content, node),
+            OpenElement::Otherwise(content) => push_node(content, node),
+            OpenElement::Attempt(content) => push_node(content, node),
+            OpenElement::Except(content) => push_node(content, node),
+            // Never comes: no node stands in these.
             OpenElement::Include { .. }
             | OpenElement::Comment
             | OpenElement::Choose(_)
-            | OpenElement::Try(_) => Ok(self),
+            | OpenElement::Try(_) => Ok(()),
         }
     }
 
-    // With one branch more.
-    fn with_branch(self, branch: Branch) -> Result<OpenElement, NoMemory>
-        ensures { IfOk result (λ longer. frame_of longer ≡ with_branch (arm_of branch) (frame_of self)) }
+    // Puts one branch more in a choose.
+    fn add_branch(&mut self, branch: Branch) -> Result<(), NoMemory>
+        ensures { OnOk result (frame_of self.new ≡ with_branch (branch_of branch) (frame_of self.old)) }
     {
-        match self {
-            OpenElement::Choose(mut branches) => {
-                branches.push(branch)?;
-                Ok(OpenElement::Choose(branches))
-            }
-            // Never comes: a branch is opened only where its choose is.
-            other => Ok(other),
+        // Always so: a branch is opened only where its choose is.
+        if let OpenElement::Choose(branches) = self {
+            branches.push(branch)?;
+        }
+        Ok(())
+    }
+
+    // Puts the attempt in a try.
+    fn add_attempt(&mut self, content: Vec<Node>)
+        ensures { frame_of self.new ≡ with_half (with_attempt (elements_of content.items)) (frame_of self.old) }
+    {
+        // Always so: an attempt is opened only where its try is.
+        if let OpenElement::Try(halves) = self {
+            halves.add_attempt(content);
         }
     }
 
-    // With what an element inside gave.
-    pub fn with(self, piece: Piece) -> Result<OpenElement, NoMemory>
-        ensures { IfOk result (λ longer. frame_of longer ≡ grown (shown_piece piece) (frame_of self)) }
+    // Puts the except in a try.
+    fn add_except(&mut self, content: Vec<Node>)
+        ensures { frame_of self.new ≡ with_half (with_except (elements_of content.items)) (frame_of self.old) }
     {
-        match (piece, self) {
-            (Piece::Element(node), open) => open.with_element(node),
-            (Piece::Arm(branch), open) => open.with_branch(branch),
-            (Piece::Attempt(content), OpenElement::Try(halves)) => {
-                Ok(OpenElement::Try(halves.with_attempt(content)))
-            }
-            (Piece::Except(content), OpenElement::Try(halves)) => {
-                Ok(OpenElement::Try(halves.with_except(content)))
-            }
-            // Never comes: a part is opened only where its try is.
-            (_, open) => Ok(open),
+        // Always so: an except is opened only where its try is.
+        if let OpenElement::Try(halves) = self {
+            halves.add_except(content);
         }
+    }
+
+    // Puts in it what an element inside gave.
+    pub(crate) fn add(&mut self, child: Child) -> Result<(), NoMemory>
+        ensures { OnOk result (frame_of self.new ≡ grown (shown_child child) (frame_of self.old)) }
+    {
+        match child {
+            Child::Element(node) => self.add_node(node)?,
+            Child::Branch(branch) => self.add_branch(branch)?,
+            Child::Attempt(content) => self.add_attempt(content),
+            Child::Except(content) => self.add_except(content),
+        }
+        Ok(())
     }
 
     // What it gives at its end, where it may end.
-    #[tactic(auto, unfolding(crate::specs::Reading::piece_of))]
-    pub fn into_piece(self) -> Option<Piece>
-        ensures { option_map shown_piece result ≡ piece_of (frame_of self) }
+    #[tactic(auto, unfolding(crate::specs::Reading::child_of))]
+    pub(crate) fn into_child(self) -> Option<Child>
+        ensures { option_map shown_child result ≡ child_of (frame_of self) }
     {
         match self {
             OpenElement::Include {
                 src,
                 alt,
                 continues,
-            } => Some(Piece::Element(Node::Include {
+            } => Some(Child::Element(Node::Include {
                 src,
                 alt,
                 continues,
             })),
-            OpenElement::Comment => Some(Piece::Element(Node::Nothing)),
+            OpenElement::Comment => Some(Child::Element(Node::Nothing)),
             OpenElement::Inline { name, content } => {
-                Some(Piece::Element(Node::Inline { name, content }))
+                Some(Child::Element(Node::Inline { name, content }))
             }
-            OpenElement::Vars(content) => Some(Piece::Element(Node::Vars(content))),
+            OpenElement::Vars(content) => Some(Child::Element(Node::Vars(content))),
             OpenElement::Choose(branches) => choose_of(branches),
-            OpenElement::When { test, content } => Some(Piece::Arm(Branch {
+            OpenElement::When { test, content } => Some(Child::Branch(Branch {
                 test: Some(test),
                 content,
             })),
-            OpenElement::Otherwise(content) => Some(Piece::Arm(Branch {
+            OpenElement::Otherwise(content) => Some(Child::Branch(Branch {
                 test: None,
                 content,
             })),
-            OpenElement::Try(halves) => halves.into_piece(),
-            OpenElement::Attempt(content) => Some(Piece::Attempt(content)),
-            OpenElement::Except(content) => Some(Piece::Except(content)),
+            OpenElement::Try(halves) => halves.into_child(),
+            OpenElement::Attempt(content) => Some(Child::Attempt(content)),
+            OpenElement::Except(content) => Some(Child::Except(content)),
         }
     }
 }

@@ -4,8 +4,9 @@ ghost use Rattle.std.specs.Prelude.{◌≡◌, [], ◌∷◌, length, OnOk, IfNo
 ghost use Rattle.std.specs.Option.{option_copied};
 ghost use Rattle.std.specs.List.{list_any};
 ghost use Rattle.esi_tree.specs.Reading.{is_run, is_vars, in_vars, may_stand};
-ghost use Rattle.esi_tree.specs.State.{frame_of, frames_of};
+ghost use Rattle.esi_tree.specs.State.{frame_of, frames_of, shown_child, grown_innermost, is_none_open};
 
+use crate::child::Child;
 use crate::open_element::{OpenElement, stands_in_run};
 use edge_types::NoMemory;
 use esi_scanner::ElementName;
@@ -18,13 +19,13 @@ pub const OPEN_LIMIT: usize = 32;
 
 // The innermost is the last.
 #[derive(Drop)]
-pub struct OpenElements {
+pub(crate) struct OpenElements {
     elements: Vec<OpenElement>,
 }
 
 impl OpenElements {
     #[tactic(auto, unfolding(crate::specs::State::frames_of))]
-    pub fn new(alloc: Global) -> OpenElements
+    pub(crate) fn new(alloc: Global) -> OpenElements
         ensures { frames_of result ≡ [] }
     {
         OpenElements {
@@ -32,22 +33,29 @@ impl OpenElements {
         }
     }
 
+    // Whether none is open.
+    pub(crate) fn is_empty(&self) -> bool
+        ensures { result ≡ is_none_open (frames_of self.now) }
+    {
+        self.len() == 0
+    }
+
     // How many are open.
-    pub fn len(&self) -> usize
+    pub(crate) fn len(&self) -> usize
         ensures { result ≡ length (frames_of self.now) }
     {
         self.elements.len()
     }
 
     // The innermost.
-    pub fn innermost(&self) -> Option<&OpenElement>
+    pub(crate) fn innermost(&self) -> Option<&OpenElement>
         ensures { option_map frame_of (option_copied result) ≡ slice_get (frames_of self.now) 0 }
     {
         self.elements.last()
     }
 
     // Whether any element may stand here.
-    pub fn is_run(&self) -> bool
+    pub(crate) fn is_run(&self) -> bool
         ensures { result ≡ is_run (frames_of self.now) }
     {
         match self.innermost() {
@@ -57,7 +65,7 @@ impl OpenElements {
     }
 
     // Whether an element of this name may stand here next.
-    pub fn admits(&self, name: ElementName) -> bool
+    pub(crate) fn admits(&self, name: ElementName) -> bool
         ensures { result ≡ may_stand name (frames_of self.now) }
     {
         match self.innermost() {
@@ -67,14 +75,24 @@ impl OpenElements {
     }
 
     // Whether a `vars` is open, at whatever depth.
-    pub fn in_vars(&self) -> bool
+    pub(crate) fn in_vars(&self) -> bool
         ensures { result ≡ in_vars (frames_of self.now) }
     {
         has_vars(self.elements.as_slice())
     }
 
+    // Puts in the innermost what an element inside gave.
+    pub(crate) fn add(&mut self, child: Child) -> Result<(), NoMemory>
+        ensures { OnOk result (frames_of self.new ≡ grown_innermost (shown_child child) (frames_of self.old)) }
+    {
+        if let Some(innermost) = self.elements.last_mut() {
+            innermost.add(child)?;
+        }
+        Ok(())
+    }
+
     // Opens one more, inside the others.
-    pub fn push(&mut self, element: OpenElement) -> Result<(), NoMemory>
+    pub(crate) fn push(&mut self, element: OpenElement) -> Result<(), NoMemory>
         ensures { OnOk result (frames_of self.new ≡ frame_of element ∷ frames_of self.old) }
     {
         self.elements.push(element)?;
@@ -82,7 +100,7 @@ impl OpenElements {
     }
 
     // Ends the innermost.
-    pub fn pop(&mut self) -> Option<OpenElement>
+    pub(crate) fn pop(&mut self) -> Option<OpenElement>
         ensures none { IfNone result ((frames_of self.old ≡ []) × (frames_of self.new ≡ [])) }
         ensures some { IfSome result (λ element. frames_of self.old ≡ frame_of element ∷ frames_of self.new) }
     {

@@ -1,17 +1,19 @@
 //! Reads the tree of a text from its tokens, one after another.
-ghost use Rattle.std.specs.Prelude.{◌≡◌, ◌+◌, ◌≤◌, map, IfOk, option_map};
+ghost use Rattle.std.specs.Prelude.{◌≡◌, ◌+◌, ◌≤◌, map, IfOk, OnOk};
 ghost use Rattle.esi_tree.specs.Tree.{depth};
-ghost use Rattle.esi_tree.specs.Shown.{element_of, tree_in, Gives};
-ghost use Rattle.esi_tree.specs.Reading.{start, grown_page, put, after_text, after_remove, inside, entered, left, after_tag, after, ended, tree_of_tokens, tree_of};
+ghost use Rattle.esi_tree.specs.Shown.{element_of};
+ghost use Rattle.esi_tree.specs.Answer.{tree_in, Gives};
+ghost use Rattle.esi_tree.specs.Reading.{start, grown_page, put, after_text, after_remove, entered, left, after_tag, after, ended, tree_of_tokens, tree_of};
 ghost use Rattle.esi_tree.specs.Items.{item_of};
-ghost use Rattle.esi_tree.specs.State.{frame_of, shown_piece, state_of};
+ghost use Rattle.esi_tree.specs.State.{shown_child, state_of, some_if, EndsShallow};
 
+use crate::child::Child;
 use crate::fault::TreeFault;
-use crate::node::{Node, Template};
-use crate::open_element::OpenElement;
+use crate::node::Node;
+use crate::open_element::push_node;
 use crate::open_elements::{OPEN_LIMIT, OpenElements};
-use crate::piece::Piece;
 use crate::tag::{bytes_at, is_white, opened_by, text_node};
+use crate::tree::Template;
 use edge_types::NoMemory;
 use esi_scanner::{ElementName, Kind, Tag, Token, scan};
 use std::alloc::Global;
@@ -33,113 +35,111 @@ impl Reader {
         }
     }
 
-    // With one piece more, at the innermost place.
-    fn with(mut self, piece: Piece) -> Result<Reader, NoMemory>
-        ensures { IfOk result (λ next. state_of next ≡ put (shown_piece piece) (state_of self)) }
+    // Puts one child more at the innermost place.
+    fn add(&mut self, child: Child) -> Result<(), NoMemory>
+        ensures { OnOk result (state_of self.new ≡ put (shown_child child) (state_of self.old)) }
     {
-        match self.open.pop() {
-            Some(innermost) => self.open.push(innermost.with(piece)?)?,
-            None => self.content = grown_page(self.content, piece)?,
+        if self.open.is_empty() {
+            add_to_page(&mut self.content, child)
+        } else {
+            self.open.add(child)
         }
-        Ok(self)
     }
 
-    // Inside one more open element.
-    fn inside(mut self, element: OpenElement) -> Result<Reader, NoMemory>
-        ensures { IfOk result (λ next. state_of next ≡ inside (frame_of element) (state_of self)) }
-    {
-        self.open.push(element)?;
-        Ok(self)
-    }
-
-    // After a run of text. Where no run stands, white space alone may stand, and gives nothing.
+    // Reads a run of text. Where no run stands, white space alone may stand, and gives nothing.
     #[tactic(auto, unfolding(crate::specs::Reading::after_text))]
-    fn after_text(self, alloc: Global, bytes: &[u8]) -> Result<Option<Reader>, NoMemory>
-        ensures { IfOk result (λ next. option_map state_of next ≡ after_text bytes.now (state_of self)) }
+    fn after_text(&mut self, alloc: Global, bytes: &[u8]) -> Result<bool, NoMemory>
+        ensures { IfOk result (λ goes_on. some_if goes_on (state_of self.new) ≡ after_text bytes.now (state_of self.old)) }
     {
         if self.open.is_run() {
             let node = text_node(alloc, self.open.in_vars(), bytes)?;
-            Ok(Some(self.with(Piece::Element(node))?))
-        } else if is_white(bytes) {
-            Ok(Some(self))
+            self.add(Child::Element(node))?;
+            Ok(true)
         } else {
-            Ok(None)
+            Ok(is_white(bytes))
         }
     }
 
-    // After a remove.
+    // Reads a remove.
     #[tactic(auto, unfolding(crate::specs::Reading::after_remove))]
-    fn after_remove(self) -> Result<Option<Reader>, NoMemory>
-        ensures { IfOk result (λ next. option_map state_of next ≡ after_remove (state_of self)) }
+    fn after_remove(&mut self) -> Result<bool, NoMemory>
+        ensures { IfOk result (λ goes_on. some_if goes_on (state_of self.new) ≡ after_remove (state_of self.old)) }
     {
-        if self.open.is_run() {
-            Ok(Some(self.with(Piece::Element(Node::Nothing))?))
-        } else {
-            Ok(None)
+        if !self.open.is_run() {
+            return Ok(false);
         }
+        self.add(Child::Element(Node::Nothing))?;
+        Ok(true)
     }
 
-    // Once a tag has opened its element.
+    // Opens a tag's element.
     #[tactic(auto, unfolding(crate::specs::Reading::entered))]
-    fn entered(self, alloc: Global, tag: &Tag) -> Result<Option<Reader>, NoMemory>
-        ensures { IfOk result (λ next. option_map state_of next ≡ entered tag.now.name tag.now.attributes (state_of self)) }
+    fn enter(&mut self, alloc: Global, tag: &Tag) -> Result<bool, NoMemory>
+        ensures { IfOk result (λ goes_on. some_if goes_on (state_of self.new) ≡ entered tag.now.name tag.now.attributes (state_of self.old)) }
     {
         if !self.open.admits(tag.name) {
-            return Ok(None);
+            return Ok(false);
         }
-        match opened_by(alloc, tag)? {
-            Some(element) => Ok(Some(self.inside(element)?)),
-            None => Ok(None),
-        }
+        let Some(element) = opened_by(alloc, tag)? else {
+            return Ok(false);
+        };
+        self.open.push(element)?;
+        Ok(true)
     }
 
-    // Once the innermost element has ended by this name.
+    // Ends the innermost element, by this name.
     #[tactic(auto, unfolding(crate::specs::Reading::left))]
-    fn left(mut self, name: ElementName) -> Result<Option<Reader>, NoMemory>
-        ensures { IfOk result (λ next. option_map state_of next ≡ left name (state_of self)) }
+    fn leave(&mut self, name: ElementName) -> Result<bool, NoMemory>
+        ensures { IfOk result (λ goes_on. some_if goes_on (state_of self.new) ≡ left name (state_of self.old)) }
     {
         let Some(element) = self.open.pop() else {
-            return Ok(None);
+            return Ok(false);
         };
         if name != element.name() {
-            return Ok(None);
+            return Ok(false);
         }
-        match element.into_piece() {
-            Some(piece) => Ok(Some(self.with(piece)?)),
-            None => Ok(None),
-        }
+        let Some(child) = element.into_child() else {
+            return Ok(false);
+        };
+        self.add(child)?;
+        Ok(true)
     }
 
-    // After an opening tag; a closed one stands for its end too.
+    // Reads an opening tag; a closed one stands for its end too.
     #[tactic(auto, unfolding(crate::specs::Reading::after_tag))]
-    fn after_tag(self, alloc: Global, tag: &Tag) -> Result<Option<Reader>, NoMemory>
-        ensures { IfOk result (λ next. option_map state_of next ≡ after_tag tag.now (state_of self)) }
+    fn after_tag(&mut self, alloc: Global, tag: &Tag) -> Result<bool, NoMemory>
+        ensures { IfOk result (λ goes_on. some_if goes_on (state_of self.new) ≡ after_tag tag.now (state_of self.old)) }
     {
         if self.open.len() >= OPEN_LIMIT {
-            return Ok(None);
+            return Ok(false);
         }
-        match self.entered(alloc, tag)? {
-            Some(within) if tag.closed => within.left(tag.name),
-            other => Ok(other),
+        if !self.enter(alloc, tag)? {
+            return Ok(false);
+        }
+        if tag.closed {
+            self.leave(tag.name)
+        } else {
+            Ok(true)
         }
     }
 
-    // After one more token; `None` where no template goes on with it.
+    // Reads one more token, and says whether a template goes on with it.
     #[tactic(auto, unfolding(crate::specs::Reading::after))]
-    fn after(self, alloc: Global, text: &[u8], token: &Token) -> Result<Option<Reader>, NoMemory>
-        ensures { IfOk result (λ next. option_map state_of next ≡ after (item_of text.now token.now) (state_of self)) }
+    fn after(&mut self, alloc: Global, text: &[u8], token: &Token) -> Result<bool, NoMemory>
+        ensures { IfOk result (λ goes_on. some_if goes_on (state_of self.new) ≡ after (item_of text.now token.now) (state_of self.old)) }
     {
         match &token.kind {
             Kind::Text => self.after_text(alloc, bytes_at(text, token.span)),
             Kind::Open(tag) => self.after_tag(alloc, tag),
-            Kind::Close(name) => self.left(*name),
+            Kind::Close(name) => self.leave(*name),
             Kind::Remove => self.after_remove(),
-            Kind::BlockStart | Kind::BlockEnd => Ok(Some(self)),
+            Kind::BlockStart | Kind::BlockEnd => Ok(true),
         }
     }
 
     // The template at the text's end, which is no place for an open element.
     fn ended(self, end: usize) -> Result<Template, TreeFault>
+        requires { EndsShallow (state_of self) }
         ensures { Gives result (ended (state_of self).frames (state_of self).content end) }
     {
         match self.open.innermost() {
@@ -149,14 +149,14 @@ impl Reader {
     }
 }
 
-// What stands in no element, with one piece more; only an element can come there.
-fn grown_page(mut content: Vec<Node>, piece: Piece) -> Result<Vec<Node>, NoMemory>
-    ensures { IfOk result (λ longer. map element_of longer.items ≡ grown_page (shown_piece piece) (map element_of content.items)) }
+// Puts one child more where no element is open; only a node can come there.
+fn add_to_page(content: &mut Vec<Node>, child: Child) -> Result<(), NoMemory>
+    ensures { OnOk result (map element_of content.new.items ≡ grown_page (shown_child child) (map element_of content.old.items)) }
 {
-    if let Piece::Element(node) = piece {
-        content.push(node)?;
+    if let Child::Element(node) = child {
+        push_node(content, node)?;
     }
-    Ok(content)
+    Ok(())
 }
 
 // The template of a text's tokens.
@@ -165,9 +165,8 @@ fn template_of(alloc: Global, text: &[u8], tokens: &[Token]) -> Result<Template,
 {
     let mut reader = Reader::new(alloc);
     for token in tokens {
-        match reader.after(alloc, text, token)? {
-            Some(next) => reader = next,
-            None => return Err(TreeFault::Bad(token.span.start)),
+        if !reader.after(alloc, text, token)? {
+            return Err(TreeFault::Bad(token.span.start));
         }
     }
     reader.ended(text.len())

@@ -11,16 +11,16 @@ use crate::halves::Halves;
 use crate::node::Node;
 use crate::open_element::OpenElement;
 use crate::parts::Parts;
-use edge_types::{NoMemory, Octets};
+use edge_types::{NoMemory, Octets, is_ws};
 use esi_expr::{Expr, parse};
-use esi_scanner::{Attributes, ElementName, KnownAttribute, Span, Tag, is_ws};
+use esi_scanner::{Attributes, ElementName, KnownAttribute, Span, Tag};
 use std::alloc::Global;
 
 // The one value of `onerror` that says anything.
 const CONTINUE: &[u8] = b"continue";
 
 // The bytes that stand there in a text.
-pub fn bytes_at(text: &[u8], span: Span) -> &[u8]
+pub(crate) fn bytes_at(text: &[u8], span: Span) -> &[u8]
     ensures { result.now ≡ bytes_at text.now span }
 {
     let rest = text.get(span.start..).unwrap_or(&[]);
@@ -29,14 +29,14 @@ pub fn bytes_at(text: &[u8], span: Span) -> &[u8]
 }
 
 // Whether the bytes are white space alone.
-pub fn is_white(bytes: &[u8]) -> bool
+pub(crate) fn is_white(bytes: &[u8]) -> bool
     ensures { result ≡ is_white bytes.now }
 {
     bytes.iter().all(|byte| is_ws(*byte))
 }
 
 // A run of text: inside a `vars` in parts, else as it stands.
-pub fn text_node(alloc: Global, in_vars: bool, bytes: &[u8]) -> Result<Node, NoMemory>
+pub(crate) fn text_node(alloc: Global, in_vars: bool, bytes: &[u8]) -> Result<Node, NoMemory>
     ensures { IfOk result (λ node. element_of node ≡ text_element in_vars bytes.now) }
 {
     if in_vars {
@@ -103,14 +103,14 @@ fn when_of(alloc: Global, attributes: &Attributes) -> Result<Option<OpenElement>
         return Ok(None);
     };
     Ok(Some(OpenElement::When {
-        test,
+        test: Box::new(alloc, test)?,
         content: Vec::new(alloc),
     }))
 }
 
 // The element that a tag opens; `None` where the tag lacks what it needs.
 #[tactic(auto, unfolding(crate::specs::Reading::opened_by))]
-pub fn opened_by(alloc: Global, tag: &Tag) -> Result<Option<OpenElement>, NoMemory>
+pub(crate) fn opened_by(alloc: Global, tag: &Tag) -> Result<Option<OpenElement>, NoMemory>
     ensures { IfOk result (λ found. option_map frame_of found ≡ opened_by tag.now.name tag.now.attributes) }
 {
     Ok(match tag.name {

@@ -10,7 +10,7 @@ use Rattle.esi_vars.specs.Reference.{is_name_byte, is_key_byte, is_default_byte,
 use Rattle.esi_vars.specs.Reading.{run_at, cut_at, quoted_key_at, key_text_at, braced_key_at, key_at, default_text_at, barred_default_at, default_at, body_at, reference_at}
 
 -- a run of bytes that pass, and then one that doesn't, is the longest run
-prefix_len-run : (p : ℕ → Bool) (xs ys : List ℕ) → AllPass p xs → prefix_len p ys ≡ 0 → prefix_len p (xs ++ ys) ≡ length xs
+pub prefix_len-run : (p : ℕ → Bool) (xs ys : List ℕ) → AllPass p xs → prefix_len p ys ≡ 0 → prefix_len p (xs ++ ys) ≡ length xs
 prefix_len-run p xs ys all none =
     let whole : prefix_len p xs ≡ length xs = prefix_len_is p xs (length xs) 0 (omega arith) (λ k h. all k 0 h) (λ h. absurd (omega arith)) in
     let same = eq-eqb (prefix_len p xs) (length xs) whole in
@@ -23,7 +23,7 @@ run_again p x rest run none =
     let some : (length x == 0) ≡ false = ne_eqb (length x) 0 (λ e. omega (arith, run.0)) in
     rw (len, some, take_at x rest (length x) refl, drop_at x rest (length x) refl) refl
 
-cut_again : (bytes rest : List ℕ) → AllPass is_quoted_byte bytes → cut_at 39 (bytes ++ (39 ∷ rest)) ≡ Some (bytes, rest)
+pub cut_again : (bytes rest : List ℕ) → AllPass is_quoted_byte bytes → cut_at 39 (bytes ++ (39 ∷ rest)) ≡ Some (bytes, rest)
 unfolding cut_at
 cut_again bytes rest all =
     let len : position_or_len (λ (b : ℕ). b == 39) (bytes ++ (39 ∷ rest)) ≡ length bytes = prefix_len-run is_quoted_byte bytes (39 ∷ rest) all refl in

@@ -5,4 +5,6 @@ pub mod Sound
 pub mod Complete
 pub mod PartsLemmas
 pub mod Theorems
+pub mod FieldTheorems
+pub mod AgentTheorems
 pub mod ValuesLemmas

@@ -1,4 +1,5 @@
--- What the user agent's field says of browser, version and system.
+-- What the user agent's field says of browser, version and system. The names are those of the ESI Language
+-- Specification 1.0, "Variables"; how they are found is our profile.
 use Rattle.std.specs.Prelude.{ℕ, Bool, ◌||◌, nat_eq, List, [], ◌∷◌, length, drop, codes, bytes_eq, Option, Some, None, is_some, if◌then◌else◌}
 use Rattle.std.specs.List.{starts_with, take_while}
 use Rattle.esi_vars.specs.declared.agent.Browser.{Browser}

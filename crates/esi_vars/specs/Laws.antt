@@ -1,5 +1,6 @@
 -- Laws of reading and of values, over the definitions alone.
-use Rattle.std.specs.Prelude.{◌≡◌, ◌↔◌, ℕ, List, ◌++◌, Some}
+use Rattle.std.specs.Prelude.{◌≡◌, ◌↔◌, ℕ, ◌<◌, List, ◌++◌, length, Some, None}
+use Rattle.std.specs.Str.Iter.{HasSubslice}
 use Rattle.edge_types.specs.declared.request.Request.{Request}
 use Rattle.esi_vars.specs.declared.reference.Reference.{Reference}
 use Rattle.esi_vars.specs.declared.part.Part.{Part}
@@ -8,6 +9,9 @@ use Rattle.esi_vars.specs.Reading.{reference_at}
 use Rattle.esi_vars.specs.Spelling.{Spells}
 use Rattle.esi_vars.specs.Parts.{parts_of}
 use Rattle.esi_vars.specs.Values.{substituted, text_of}
+use Rattle.esi_vars.specs.Field.{parts_between, trimmed, halves, named}
+use Rattle.esi_vars.specs.Agent.{behind}
+use Rattle.esi_vars.specs.Finds.{AreParts, IsTrimmed, AreHalves, IsNamed, IsBehind}
 
 -- what is read at the front of a text is what is spelled there
 abbrev pub ReadsReferences : Type 0
@@ -24,3 +28,27 @@ PartsAreOne = (parts : List Part) (text : List ℕ) → Spells parts text → pa
 -- substituting the parts gives the text with its references replaced
 abbrev pub SubstitutesText : Type 0
 SubstitutesText = (request : Request) (text : List ℕ) → substituted request (parts_of text) ≡ text_of request text
+
+-- the parts between such bytes are those that the bytes separate
+abbrev pub CutsFields : Type 0
+CutsFields = (c : ℕ) (field : List ℕ) (parts : List (List ℕ)) → (parts_between c field ≡ parts) ↔ AreParts c field parts
+
+-- a trimmed text is what stands between the blanks at its ends
+abbrev pub TrimsTexts : Type 0
+TrimsTexts = (text middle : List ℕ) → (trimmed text ≡ middle) ↔ IsTrimmed text middle
+
+-- the halves of a text are those at the first such byte
+abbrev pub CutsOnce : Type 0
+CutsOnce = (c : ℕ) (text : List ℕ) (both : List ℕ × List ℕ) → (halves c text ≡ both) ↔ AreHalves c text both
+
+-- the value that is looked up is that of the first part of the name
+abbrev pub LooksUp : Type 0
+LooksUp = (name value : List ℕ) (parts : List (List ℕ)) → (named name parts ≡ value) ↔ IsNamed name parts value
+
+-- what is found behind a word follows the first place at which it begins
+abbrev pub FindsTheFirst : Type 0
+FindsTheFirst = (word text rest : List ℕ) → 0 < length word → (behind word text ≡ Some rest) ↔ IsBehind word text rest
+
+-- and nothing is found exactly where it stands nowhere
+abbrev pub FindsNone : Type 0
+FindsNone = (word text : List ℕ) → 0 < length word → (behind word text ≡ None) ↔ (¬ HasSubslice text word)

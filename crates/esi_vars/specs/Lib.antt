@@ -4,6 +4,7 @@ pub mod Shown
 pub mod Parts
 pub mod Field
 pub mod Agent
+pub mod Finds
 pub mod Values
 pub mod Spelling
 pub mod Laws

@@ -1,4 +1,4 @@
--- A text read from the left: references, and text between them.
+-- The reference at the front of a text, read part by part from the left.
 use Rattle.std.specs.Prelude.{ℕ, ◌+◌, Bool, ◌==◌, List, [], ◌∷◌, take, drop, Option, Some, None, option_and_then, option_map, if◌then◌else◌}
 use Rattle.std.specs.List.{prefix_len, position}
 use Rattle.esi_vars.specs.declared.reference.Reference.{Reference}

@@ -1,16 +1,14 @@
--- References, and how they are spelled.
+-- References, and how they are spelled (ESI Language Specification 1.0, "Variables"; names, keys and defaults byte by
+-- byte are our profile).
 use Rattle.std.specs.Prelude.{◌≡◌, ◌⊎◌, ℕ, ◌<◌, Bool, not, ◌||◌, ◌==◌, List, [], ◌++◌, length, codes, bytes_eq, Option, Some, None, if◌then◌else◌}
 use Rattle.std.specs.List.{AllPass}
 use Rattle.std.specs.Char.{is_ascii_alphanumeric, is_ascii_digit, char_set_contains}
+use Rattle.edge_types.specs.WhiteSpace.{is_ws}
 use Rattle.esi_vars.specs.declared.reference.Variable.{Variable}
 use Rattle.esi_vars.specs.declared.reference.Variable.TheVariants.{HttpAcceptLanguage, HttpCookie, HttpHost, HttpReferer, HttpUserAgent, QueryString, Unknown}
 use Rattle.esi_vars.specs.declared.reference.Reference.{Reference}
 use Rattle.esi_vars.specs.declared.bytes.ByteClass.{ByteClass}
 use Rattle.esi_vars.specs.declared.bytes.ByteClass.TheVariants as class
-
--- the bytes space, tab, carriage return and line feed
-abbrev pub is_ws : ℕ → Bool
-is_ws b = b == 32 || (b == 9 || (b == 13 || b == 10))
 
 -- a letter, a digit or `_`
 abbrev pub is_name_byte : ℕ → Bool

@@ -1,4 +1,4 @@
--- What the code's readers return.
+-- What the code's readers lend, as the lists that the definitions speak of.
 use Rattle.std.specs.Prelude.{ℕ, List, [], ◌∷◌, Option, Some, None}
 use Rattle.std.specs.Option.{option_copied}
 use Rattle.std.specs.Borrow.{Bor}
@@ -23,7 +23,7 @@ abbrev pub shown_optional : Option (Option (Bor (List ℕ)) × Bor (List ℕ)) �
 shown_optional None = None
 shown_optional (Some x) = Some (option_copied x.0, x.1.now)
 
--- the same, where there is one, and what follows it
+-- a reference as it is written, where there is one, and what follows it
 abbrev pub shown_found : Option (code.Written × Bor (List ℕ)) → Option (Written × List ℕ)
 shown_found None = None
 shown_found (Some x) = Some (shown_written x.0, x.1.now)

@@ -1,5 +1,6 @@
--- What references stand for, and the text in which each is replaced by its value.
-use Rattle.std.specs.Prelude.{ℕ, List, [], ◌∷◌, Option, Some, None}
+-- What references stand for, and the text in which each is replaced by its value (ESI Language Specification 1.0,
+-- "Variables"; the parts of fields are our profile).
+use Rattle.std.specs.Prelude.{ℕ, nat_le, List, [], ◌∷◌, length, Option, Some, None, if◌then◌else◌}
 use Rattle.std.specs.List.{flat_map}
 use Rattle.edge_types.specs.declared.request.Request.{Request}
 use Rattle.esi_vars.specs.declared.reference.Variable.{Variable}
@@ -54,6 +55,10 @@ part_value request (part.Reference r) = value_of request r
 -- the values of parts, one after another
 unfoldable pub substituted : Request → List Part → List ℕ
 substituted request parts = flat_map (part_value request) parts
+
+-- the text, where it is no longer than the limit
+abbrev pub within : ℕ → List ℕ → Option (List ℕ)
+within limit text = if nat_le (length text) limit then Some text else None
 
 -- the text with each reference replaced by its value and every other byte as it is
 unfoldable pub text_of : Request → List ℕ → List ℕ

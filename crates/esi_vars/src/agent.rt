@@ -1,4 +1,4 @@
-//! What the user agent's field says of browser, version and system.
+// What the user agent's field says of browser, version and system.
 
 ghost use Rattle.std.specs.Prelude.{◌≡◌};
 ghost use Rattle.std.specs.Option.{option_copied};

@@ -1,4 +1,4 @@
-//! Runs of bytes at the front of a text, and cuts at a byte.
+// Runs of bytes at the front of a text, and cuts at a byte.
 
 ghost use Rattle.std.specs.Prelude.{◌≡◌, ◌==◌, ◌<◌, ◌≤◌, length, IfSome};
 ghost use Rattle.std.specs.List.{prefix_len, position};
@@ -7,6 +7,7 @@ ghost use Rattle.esi_vars.specs.Reading.{run_at, cut_at, after_byte};
 ghost use Rattle.esi_vars.specs.Shown.{shown_run};
 ghost use Rattle.esi_vars.specs.Reference as spec;
 
+use edge_types::is_ws;
 use memchr::memchr;
 
 /// The bytes of which parts of references and of fields are made.
@@ -21,7 +22,7 @@ pub(crate) enum ByteClass {
 
 impl ByteClass {
     /// Whether the byte is of the class.
-    pub fn allows(self, byte: u8) -> bool
+    pub(crate) fn allows(self, byte: u8) -> bool
         ensures { result ≡ spec.allows self byte }
     {
         match self {
@@ -33,13 +34,6 @@ impl ByteClass {
             ByteClass::Blank => byte == b' ' || byte == b'\t',
         }
     }
-}
-
-// White space of templates.
-fn is_ws(byte: u8) -> bool
-    ensures { result ≡ spec.is_ws byte }
-{
-    matches!(byte, b' ' | b'\t' | b'\r' | b'\n')
 }
 
 /// How many bytes of the class stand at the front.
@@ -68,8 +62,8 @@ pub(crate) fn run_at(class: ByteClass, text: &[u8]) -> Option<(&[u8], &[u8])>
     }
 }
 
-/// What follows this byte at the front.
-pub(crate) fn after_byte(byte: u8, text: &[u8]) -> Option<&[u8]>
+/// What follows this byte at the front; `None` where another stands there. Takes no memory.
+pub fn after_byte(byte: u8, text: &[u8]) -> Option<&[u8]>
     ensures { option_copied result ≡ after_byte byte text.now }
 {
     match text.split_first() {
@@ -87,9 +81,9 @@ pub(crate) fn find_byte(byte: u8, text: &[u8]) -> Option<usize>
     memchr(byte, text)
 }
 
-/// What stands before the first such byte, and what follows that byte.
+/// What stands before the first such byte, and what follows that byte; `None` without one. Takes no memory.
 #[tactic(auto, unfolding(crate::specs::Reading::cut_at))]
-pub(crate) fn cut_at(byte: u8, text: &[u8]) -> Option<(&[u8], &[u8])>
+pub fn cut_at(byte: u8, text: &[u8]) -> Option<(&[u8], &[u8])>
     ensures { shown_run result ≡ cut_at byte text.now }
 {
     let at = find_byte(byte, text)?;

@@ -1,4 +1,4 @@
-//! The cookies of a request.
+// The cookies of a request.
 
 ghost use Rattle.std.specs.Prelude.{◌≡◌};
 ghost use Rattle.esi_vars.specs.Field as spec;

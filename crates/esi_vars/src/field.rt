@@ -1,4 +1,4 @@
-//! Fields that are cut into parts.
+// Fields that are cut into parts.
 
 ghost use Rattle.std.specs.Prelude.{◌≡◌, ◌-◌, ◌<◌, ◌≤◌, length, IfSome};
 ghost use Rattle.std.specs.List.{suffix_len};

@@ -1,4 +1,4 @@
-//! The languages that a request accepts.
+// The languages that a request accepts.
 
 ghost use Rattle.std.specs.Prelude.{◌≡◌};
 ghost use Rattle.std.specs.Str.{str_eq_ignore_ascii_case};

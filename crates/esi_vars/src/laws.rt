@@ -1,6 +1,6 @@
 //! Laws that tie the definitions together. Each function's clauses are its laws; none of them does anything.
 
-ghost use Rattle.esi_vars.specs.Laws.{ReadsReferences, PartsSpell, PartsAreOne, SubstitutesText};
+ghost use Rattle.esi_vars.specs.Laws.{ReadsReferences, PartsSpell, PartsAreOne, SubstitutesText, CutsFields, TrimsTexts, CutsOnce, LooksUp, FindsTheFirst, FindsNone};
 
 /// A reference is read at the front of a text, with what follows it, exactly where one is spelled there.
 pub fn references_are_read()
@@ -16,4 +16,24 @@ pub fn parts_spell_the_text()
 /// The parts of a text, substituted, are the text with each reference replaced by its value.
 pub fn substitution_replaces_references()
     ensures { SubstitutesText }
+{}
+
+/// A field is cut into the parts between its separators, a text loses the spaces and tabs at its ends and no others,
+/// and a part is cut at its first separator alone.
+pub fn fields_are_cut()
+    ensures parts { CutsFields }
+    ensures trimmed { TrimsTexts }
+    ensures halves { CutsOnce }
+{}
+
+/// The value of a cookie or of a query's name is that of the first part of the name; nothing where no part has it.
+pub fn first_part_of_a_name_counts()
+    ensures { LooksUp }
+{}
+
+/// What is found behind a word of the user agent's field follows the first place at which the word begins; nothing is
+/// found exactly where the word stands nowhere.
+pub fn words_are_found_first()
+    ensures found { FindsTheFirst }
+    ensures none { FindsNone }
 {}

@@ -15,6 +15,7 @@ mod tests;
 pub mod values;
 mod written;
 
-pub use part::{Part, parts, substitute};
+pub use bytes::{after_byte, cut_at};
+pub use part::{Part, parts, substitute, substitute_within};
 pub use reference::{Reference, Variable, reference_at};
 pub use values::value;

@@ -1,9 +1,9 @@
 //! Texts in parts: references, and the text between them. Clauses see a `Part` with its bytes as a list.
 
-ghost use Rattle.std.specs.Prelude.{◌≡◌, ◌<◌, ◌++◌, length, IfOk, OnOk, IfSome};
+ghost use Rattle.std.specs.Prelude.{◌≡◌, ◌<◌, ◌++◌, length, IfOk, OnOk, IfSome, option_map};
 ghost use Rattle.esi_vars.specs.Parts.{parts_of, next_reference, text_part};
 ghost use Rattle.esi_vars.specs.Shown.{shown_next};
-ghost use Rattle.esi_vars.specs.Values.{part_value, substituted};
+ghost use Rattle.esi_vars.specs.Values.{part_value, substituted, within};
 
 use crate::bytes::find_byte;
 use crate::reference::{Reference, owned};
@@ -12,9 +12,10 @@ use crate::written::{Written, written_at};
 use edge_types::{NoMemory, Octets, Request};
 use std::alloc::Global;
 
-/// The byte with which a reference begins, and the one with which it ends.
+/// The byte with which each reference begins.
 const DOLLAR: u8 = b'$';
 
+/// The byte with which each reference ends.
 const CLOSE: u8 = b')';
 
 /// A part of a text.
@@ -102,6 +103,30 @@ pub fn substitute(alloc: Global, request: &Request, parts: &[Part]) -> Result<Ve
         text.extend_from_slice(part_value(request, part))?;
     }
     Ok(text)
+}
+
+/// The same, where it is no longer than the limit, in bytes; else `None`. Never holds more bytes than the limit.
+///
+/// `NoMemory` where a growth is refused; no text is made then.
+///
+/// Source: ESI Language Specification 1.0, "Variables"; a limit is our profile.
+pub fn substitute_within(
+    alloc: Global,
+    request: &Request,
+    parts: &[Part],
+    limit: usize,
+) -> Result<Option<Vec<u8>>, NoMemory>
+    ensures { IfOk result (λ found. option_map (λ text. text.items) found ≡ within limit (substituted request.now parts.now)) }
+{
+    let mut text = Vec::new(alloc);
+    for part in parts {
+        let value = part_value(request, part);
+        if value.len() > limit - text.len() {
+            return Ok(None);
+        }
+        text.extend_from_slice(value)?;
+    }
+    Ok(Some(text))
 }
 
 // What a part stands for.

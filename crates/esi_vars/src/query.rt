@@ -1,4 +1,4 @@
-//! The query string of a request.
+// The query string of a request.
 
 ghost use Rattle.std.specs.Prelude.{◌≡◌};
 ghost use Rattle.esi_vars.specs.Field as spec;

@@ -1,4 +1,4 @@
-use crate::{Part, Reference, Variable, parts, reference_at, substitute, value};
+use crate::{Part, Reference, Variable, parts, reference_at, substitute, substitute_within, value};
 use edge_types::{NoMemory, Octets, Request};
 use std::alloc::Global;
 use std::test::Fail;
@@ -157,6 +157,31 @@ fn parts_are_references_and_whole_texts_between(rt: HostRuntime) -> Result<(), F
         )
     );
     assert!(rt; matches!(&parts[3], Part::Text(text) if text.as_bytes() == b"c$(".as_slice()));
+    Ok(())
+}
+
+#[test]
+fn a_text_longer_than_the_limit_is_given_up(rt: HostRuntime) -> Result<(), Fail> {
+    let request = request(rt.alloc(), "g=12345", "", "", "").map_err(|_| "no memory")?;
+    let rows = [
+        ("", 0, true),
+        ("a", 0, false),
+        ("ab$(HTTP_COOKIE{g})$(X)c", 8, true),
+        ("ab$(HTTP_COOKIE{g})$(X)c", 7, false),
+        ("$(HTTP_COOKIE{g})$(HTTP_COOKIE{g})", 9, false),
+    ];
+    for (text, limit, fits) in rows {
+        let parts = parts(rt.alloc(), text.as_bytes()).map_err(|_| "no memory")?;
+        let found = substitute_within(rt.alloc(), &request, parts.as_slice(), limit).map_err(
+            |_| "no memory",
+        )?;
+        let whole = substitute(rt.alloc(), &request, parts.as_slice()).map_err(|_| "no memory")?;
+        assert_eq!(rt; found.is_some(), fits, "{text}");
+        assert!(rt;
+            found.is_none_or(|found| found.as_slice() == whole.as_slice()),
+            "{text}"
+        );
+    }
     Ok(())
 }
 

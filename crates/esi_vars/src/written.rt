@@ -1,4 +1,4 @@
-//! References as they are written, with the bytes lent from their text.
+// References as they are written, with the bytes lent from their text.
 
 ghost use Rattle.std.specs.Prelude.{◌≡◌};
 ghost use Rattle.esi_vars.specs.Reading.{quoted_key_at, key_text_at, braced_key_at, key_at, default_text_at, barred_default_at, default_at, body_at, written_at};

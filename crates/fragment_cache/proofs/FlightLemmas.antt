@@ -1,5 +1,6 @@
 -- Flights as a list by number, and the index of those that fly.
 use Rattle.std.proofs.Common.{◌≡◌, inl, inr, ℕ, ◌+◌, ◌<◌, Bool, true, false, not, cond, List, [], ◌∷◌, ◌++◌, Option, Some, None, IsSome, MatchOption, is_none, option_map, option_and_then, refl, sym, ◌∙◌, ap, subst, arith, bytes_eq, nat_lt, nat_eq, if◌then◌else◌}
+use Rattle.std.proofs.lemmas.Bool.{true≢false}
 use Rattle.std.proofs.lemmas.Bool.Decides.{nat_tests}
 use Rattle.std.proofs.lemmas.Slice.Eq.{bytes_eq-Decides}
 use Rattle.std.proofs.lemmas.Map.Text.{is_eq-slice_cmp}
@@ -15,12 +16,9 @@ use Rattle.std.specs.Map.{lookup, set_value}
 use Rattle.edge_types.specs.Answered.{Answered}
 use Rattle.fragment_cache.specs.Machine.{Kept, Flights, same_number, kept_at, flying, flying_at, landed_at, picks_at, NoneFlies, changed_value, changed, without, departed, one_fewer, landed_with, picked}
 use Rattle.fragment_cache.specs.Sound.{HasNamed, AreFlights}
-use Rattle.fragment_cache.specs.Index.{Indexed, Numbers, Changes, Agree}
+use Rattle.fragment_cache.specs.Index.{Indexed, Numbers, Changes, HaveSameNumbers}
 use Rattle.fragment_cache.specs.Steps.{Arrives}
 use Rattle.fragment_cache.proofs.EntryLemmas.{same_bytes, each_filter, each_append, of_others}
-
-true_is_not_false : true ≡ false → ⊥
-true_is_not_false e = cc
 
 -- ---- look-ups in lists of pairs
 
@@ -48,7 +46,7 @@ module _ {K : Type 0} (eq : K → K → Bool) (exact : (x y : K) → eq x y ≡ 
   turned x y false e = by_test (eq y x) refl
     where
       by_test : (b : Bool) → eq y x ≡ b → eq y x ≡ false
-      by_test true is = absurd (true_is_not_false (sym (subst (λ (z : K). eq z y ≡ true) (exact y x is) (reflexive y)) ∙ e))
+      by_test true is = absurd (true≢false (sym (subst (λ (z : K). eq z y ≡ true) (exact y x is) (reflexive y)) ∙ e))
       by_test false is = is
 
 module _ {K X : Type 0} (eq : K → K → Bool) (exact : (x y : K) → eq x y ≡ true → x ≡ y) (reflexive : (x : K) → eq x x ≡ true) where
@@ -70,7 +68,7 @@ module _ {K X : Type 0} (eq : K → K → Bool) (exact : (x y : K) → eq x y �
       here false true x r e = absurd (cc)
 
       there : (b c : Bool) (x : X) (r s : Option X) → (b ≡ true → c ≡ false) → s ≡ cond c (option_map g r) r → cond b (Some x) s ≡ cond c (option_map g (cond b (Some x) r)) (cond b (Some x) r)
-      there true true x r s h e = absurd (true_is_not_false (h refl))
+      there true true x r s h e = absurd (true≢false (h refl))
       there true false x r s h e = refl
       there false c x r s h e = e
 
@@ -246,7 +244,7 @@ module _ (before after : Numbers) (flights : Flights) (next : ℕ) (indexed : In
         by_number true other t e =
             let there : flying_at flights m ≡ Some url = ap (flying_at flights) (sym (exact_number number m t)) ∙ flies in
             let same : url ≡ u = cc in
-            absurd (true_is_not_false (sym ((bytes_eq-Decides url u).1 same) ∙ other))
+            absurd (true≢false (sym ((bytes_eq-Decides url u).1 same) ∙ other))
         by_number false other t e = is m ∙ ap (λ (b : Bool). cond b None (flying_at flights m)) t ∙ e
 
         by_url : (b : Bool) → bytes_eq url u ≡ b → flying_at flights' m ≡ Some u
@@ -262,7 +260,7 @@ module _ (before after : Numbers) (flights : Flights) (next : ℕ) (indexed : In
             let one : number_for before u ≡ Some number = indexed.listed u number (flies ∙ ap Some same) in
             let two : number_for before u ≡ Some m = indexed.listed u m e in
             let equal : number ≡ m = cc in
-            absurd (true_is_not_false (sym (subst (λ (k : ℕ). same_number number k ≡ true) equal (number_itself number)) ∙ other))
+            absurd (true≢false (sym (subst (λ (k : ℕ). same_number number k ≡ true) equal (number_itself number)) ∙ other))
         by_url false t other e = at_other url u None before after changes t ∙ indexed.listed u m e
 
         by_number : (b : Bool) → same_number number m ≡ b → number_for after u ≡ Some m
@@ -330,7 +328,7 @@ AreFlights-from_index index flights next indexed = record {
     equal one other e f = cc
 
 -- an index with the same numbers
-pub Indexed-same : (before after : Numbers) (flights : Flights) (next : ℕ) → Agree before after → Indexed before flights next → Indexed after flights next
+pub Indexed-same : (before after : Numbers) (flights : Flights) (next : ℕ) → HaveSameNumbers before after → Indexed before flights next → Indexed after flights next
 Indexed-same before after flights next agree indexed = record {
   found = λ u m h. indexed.found u m (sym (agree u) ∙ h);
   listed = λ u m h. agree u ∙ indexed.listed u m h;
@@ -343,11 +341,11 @@ pub landed_flies_not : (flights : Flights) (number : ℕ) → IsSome (landed_at 
 landed_flies_not flights number h = by_case (kept_at flights number) h
   where
     by_landed : (url : List ℕ) (picks : ℕ) (l : Option Answered) → IsSome l → flying (record { url = url; landed = l; picks = picks }) ≡ None
-    by_landed url picks None i = absurd (true_is_not_false (sym i))
+    by_landed url picks None i = absurd (true≢false (sym i))
     by_landed url picks (Some a) i = refl
 
     by_case : (o : Option Kept) → IsSome (option_and_then (λ (f : Kept). f.landed) o) → option_and_then flying o ≡ None
-    by_case None i = absurd (true_is_not_false (sym i))
+    by_case None i = absurd (true≢false (sym i))
     by_case (Some f) i = by_landed f.url f.picks f.landed i
 
 -- after a pick-up
@@ -376,8 +374,8 @@ number_for-none index flights next url indexed none = by_case (number_for index 
     by_case (Some n) is = absurd (none n (indexed.found url n is))
 
 -- taken out again, a new URL leaves the index as it was
-pub Agree-undone : (before mid after : Numbers) (url : List ℕ) (number : ℕ) → get (slice_cmp nat_cmp) before url ≡ None → Changes url (Some number) before mid → Changes url None mid after → Agree before after
-Agree-undone before mid after url number absent opened closed = λ q. by_test q (bytes_eq url q) refl
+pub HaveSameNumbers-undone : (before mid after : Numbers) (url : List ℕ) (number : ℕ) → get (slice_cmp nat_cmp) before url ≡ None → Changes url (Some number) before mid → Changes url None mid after → HaveSameNumbers before after
+HaveSameNumbers-undone before mid after url number absent opened closed = λ q. by_test q (bytes_eq url q) refl
   where
     by_test : (q : List ℕ) (b : Bool) → bytes_eq url q ≡ b → number_for after q ≡ number_for before q
     by_test q true t = let same : url ≡ q = same_bytes url q t in at_itself url q None mid after closed same ∙ sym (ap (number_for before) (sym same) ∙ absent)

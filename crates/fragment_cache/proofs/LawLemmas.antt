@@ -1,127 +1,19 @@
 -- The law of the cache, by induction on the history.
-use Rattle.std.proofs.Common.{◌≡◌, inl, inr, ℕ, zero, suc, ◌+◌, ◌-◌, ◌<◌, ◌≤◌, Bool, true, false, not, cond, List, [], ◌∷◌, ◌++◌, take, filter, Option, Some, None, IsSome, option_map, option_and_then, refl, sym, ◌∙◌, ap, subst, arith, bytes_eq, nat_lt, if◌then◌else◌}
+use Rattle.std.proofs.Common.{◌≡◌, ◌≢◌, inl, inr, ℕ, ◌+◌, ◌-◌, ◌<◌, ◌≤◌, Bool, true, false, not, cond, List, [], ◌∷◌, ◌++◌, take, Option, Some, None, IsSome, option_map, option_and_then, refl, sym, ◌∙◌, ap, subst, arith, bytes_eq, nat_lt, nat_le, ◌&&◌, if◌then◌else◌}
+use Rattle.std.proofs.lemmas.Bool.{true≢false, and_parts}
 use Rattle.std.proofs.lemmas.Bool.Decides.{nat_tests}
-use Rattle.std.proofs.lemmas.Slice.Eq.{bytes_eq-Decides}
-use Rattle.std.proofs.lemmas.Map.Entries.{lookup-filter-keys}
 use Rattle.std.specs.List.{AllByRecursion}
-use Rattle.std.specs.Option.{option_map_or}
-use Rattle.edge_types.specs.Answered.{Answered}
-use Rattle.fragment_cache.specs.Times.{second_after, expiry_of, extension_of}
-use Rattle.fragment_cache.specs.Machine.{Entry, Entries, Flight, Airspace, Kept, State, Flights, empty, entry_of, others, used, stored, fresh, bridge_end, bridging, answer_before, same_number, kept_at, flying_at, landed_at, picks_at, NoneFlies, changed, without, departed, one_more, one_fewer, landed_with, picked}
-use Rattle.fragment_cache.specs.Steps.{PicksUp, Arrives, Hit, Join, Lead, Bypass, NoFlight, Bridged, Stored, NotStored, Here, Flying, Unknown}
+use Rattle.edge_types.specs.declared.answer.Reply.{Reply}
+use Rattle.edge_types.specs.declared.answer.Reply.TheVariants.{Failed, Got}
+use Rattle.edge_types.specs.Answered.{Answered, is_success}
+use Rattle.fragment_cache.specs.Times.{second_after, expiry_of, expiry_of_reply, fresh_until, extension_of, is_failing}
+use Rattle.fragment_cache.specs.Machine.{Entry, Entries, Flight, Airspace, Kept, State, Flights, empty, flying, entry_of, others, used, stored, fresh, bridge_end, bridging, answer_before, same_number, kept_at, flying_at, landed_at, picks_at, NoneFlies, changed, without, departed, one_more, one_fewer, landed_with, picked}
+use Rattle.fragment_cache.specs.Steps.{PicksUp, Arrives, LandsSomehow, Hit, Join, Lead, Bypass, Here, Flying, Unknown}
 use Rattle.fragment_cache.specs.Runs.{Event, Began, Landed, PickedUp, Step, Run}
-use Rattle.fragment_cache.specs.Law.{History, latest, flying_in, landed_in, leads, joins, heres, IsLatest, NoneFlew, Follows, Keeps, OneFlies, CacheLaw}
+use Rattle.fragment_cache.specs.Law.{History, is_of, flies_in, is_bridged, latest, flying_in, landed_in, leads, joins, heres, IsLatest, NoneFlew, Follows, Keeps, OneFlies, CacheLaw}
 use Rattle.fragment_cache.proofs.EntryLemmas.{same_bytes, each_filter, each_append}
-use Rattle.fragment_cache.proofs.FlightLemmas.{lookup-append_none, lookup-append_some, lookup-changed, lookup-others, lookup-push, exact_number, number_itself, kept_at-next, each_changed, flying_at-changed, flying_at-arrives, flying_at-push, landed_flies_not, flying_at-without}
-
-true_is_not_false : true ≡ false → ⊥
-true_is_not_false e = cc
-
-bytes_itself : (x : List ℕ) → bytes_eq x x ≡ true
-bytes_itself x = (bytes_eq-Decides x x).1 refl
-
--- ---- entries
-
-turned_bytes : (x y : List ℕ) (b : Bool) → bytes_eq x y ≡ b → bytes_eq y x ≡ b
-turned_bytes x y true e = (bytes_eq-Decides y x).1 (sym (same_bytes x y e))
-turned_bytes x y false e = by_test (bytes_eq y x) refl
-  where
-    by_test : (b : Bool) → bytes_eq y x ≡ b → bytes_eq y x ≡ false
-    by_test true is = absurd (true_is_not_false (sym ((bytes_eq-Decides x y).1 (sym (same_bytes y x is))) ∙ e))
-    by_test false is = is
-
-entry_of-others : (url : List ℕ) (es : Entries) (u : List ℕ) → entry_of (others url es) u ≡ cond (bytes_eq url u) None (entry_of es u)
-entry_of-others url es u = lookup-others bytes_eq same_bytes bytes_itself url es u
-
-entry_of-own : (url : List ℕ) (es : Entries) (u : List ℕ) → entry_of (filter (λ e. bytes_eq url e.0) es) u ≡ cond (bytes_eq url u) (entry_of es u) None
-entry_of-own url es u = lookup-filter-keys (bytes_eq u) (bytes_eq url) (bytes_eq url u) (λ (j : List ℕ) (t : bytes_eq u j ≡ true). ap (bytes_eq url) (sym (same_bytes u j t))) es
-
-entry_of-used : (url : List ℕ) (es : Entries) (u : List ℕ) → entry_of (used url es) u ≡ entry_of es u
-entry_of-used url es u = by_test (bytes_eq url u) refl
-  where
-    own : Entries
-    own = filter (λ e. bytes_eq url e.0) es
-
-    by_entry : (o : Option Entry) → bytes_eq url u ≡ true → entry_of es u ≡ o → entry_of (used url es) u ≡ entry_of es u
-    by_entry None t is =
-        lookup-append_none (bytes_eq u) (filter (λ e. bytes_eq url e.0) es) (others url es) (entry_of-own url es u ∙ ap (λ (b : Bool). cond b (entry_of es u) None) t ∙ is)
-        ∙ entry_of-others url es u ∙ ap (λ (b : Bool). cond b None (entry_of es u)) t ∙ sym is
-    by_entry (Some e) t is =
-        lookup-append_some (bytes_eq u) (filter (λ e. bytes_eq url e.0) es) (others url es) e (entry_of-own url es u ∙ ap (λ (b : Bool). cond b (entry_of es u) None) t ∙ is) ∙ sym is
-
-    by_test : (b : Bool) → bytes_eq url u ≡ b → entry_of (used url es) u ≡ entry_of es u
-    by_test true t = by_entry (entry_of es u) t refl
-    by_test false t =
-        lookup-append_none (bytes_eq u) (filter (λ e. bytes_eq url e.0) es) (others url es) (entry_of-own url es u ∙ ap (λ (b : Bool). cond b (entry_of es u) None) t)
-        ∙ entry_of-others url es u ∙ ap (λ (b : Bool). cond b None (entry_of es u)) t
-
-entry_of-take : (n : ℕ) (es : Entries) (u : List ℕ) (e : Entry) → entry_of (take n es) u ≡ Some e → entry_of es u ≡ Some e
-entry_of-take zero es u e h = absurd (cc)
-entry_of-take (suc n) [] u e h = h
-entry_of-take (suc n) (x ∷ es) u e h = (elim (bytes_eq u x.0) as (λ b. bytes_eq u x.0 ≡ b → entry_of (x ∷ es) u ≡ Some e) [
-  | true ↦ λ is. let h' = rw is at h in rw is h'
-  | false ↦ λ is. rw is (entry_of-take n es u e (rw is at h))
-]) refl
-
--- an answer that is given before a second is that of the entry
-given : (now end : ℕ) (a answer : Answered) → answer_before now end a ≡ Some answer → (now < end) × (a ≡ answer)
-given now end a answer h = by_test (nat_lt now end) refl
-  where
-    by_test : (b : Bool) → nat_lt now end ≡ b → (now < end) × (a ≡ answer)
-    by_test true t = let e : Some a ≡ Some answer = sym (ap (λ (b : Bool). cond b (Some a) None) t) ∙ h in (grind (arith, nat_tests), cc)
-    by_test false t = let e : None ≡ Some answer = sym (ap (λ (b : Bool). cond b (Some a) None) t) ∙ h in absurd (cc)
-
--- ---- flights, at a number
-
-picks_of : Option Kept → ℕ
-picks_of o = option_map_or (λ f. f.picks) o 0
-
-landed_of : Option Kept → Option Answered
-landed_of o = option_and_then (λ f. f.landed) o
-
-kept_at-changed : (number : ℕ) (g : Kept → Kept) (flights : Flights) (m : ℕ) → kept_at (changed number g flights) m ≡ cond (same_number number m) (option_map g (kept_at flights m)) (kept_at flights m)
-kept_at-changed number g flights m = lookup-changed same_number exact_number number_itself number g flights m
-
-kept_at-without : (number : ℕ) (flights : Flights) (m : ℕ) → kept_at (without number flights) m ≡ cond (same_number number m) None (kept_at flights m)
-kept_at-without number flights m = lookup-others same_number exact_number number_itself number flights m
-
-kept_at-push : (number : ℕ) (f : Kept) (flights : Flights) (m : ℕ) → kept_at flights number ≡ None → kept_at (flights ++ (number, f) ∷ []) m ≡ cond (same_number number m) (Some f) (kept_at flights m)
-kept_at-push number f flights m none = lookup-push same_number exact_number number_itself number f flights m none
-
--- what is told of a flight: the answer with which it landed, and that its pick-ups left and made are no more than its joins
-pub record Tells (o : Option Kept) (landed : Option Answered) (made joined : ℕ) : Type 0 where
-  pub answer_is : (answer : Answered) → option_and_then (λ (f : Kept). f.landed) o ≡ Some answer → (landed ≡ Some answer) × (0 < option_map_or (λ (f : Kept). f.picks) o 0)
-  pub picks : option_map_or (λ (f : Kept). f.picks) o 0 + made ≤ joined
-
-tells_none : (landed : Option Answered) (made joined : ℕ) → made ≤ joined → Tells None landed made joined
-tells_none landed made joined h = record { answer_is = λ answer e. absurd (no answer e); picks = omega arith }
-  where
-    no : (answer : Answered) → None ≡ Some answer → ⊥
-    no answer e = cc
-
-made_below : (o : Option Kept) (landed : Option Answered) (made joined : ℕ) → Tells o landed made joined → made ≤ joined
-made_below o landed made joined t = let p = t.picks in omega arith
-
-tells_more : (o : Option Kept) (landed : Option Answered) (made joined : ℕ) → Tells o landed made joined → Tells (option_map one_more o) landed made (joined + 1)
-tells_more None landed made joined t = tells_none landed made (joined + 1) (let p = made_below None landed made joined t in omega arith)
-tells_more (Some f) landed made joined t = record { answer_is = λ answer e. ((t.answer_is answer e).0, omega arith); picks = let p : f.picks + made ≤ joined = t.picks in omega arith }
-
-tells_departed : (url : List ℕ) (landed : Option Answered) (made joined : ℕ) → made ≤ joined → Tells (Some (departed url)) landed made joined
-tells_departed url landed made joined h = record { answer_is = λ answer e. absurd (no answer e); picks = omega arith }
-  where
-    no : (answer : Answered) → None ≡ Some answer → ⊥
-    no answer e = cc
-
-tells_landed : (o : Option Kept) (landed : Option Answered) (answer : Answered) (made joined : ℕ) → 0 < option_map_or (λ (f : Kept). f.picks) o 0 → Tells o landed made joined → Tells (option_map (landed_with answer) o) (Some answer) made joined
-tells_landed None landed answer made joined some t = tells_none (Some answer) made joined (made_below None landed made joined t)
-tells_landed (Some f) landed answer made joined some t = record { answer_is = λ a e. (e, some); picks = t.picks }
-
-tells_fewer : (o : Option Kept) (landed : Option Answered) (made joined : ℕ) → 1 < option_map_or (λ (f : Kept). f.picks) o 0 → Tells o landed made joined → Tells (option_map one_fewer o) landed (made + 1) joined
-tells_fewer None landed made joined some t = absurd (omega arith)
-tells_fewer (Some f) landed made joined some t = record { answer_is = λ a e. ((t.answer_is a e).0, let p : 1 < f.picks = some in omega arith); picks = let p : 1 < f.picks = some in let q : f.picks + made ≤ joined = t.picks in omega arith }
-
-tells_less : (o : Option Kept) (landed : Option Answered) (made joined : ℕ) → Tells o landed (made + 1) joined → Tells o landed made joined
-tells_less o landed made joined t = record { answer_is = t.answer_is; picks = let p = t.picks in omega arith }
+use Rattle.fragment_cache.proofs.FlightLemmas.{exact_number, kept_at-next, each_changed, flying_at-changed, flying_at-arrives, flying_at-push, landed_flies_not, flying_at-without}
+use Rattle.fragment_cache.proofs.LookupLemmas.{bytes_itself, turned_bytes, entry_of-others, entry_of-used, entry_of-take, answer_before-some, kept_at-changed, kept_at-without, kept_at-push, tells_none, made_below, tells_more, tells_departed, tells_landed, tells_fewer, tells_less, Tells}
 
 -- ---- what a history tells of the state after it
 
@@ -156,7 +48,7 @@ latest_fresh h s url now answer told is = by_entry (entry_of s.entries url) refl
     by_entry : (o : Option Entry) → entry_of s.entries url ≡ o → (expiry : ℕ) × IsLatest h url answer expiry × (now < expiry)
     by_entry None at = let e : None ≡ Some answer = sym (ap (option_and_then (λ (e : Entry). answer_before now e.expiry e.answer)) at) ∙ is in absurd (cc)
     by_entry (Some e) at =
-        let g = given now e.expiry e.answer answer (sym (ap (option_and_then (λ (e : Entry). answer_before now e.expiry e.answer)) at) ∙ is) in
+        let g = answer_before-some now e.expiry e.answer answer (sym (ap (option_and_then (λ (e : Entry). answer_before now e.expiry e.answer)) at) ∙ is) in
         (e.expiry, subst (λ (a : Answered). IsLatest h url a e.expiry) g.1 (told.latest url e at), g.0)
 
 latest_bridging : (h : History) (s : State) (url : List ℕ) (now : ℕ) (answer : Answered) → Told h s → bridging s.entries url now ≡ Some answer → (expiry : ℕ) × IsLatest h url answer expiry × (now < second_after expiry (extension_of answer.reply))
@@ -165,7 +57,7 @@ latest_bridging h s url now answer told is = by_entry (entry_of s.entries url) r
     by_entry : (o : Option Entry) → entry_of s.entries url ≡ o → (expiry : ℕ) × IsLatest h url answer expiry × (now < second_after expiry (extension_of answer.reply))
     by_entry None at = let e : None ≡ Some answer = sym (ap (option_and_then (λ (e : Entry). answer_before now (bridge_end e) e.answer)) at) ∙ is in absurd (cc)
     by_entry (Some e) at =
-        let g = given now (bridge_end e) e.answer answer (sym (ap (option_and_then (λ (e : Entry). answer_before now (bridge_end e) e.answer)) at) ∙ is) in
+        let g = answer_before-some now (bridge_end e) e.answer answer (sym (ap (option_and_then (λ (e : Entry). answer_before now (bridge_end e) e.answer)) at) ∙ is) in
         (e.expiry, subst (λ (a : Answered). IsLatest h url a e.expiry) g.1 (told.latest url e at), subst (λ (a : Answered). now < second_after e.expiry (extension_of a.reply)) g.1 g.0)
 
 told_hit : (h : History) (s : State) (url : List ℕ) (now : ℕ) (answer : Answered) → Told h s → Told (Began url now (Hit answer) ∷ h) (record s { entries = used url s.entries })
@@ -230,30 +122,30 @@ told_lead h s url now ready told none = record {
 -- ---- landings
 
 -- the flights after a landing
-module _ (h : History) (s : State) (number : ℕ) (back : Answered) (flights : Flights) (told : Told h s) (arrives : Arrives s.flights number back flights) where
+module _ (h : History) (s : State) (number : ℕ) (given : Answered) (flights : Flights) (told : Told h s) (arrives : Arrives s.flights number given flights) where
   flying_land : (m : ℕ) → flying_at flights m ≡ cond (same_number number m) None (flying_in h m)
-  flying_land m = flying_at-arrives s.flights flights number back arrives m ∙ ap (cond (same_number number m) None) (told.flying m)
+  flying_land m = flying_at-arrives s.flights flights number given arrives m ∙ ap (cond (same_number number m) None) (told.flying m)
 
-  gone_tells : (m : ℕ) (c : Bool) → Tells (cond c None (kept_at s.flights m)) (cond c (Some back) (landed_in h m)) (heres h m) (joins h m)
-  gone_tells m true = tells_none (Some back) (heres h m) (joins h m) (made_below (kept_at s.flights m) (landed_in h m) (heres h m) (joins h m) (told.tells m))
+  gone_tells : (m : ℕ) (c : Bool) → Tells (cond c None (kept_at s.flights m)) (cond c (Some given) (landed_in h m)) (heres h m) (joins h m)
+  gone_tells m true = tells_none (Some given) (heres h m) (joins h m) (made_below (kept_at s.flights m) (landed_in h m) (heres h m) (joins h m) (told.tells m))
   gone_tells m false = told.tells m
 
-  kept_tells : 0 < picks_at s.flights number → (m : ℕ) (c : Bool) → same_number number m ≡ c → Tells (cond c (option_map (landed_with back) (kept_at s.flights m)) (kept_at s.flights m)) (cond c (Some back) (landed_in h m)) (heres h m) (joins h m)
-  kept_tells some m true t = tells_landed (kept_at s.flights m) (landed_in h m) back (heres h m) (joins h m) (subst (λ (n : ℕ). 0 < picks_at s.flights n) (exact_number number m t) some) (told.tells m)
+  kept_tells : 0 < picks_at s.flights number → (m : ℕ) (c : Bool) → same_number number m ≡ c → Tells (cond c (option_map (landed_with given) (kept_at s.flights m)) (kept_at s.flights m)) (cond c (Some given) (landed_in h m)) (heres h m) (joins h m)
+  kept_tells some m true t = tells_landed (kept_at s.flights m) (landed_in h m) given (heres h m) (joins h m) (subst (λ (n : ℕ). 0 < picks_at s.flights n) (exact_number number m t) some) (told.tells m)
   kept_tells some m false t = told.tells m
 
-  tells_land : (m : ℕ) → Tells (kept_at flights m) (cond (same_number number m) (Some back) (landed_in h m)) (heres h m) (joins h m)
+  tells_land : (m : ℕ) → Tells (kept_at flights m) (cond (same_number number m) (Some given) (landed_in h m)) (heres h m) (joins h m)
   tells_land m = by_way arrives
     where
-      by_way : Arrives s.flights number back flights → Tells (kept_at flights m) (cond (same_number number m) (Some back) (landed_in h m)) (heres h m) (joins h m)
-      by_way (inl kept) = subst (λ (o : Option Kept). Tells o (cond (same_number number m) (Some back) (landed_in h m)) (heres h m) (joins h m)) (sym (ap (λ (fs : Flights). kept_at fs m) kept.1 ∙ kept_at-changed number (landed_with back) s.flights m)) (kept_tells kept.0 m (same_number number m) refl)
-      by_way (inr gone) = subst (λ (o : Option Kept). Tells o (cond (same_number number m) (Some back) (landed_in h m)) (heres h m) (joins h m)) (sym (ap (λ (fs : Flights). kept_at fs m) gone ∙ kept_at-without number s.flights m)) (gone_tells m (same_number number m))
+      by_way : Arrives s.flights number given flights → Tells (kept_at flights m) (cond (same_number number m) (Some given) (landed_in h m)) (heres h m) (joins h m)
+      by_way (inl kept) = subst (λ (o : Option Kept). Tells o (cond (same_number number m) (Some given) (landed_in h m)) (heres h m) (joins h m)) (sym (ap (λ (fs : Flights). kept_at fs m) kept.1 ∙ kept_at-changed number (landed_with given) s.flights m)) (kept_tells kept.0 m (same_number number m) refl)
+      by_way (inr gone) = subst (λ (o : Option Kept). Tells o (cond (same_number number m) (Some given) (landed_in h m)) (heres h m) (joins h m)) (sym (ap (λ (fs : Flights). kept_at fs m) gone ∙ kept_at-without number s.flights m)) (gone_tells m (same_number number m))
 
   below_land : AllByRecursion (λ e. e.0 < s.next) flights
   below_land = by_way arrives
     where
-      by_way : Arrives s.flights number back flights → AllByRecursion (λ e. e.0 < s.next) flights
-      by_way (inl kept) = subst (AllByRecursion (λ (e : ℕ × Kept). e.0 < s.next)) (sym kept.1) (each_changed (λ e. e.0 < s.next) number (landed_with back) s.flights (λ f at low. low) told.below)
+      by_way : Arrives s.flights number given flights → AllByRecursion (λ e. e.0 < s.next) flights
+      by_way (inl kept) = subst (AllByRecursion (λ (e : ℕ × Kept). e.0 < s.next)) (sym kept.1) (each_changed (λ e. e.0 < s.next) number (landed_with given) s.flights (λ f at low. low) told.below)
       by_way (inr gone) = subst (AllByRecursion (λ (e : ℕ × Kept). e.0 < s.next)) (sym gone) (each_filter (λ (e : ℕ × Kept). e.0 < s.next) (λ (e : ℕ × Kept). not (same_number number e.0)) s.flights told.below)
 
   still : (m : ℕ) (c : Bool) (u : List ℕ) → cond c None (flying_in h m) ≡ Some u → flying_in h m ≡ Some u
@@ -263,49 +155,94 @@ module _ (h : History) (s : State) (number : ℕ) (back : Answered) (flights : F
   one_land : (u : List ℕ) (one other : ℕ) → cond (same_number number one) None (flying_in h one) ≡ Some u → cond (same_number number other) None (flying_in h other) ≡ Some u → one ≡ other
   one_land u one other a b = told.one u one other (still one (same_number number one) u a) (still other (same_number number other) u b)
 
-told_bridged : (h : History) (s : State) (flight : Flight) (answer : Answered) (now : ℕ) (back : Answered) (flights : Flights) → Told h s → Arrives s.flights flight.number back flights
-    → Told (Landed flight answer now Bridged back ∷ h) (record s { flights = flights })
-told_bridged h s flight answer now back flights told arrives = record {
-  flying = flying_land h s flight.number back flights told arrives;
-  tells = tells_land h s flight.number back flights told arrives;
-  below = below_land h s flight.number back flights told arrives;
-  number = told.number;
-  latest = told.latest;
-  one = one_land h s flight.number back flights told arrives;
-}
+-- ---- which way a landing goes, told from the call
 
-told_not_stored : (h : History) (s : State) (flight : Flight) (answer : Answered) (now : ℕ) (flights : Flights) → Told h s → Arrives s.flights flight.number answer flights
-    → Told (Landed flight answer now NotStored answer ∷ h) (record s { entries = others flight.url s.entries; flights = flights })
-told_not_stored h s flight answer now flights told arrives = record {
-  flying = flying_land h s flight.number answer flights told arrives;
-  tells = tells_land h s flight.number answer flights told arrives;
-  below = below_land h s flight.number answer flights told arrives;
-  number = told.number;
-  latest = λ u e is. by_test u e (bytes_eq flight.url u) (sym (entry_of-others flight.url s.entries u) ∙ is);
-  one = one_land h s flight.number answer flights told arrives;
-}
+-- a reply that is stored is no failing one
+stored-is_failing : (reply : Reply) (at expiry : ℕ) → expiry_of_reply reply at ≡ Some expiry → is_failing reply ≡ false
+stored-is_failing Failed at expiry e = absurd (cc)
+stored-is_failing (Got status content_type control body) at expiry e = by_status (is_success status) refl
   where
-    by_test : (u : List ℕ) (e : Entry) (c : Bool) → cond c None (entry_of s.entries u) ≡ Some e
-        → (at : ℕ) × (cond c (Some (answer, now)) (latest u h) ≡ Some (e.answer, at)) × (expiry_of e.answer at ≡ Some e.expiry)
+    by_status : (b : Bool) → is_success status ≡ b → is_failing (Got status content_type control body) ≡ false
+    by_status true t =
+        let most : nat_le status 299 ≡ true = (and_parts (nat_le 200 status) (nat_le status 299) t).1 in
+        let least : nat_le 500 status ≡ false = grind (arith, nat_tests) in
+        ap (λ (b : Bool). b && nat_le status 599) least
+    by_status false t =
+        let none : None ≡ Some expiry = sym (ap (λ (b : Bool). cond (b && not control.no_store) (fresh_until at control.max_age) None) t) ∙ e in
+        absurd (cc)
+
+flies_in-flying : (h : History) (flight : Flight) → flying_in h flight.number ≡ Some flight.url → flies_in h flight ≡ true
+flies_in-flying h flight flew = ap (is_of flight.url) flew ∙ bytes_itself flight.url
+
+flies_in-other : (h : History) (flight : Flight) → flying_in h flight.number ≢ Some flight.url → flies_in h flight ≡ false
+flies_in-other h flight other = by_flying (flying_in h flight.number) refl
+  where
+    by_url : (u : List ℕ) (b : Bool) → flying_in h flight.number ≡ Some u → bytes_eq flight.url u ≡ b → bytes_eq flight.url u ≡ false
+    by_url u true is t = absurd (other (is ∙ ap Some (sym (same_bytes flight.url u t))))
+    by_url u false is t = t
+
+    by_flying : (o : Option (List ℕ)) → flying_in h flight.number ≡ o → is_of flight.url (flying_in h flight.number) ≡ false
+    by_flying None is = ap (is_of flight.url) is
+    by_flying (Some u) is = ap (is_of flight.url) is ∙ by_url u (bytes_eq flight.url u) is refl
+
+is_bridged-itself : (answer : Answered) → is_bridged answer answer ≡ false
+is_bridged-itself answer = both (is_failing answer.reply)
+  where
+    both : (b : Bool) → (b && not b) ≡ false
+    both true = refl
+    both false = refl
+
+is_bridged-failing : (answer given : Answered) → is_failing answer.reply ≡ true → is_failing given.reply ≡ false → is_bridged answer given ≡ true
+is_bridged-failing answer given fails stands = ap (λ (b : Bool). b && not (is_failing given.reply)) fails ∙ ap not stands
+
+-- what the latest landing for a URL is, and that its answer was to be stored
+abbrev Last : Option (Answered × ℕ) → Entry → Type 0
+Last o e = (at : ℕ) × (o ≡ Some (e.answer, at)) × (expiry_of e.answer at ≡ Some e.expiry)
+
+-- the history after a landing of a flight that flew, where its entries are told of
+module _ (h : History) (s : State) (flight : Flight) (answer : Answered) (now : ℕ) (given : Answered) (flights : Flights) (told : Told h s)
+    (flew : flying_in h flight.number ≡ Some flight.url) (arrives : Arrives s.flights flight.number given flights) where
+  told_landed : (entries : Entries) (bridged : Bool) → is_bridged answer given ≡ bridged
+      → ((u : List ℕ) (e : Entry) → entry_of entries u ≡ Some e → Last (cond (not bridged && bytes_eq flight.url u) (Some (answer, now)) (latest u h)) e)
+      → Told (Landed flight answer now given ∷ h) (record s { entries = entries; flights = flights })
+  told_landed entries bridged is last = record {
+    flying = λ m. flying_land h s flight.number given flights told arrives m ∙ ap (λ (b : Bool). cond (b && same_number flight.number m) None (flying_in h m)) (sym flies);
+    tells = λ m. subst (λ (b : Bool). Tells (kept_at flights m) (cond (b && same_number flight.number m) (Some given) (landed_in h m)) (heres h m) (joins h m)) (sym flies) (tells_land h s flight.number given flights told arrives m);
+    below = below_land h s flight.number given flights told arrives;
+    number = told.number;
+    latest = λ u e at.
+        subst (λ (f : Bool). Last (cond (f && (not (is_bridged answer given) && bytes_eq flight.url u)) (Some (answer, now)) (latest u h)) e) (sym flies)
+        (subst (λ (b : Bool). Last (cond (not b && bytes_eq flight.url u) (Some (answer, now)) (latest u h)) e) (sym is) (last u e at));
+    one = subst (λ (b : Bool). (u : List ℕ) (one other : ℕ) → cond (b && same_number flight.number one) None (flying_in h one) ≡ Some u → cond (b && same_number flight.number other) None (flying_in h other) ≡ Some u → one ≡ other) (sym flies)
+        (one_land h s flight.number given flights told arrives);
+  }
+    where
+      flies : flies_in h flight ≡ true
+      flies = flies_in-flying h flight flew
+
+told_bridged : (h : History) (s : State) (flight : Flight) (answer : Answered) (now : ℕ) (given : Answered) (flights : Flights) → Told h s → flying_in h flight.number ≡ Some flight.url
+    → Arrives s.flights flight.number given flights → is_bridged answer given ≡ true → Told (Landed flight answer now given ∷ h) (record s { flights = flights })
+told_bridged h s flight answer now given flights told flew arrives is = told_landed h s flight answer now given flights told flew arrives s.entries true is told.latest
+
+told_not_stored : (h : History) (s : State) (flight : Flight) (answer : Answered) (now : ℕ) (flights : Flights) → Told h s → flying_in h flight.number ≡ Some flight.url
+    → Arrives s.flights flight.number answer flights → Told (Landed flight answer now answer ∷ h) (record s { entries = others flight.url s.entries; flights = flights })
+told_not_stored h s flight answer now flights told flew arrives =
+    told_landed h s flight answer now answer flights told flew arrives (others flight.url s.entries) false (is_bridged-itself answer)
+    (λ u e is. by_test u e (bytes_eq flight.url u) (sym (entry_of-others flight.url s.entries u) ∙ is))
+  where
+    by_test : (u : List ℕ) (e : Entry) (c : Bool) → cond c None (entry_of s.entries u) ≡ Some e → Last (cond c (Some (answer, now)) (latest u h)) e
     by_test u e true is = absurd (cc)
     by_test u e false is = told.latest u e is
 
-told_stored : (h : History) (s : State) (flight : Flight) (answer : Answered) (now expiry : ℕ) (flights : Flights) → Told h s → expiry_of answer now ≡ Some expiry → Arrives s.flights flight.number answer flights
-    → Told (Landed flight answer now Stored answer ∷ h) (record s { entries = stored s.capacity flight.url (record { answer = answer; expiry = expiry }) s.entries; flights = flights })
-told_stored h s flight answer now expiry flights told expires arrives = record {
-  flying = flying_land h s flight.number answer flights told arrives;
-  tells = tells_land h s flight.number answer flights told arrives;
-  below = below_land h s flight.number answer flights told arrives;
-  number = told.number;
-  latest = λ u e is. by_test u e (bytes_eq flight.url u) refl is;
-  one = one_land h s flight.number answer flights told arrives;
-}
+told_stored : (h : History) (s : State) (flight : Flight) (answer : Answered) (now expiry : ℕ) (flights : Flights) → Told h s → flying_in h flight.number ≡ Some flight.url
+    → expiry_of answer now ≡ Some expiry → Arrives s.flights flight.number answer flights
+    → Told (Landed flight answer now answer ∷ h) (record s { entries = stored s.capacity flight.url (record { answer = answer; expiry = expiry }) s.entries; flights = flights })
+told_stored h s flight answer now expiry flights told flew expires arrives =
+    told_landed h s flight answer now answer flights told flew arrives (stored s.capacity flight.url (record { answer = answer; expiry = expiry }) s.entries) false (is_bridged-itself answer)
+    (λ u e is. by_test u e (bytes_eq flight.url u) refl is)
   where
-    entry : Entry
-    entry = record { answer = answer; expiry = expiry }
-
-    own : (u : List ℕ) (e : Entry) → record { answer = answer; expiry = expiry } ≡ e → (at : ℕ) × ◌≡◌ {A = Option (Answered × ℕ)} (Some (answer, now)) (Some (e.answer, at)) × (expiry_of e.answer at ≡ Some e.expiry)
-    own u e same = subst (λ (x : Entry). (at : ℕ) × ◌≡◌ {A = Option (Answered × ℕ)} (Some (answer, now)) (Some (x.answer, at)) × (expiry_of x.answer at ≡ Some x.expiry)) same (now, refl, expires)
+    own : (u : List ℕ) (e : Entry) → record { answer = answer; expiry = expiry } ≡ e → Last (Some (answer, now)) e
+    own u e same = subst (λ (x : Entry). Last (Some (answer, now)) x) same (now, refl, expires)
 
     older : (u : List ℕ) (e : Entry) (c : Bool) → bytes_eq flight.url u ≡ c → c ≡ false → entry_of (take (s.capacity - 1) (others flight.url s.entries)) u ≡ Some e → entry_of s.entries u ≡ Some e
     older u e c t f is = sym (entry_of-others flight.url s.entries u ∙ ap (λ (b : Bool). cond b None (entry_of s.entries u)) (t ∙ f)) ∙ entry_of-take (s.capacity - 1) (others flight.url s.entries) u e is
@@ -315,13 +252,13 @@ told_stored h s flight answer now expiry flights told expires arrives = record {
     shows u b t = ap (λ (c : Bool). cond c (Some (record { answer = answer; expiry = expiry })) (entry_of (take (s.capacity - 1) (others flight.url s.entries)) u)) t
 
     by_test : (u : List ℕ) (e : Entry) (c : Bool) → bytes_eq flight.url u ≡ c → entry_of (stored s.capacity flight.url (record { answer = answer; expiry = expiry }) s.entries) u ≡ Some e
-        → (at : ℕ) × (cond (bytes_eq flight.url u) (Some (answer, now)) (latest u h) ≡ Some (e.answer, at)) × (expiry_of e.answer at ≡ Some e.expiry)
+        → Last (cond (bytes_eq flight.url u) (Some (answer, now)) (latest u h)) e
     by_test u e true t is =
         let first : Some (record { answer = answer; expiry = expiry }) ≡ Some e = sym (shows u true (turned_bytes flight.url u true t)) ∙ is in
         let same : record { answer = answer; expiry = expiry } ≡ e = cc in
-        subst (λ (c : Bool). (at : ℕ) × (cond c (Some (answer, now)) (latest u h) ≡ Some (e.answer, at)) × (expiry_of e.answer at ≡ Some e.expiry)) (sym t) (own u e same)
+        subst (λ (c : Bool). Last (cond c (Some (answer, now)) (latest u h)) e) (sym t) (own u e same)
     by_test u e false t is =
-        subst (λ (c : Bool). (at : ℕ) × (cond c (Some (answer, now)) (latest u h) ≡ Some (e.answer, at)) × (expiry_of e.answer at ≡ Some e.expiry)) (sym t)
+        subst (λ (c : Bool). Last (cond c (Some (answer, now)) (latest u h)) e) (sym t)
         (told.latest u e (older u e false t refl (sym (shows u false (turned_bytes flight.url u false t)) ∙ is)))
 
 -- ---- pick-ups
@@ -331,7 +268,7 @@ module _ (h : History) (s : State) (number : ℕ) (told : Told h s) (landed : Is
   some_left = by_landed (landed_at s.flights number) refl landed
     where
       by_landed : (o : Option Answered) → landed_at s.flights number ≡ o → IsSome o → 0 < picks_at s.flights number
-      by_landed None is i = absurd (true_is_not_false (sym i))
+      by_landed None is i = absurd (true≢false (sym i))
       by_landed (Some a) is i = ((told.tells number).answer_is a is).1
 
   -- of the flights after a pick-up, with one pick-up more made
@@ -397,8 +334,18 @@ module _ (h : History) (s : State) (number : ℕ) (told : Told h s) (landed : Is
 told_bypass : (h : History) (s : State) (url : List ℕ) (now : ℕ) → Told h s → Told (Began url now Bypass ∷ h) s
 told_bypass h s url now told = record { flying = told.flying; tells = told.tells; below = told.below; number = told.number; latest = told.latest; one = told.one }
 
-told_missed : (h : History) (s : State) (flight : Flight) (answer : Answered) (now : ℕ) (back : Answered) → Told h s → Told (Landed flight answer now NoFlight back ∷ h) s
-told_missed h s flight answer now back told = record { flying = told.flying; tells = told.tells; below = told.below; number = told.number; latest = told.latest; one = told.one }
+told_missed : (h : History) (s : State) (flight : Flight) (answer : Answered) (now : ℕ) (given : Answered) → Told h s → flying_in h flight.number ≢ Some flight.url → Told (Landed flight answer now given ∷ h) s
+told_missed h s flight answer now given told other = record {
+  flying = λ m. told.flying m ∙ ap (λ (b : Bool). cond (b && same_number flight.number m) None (flying_in h m)) (sym misses);
+  tells = λ m. subst (λ (b : Bool). Tells (kept_at s.flights m) (cond (b && same_number flight.number m) (Some given) (landed_in h m)) (heres h m) (joins h m)) (sym misses) (told.tells m);
+  below = told.below;
+  number = told.number;
+  latest = λ u e is. subst (λ (b : Bool). Last (cond (b && (not (is_bridged answer given) && bytes_eq flight.url u)) (Some (answer, now)) (latest u h)) e) (sym misses) (told.latest u e is);
+  one = subst (λ (b : Bool). (u : List ℕ) (one other : ℕ) → cond (b && same_number flight.number one) None (flying_in h one) ≡ Some u → cond (b && same_number flight.number other) None (flying_in h other) ≡ Some u → one ≡ other) (sym misses) told.one;
+}
+  where
+    misses : flies_in h flight ≡ false
+    misses = flies_in-other h flight other
 
 told_flying : (h : History) (s : State) (number : ℕ) → Told h s → Told (PickedUp number Flying ∷ h) s
 told_flying h s number told = record { flying = told.flying; tells = told.tells; below = told.below; number = told.number; latest = told.latest; one = told.one }
@@ -425,36 +372,46 @@ unknown : (h : History) (old new : State) (number : ℕ) → PicksUp old.flights
 unknown h old new number (inl none) is told = subst (Told (PickedUp number Unknown ∷ h)) (sym (is ∙ ap (λ (fs : Flights). record old { flights = fs }) none.1)) (told_unknown h old number told)
 unknown h old new number (inr lost) is told = subst (Told (PickedUp number Unknown ∷ h)) (sym (is ∙ ap (λ (fs : Flights). record old { flights = fs }) lost.1)) (told_lost h old number told lost.0)
 
+unknown_flies_not : (old new : State) (number : ℕ) → PicksUp old.flights number Unknown new.flights → flying_at old.flights number ≡ None
+unknown_flies_not old new number (inl none) = ap (option_and_then flying) none.0
+unknown_flies_not old new number (inr lost) = landed_flies_not old.flights number lost.0
+
+landed : (h : History) (old new : State) (flight : Flight) (answer : Answered) (now : ℕ) (given : Answered) → Told h old → LandsSomehow old flight answer now given new
+    → Follows h (Landed flight answer now given) × Told (Landed flight answer now given ∷ h) new
+landed h old new flight answer now given told (inl step) =
+    (inl step.1, subst (Told (Landed flight answer now given ∷ h)) (sym step.2) (told_missed h old flight answer now given told (λ flew. step.0 (told.flying flight.number ∙ flew))))
+landed h old new flight answer now given told (inr (inl step)) =
+    let flew = sym (told.flying flight.number) ∙ step.0 in
+    let l = latest_bridging h old flight.url now given told step.2 in
+    let is = is_bridged-failing answer given step.1 (stored-is_failing given.reply l.1.0 l.0 l.1.2) in (
+      inr (is, flew, l.0, l.1, l.2),
+      subst (Told (Landed flight answer now given ∷ h)) (sym step.3) (told_bridged h old flight answer now given new.flights told flew step.4 is),
+    )
+landed h old new flight answer now given told (inr (inr (inl step))) = (
+  inl step.1,
+  subst (λ (a : Answered). Told (Landed flight answer now a ∷ h) new) (sym step.1)
+      (subst (Told (Landed flight answer now answer ∷ h)) (sym step.4) (told_stored h old flight answer now step.2 new.flights told (sym (told.flying flight.number) ∙ step.0) step.3 step.5)),
+)
+landed h old new flight answer now given told (inr (inr (inr step))) = (
+  inl step.1,
+  subst (λ (a : Answered). Told (Landed flight answer now a ∷ h) new) (sym step.1)
+      (subst (Told (Landed flight answer now answer ∷ h)) (sym step.2) (told_not_stored h old flight answer now new.flights told (sym (told.flying flight.number) ∙ step.0) step.3)),
+)
+
 told_step : (h : History) (old new : State) (event : Event) → Step old event new → Told h old → Follows h event × Told (event ∷ h) new
 told_step h old new (Began url now (Hit answer)) step told =
     (latest_fresh h old url now answer told step.0, subst (Told (Began url now (Hit answer) ∷ h)) (sym step.1) (told_hit h old url now answer told))
 told_step h old new (Began url now (Join number)) step told =
     (sym (told.flying number) ∙ step.1, subst (Told (Began url now (Join number) ∷ h)) (sym step.3) (told_join h old url now number told))
 told_step h old new (Began url now (Lead flight ready)) step told =
-    ((ap (λ (f : Flight). f.url) step.2.2, ap (λ (f : Flight). f.number) step.2.2 ∙ told.number, none_flew h old url told step.1), led h old new url now flight ready step told)
+    ((ap (λ (f : Flight). f.url) step.2.2, ap (λ (f : Flight). f.number) step.2.2 ∙ told.number, step.2.3, none_flew h old url told step.1), led h old new url now flight ready step told)
 told_step h old new (Began url now Bypass) step told =
     (tt, subst (Told (Began url now Bypass ∷ h)) (sym step.0) (told_bypass h old url now told))
-told_step h old new (Landed flight answer now NoFlight back) step told =
-    ((λ flew. step.1.0 (told.flying flight.number ∙ flew), step.1.1), subst (Told (Landed flight answer now NoFlight back ∷ h)) (sym step.1.2) (told_missed h old flight answer now back told))
-told_step h old new (Landed flight answer now Bridged back) step told =
-    let l = latest_bridging h old flight.url now back told step.1.2 in (
-      (sym (told.flying flight.number) ∙ step.1.0, l.0, l.1, l.2),
-      subst (Told (Landed flight answer now Bridged back ∷ h)) (sym step.1.3) (told_bridged h old flight answer now back new.flights told step.1.4),
-    )
-told_step h old new (Landed flight answer now Stored back) step told = (
-  (sym (told.flying flight.number) ∙ step.1.0, step.1.1),
-  subst (λ (b : Answered). Told (Landed flight answer now Stored b ∷ h) new) (sym step.1.1)
-      (subst (Told (Landed flight answer now Stored answer ∷ h)) (sym step.1.4) (told_stored h old flight answer now step.1.2 new.flights told step.1.3 step.1.5)),
-)
-told_step h old new (Landed flight answer now NotStored back) step told = (
-  (sym (told.flying flight.number) ∙ step.1.0, step.1.1),
-  subst (λ (b : Answered). Told (Landed flight answer now NotStored b ∷ h) new) (sym step.1.1)
-      (subst (Told (Landed flight answer now NotStored answer ∷ h)) (sym step.1.2) (told_not_stored h old flight answer now new.flights told step.1.3)),
-)
+told_step h old new (Landed flight answer now given) step told = landed h old new flight answer now given told step.1
 told_step h old new (PickedUp number (Here answer)) step told = here h old new number answer step told
 told_step h old new (PickedUp number Flying) step told =
-    (tt, subst (Told (PickedUp number Flying ∷ h)) (sym (step.1 ∙ ap (λ (fs : Flights). record old { flights = fs }) step.0.1)) (told_flying h old number told))
-told_step h old new (PickedUp number Unknown) step told = (tt, unknown h old new number step.0 step.1 told)
+    (subst (λ (o : Option (List ℕ)). IsSome o) (told.flying number) step.0.0, subst (Told (PickedUp number Flying ∷ h)) (sym (step.1 ∙ ap (λ (fs : Flights). record old { flights = fs }) step.0.1)) (told_flying h old number told))
+told_step h old new (PickedUp number Unknown) step told = (sym (told.flying number) ∙ unknown_flies_not old new number step.0, unknown h old new number step.0 step.1 told)
 
 told_run : (capacity : ℕ) (h : History) (s : State) → Run capacity h s → Told h s × Keeps h
 told_run capacity [] s run = (subst (Told []) (sym run) (told_empty capacity), tt)
@@ -463,5 +420,5 @@ told_run capacity (event ∷ earlier) s run =
     let step = told_step earlier run.0 s event run.2 before.0 in
     (step.1, (step.0, before.1))
 
-pub cache_law : (capacity : ℕ) → CacheLaw capacity
+pub cache_law : CacheLaw
 cache_law capacity history s run = let all = told_run capacity history s run in (all.1, all.0.one)

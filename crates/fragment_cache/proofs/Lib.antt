@@ -1,4 +1,5 @@
 pub mod EntryLemmas
 pub mod FlightLemmas
 pub mod LawLemmas
+pub mod LookupLemmas
 pub mod NameLemmas

@@ -12,8 +12,8 @@ begins_named old new url now (Join number) sound step = tt
 begins_named old new url now (Lead flight ready) sound step = tt
 begins_named old new url now Bypass sound step = tt
 
-pub lands_named : (old new : State) (flight : Flight) (answer : Answered) (now : ℕ) (back : Answered) → IsSound old → answer.url ≡ flight.url → LandsSomehow old flight answer now back new → back.url ≡ flight.url
-lands_named old new flight answer now back sound named (inl step) = ap (λ (a : Answered). a.url) step.1 ∙ named
-lands_named old new flight answer now back sound named (inr (inl step)) = bridging_named old.entries flight.url now back sound.entries.named step.2
-lands_named old new flight answer now back sound named (inr (inr (inl step))) = ap (λ (a : Answered). a.url) step.1 ∙ named
-lands_named old new flight answer now back sound named (inr (inr (inr step))) = ap (λ (a : Answered). a.url) step.1 ∙ named
+pub lands_named : (old new : State) (flight : Flight) (answer : Answered) (now : ℕ) (given : Answered) → IsSound old → answer.url ≡ flight.url → LandsSomehow old flight answer now given new → given.url ≡ flight.url
+lands_named old new flight answer now given sound named (inl step) = ap (λ (a : Answered). a.url) step.1 ∙ named
+lands_named old new flight answer now given sound named (inr (inl step)) = bridging_named old.entries flight.url now given sound.entries.named step.2
+lands_named old new flight answer now given sound named (inr (inr (inl step))) = ap (λ (a : Answered). a.url) step.1 ∙ named
+lands_named old new flight answer now given sound named (inr (inr (inr step))) = ap (λ (a : Answered). a.url) step.1 ∙ named

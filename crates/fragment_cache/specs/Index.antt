@@ -15,8 +15,8 @@ abbrev pub Changes : List ℕ → Option ℕ → Numbers → Numbers → Type 0
 Changes url number before after = (q : List ℕ) → get (slice_cmp nat_cmp) after q ≡ cond (is_at (slice_cmp nat_cmp url) q) number (get (slice_cmp nat_cmp) before q)
 
 -- both indexes have the same numbers
-abbrev pub Agree : Numbers → Numbers → Type 0
-Agree before after = (q : List ℕ) → get (slice_cmp nat_cmp) after q ≡ get (slice_cmp nat_cmp) before q
+abbrev pub HaveSameNumbers : Numbers → Numbers → Type 0
+HaveSameNumbers before after = (q : List ℕ) → get (slice_cmp nat_cmp) after q ≡ get (slice_cmp nat_cmp) before q
 
 -- the index has the number of the flight that flies for each URL
 pub record Indexed (flying : BTreeMap (List ℕ) ℕ) (flights : Flights) (next : ℕ) : Type 0 where

@@ -1,49 +1,48 @@
 -- What every run of the cache machine keeps to, told from the calls and their answers alone. A history has the latest call first.
-use Rattle.std.specs.Prelude.{◌≡◌, ◌≢◌, ℕ, ◌+◌, ◌<◌, Bool, true, false, ◌&&◌, ⊤, bytes_eq, List, [], ◌∷◌, Option, Some, None, if◌then◌else◌}
-use Rattle.edge_types.specs.Answered.{Answered}
-use Rattle.fragment_cache.specs.Times.{second_after, expiry_of, extension_of}
-use Rattle.fragment_cache.specs.Machine.{State, same_number}
-use Rattle.fragment_cache.specs.Steps.{Hit, Join, Lead, Bypass, Landing, NoFlight, Bridged, Stored, NotStored, Here, Flying, Unknown}
+use Rattle.std.specs.Prelude.{◌≡◌, ◌≢◌, ℕ, ◌+◌, ◌<◌, ◌⊎◌, Bool, false, ◌&&◌, not, IsTrue, IsSome, ⊤, bytes_eq, List, [], ◌∷◌, Option, Some, None, if◌then◌else◌}
+use Rattle.std.specs.Option.{option_map_or}
+use Rattle.edge_types.specs.Answered.{Answered, failed}
+use Rattle.fragment_cache.specs.Times.{second_after, expiry_of, extension_of, is_failing}
+use Rattle.fragment_cache.specs.Machine.{Flight, State, same_number}
+use Rattle.fragment_cache.specs.Steps.{Hit, Join, Lead, Bypass, Here, Flying, Unknown}
 use Rattle.fragment_cache.specs.Runs.{Event, Began, Landed, PickedUp, Run}
 
 abbrev pub History : Type 0
 History = List Event
 
--- the flight landed here, with whatever answer
-abbrev pub is_landing : Landing → Bool
-is_landing NoFlight = false
-is_landing Bridged = true
-is_landing Stored = true
-is_landing NotStored = true
+-- the URL is this one
+abbrev pub is_of : List ℕ → Option (List ℕ) → Bool
+is_of url found = option_map_or (bytes_eq url) found false
 
--- it landed here and wasn't bridged
-abbrev pub is_own_landing : Landing → Bool
-is_own_landing NoFlight = false
-is_own_landing Bridged = false
-is_own_landing Stored = true
-is_own_landing NotStored = true
-
--- the answer of the latest landing for the URL that wasn't bridged, and the second of that landing
-abbrev pub latest : List ℕ → History → Option (Answered × ℕ)
-latest url [] = None
-latest url (Landed flight answer now landing back ∷ earlier) = if is_own_landing landing && bytes_eq flight.url url then Some (answer, now) else latest url earlier
-latest url (Began u now answer ∷ earlier) = latest url earlier
-latest url (PickedUp number answer ∷ earlier) = latest url earlier
-
--- the URL for which the flight of a number flies: it was led, and hasn't landed since
+-- the URL for which the flight of a number flies: it was led, and no flight of its number and URL has landed since
 abbrev pub flying_in : History → ℕ → Option (List ℕ)
 flying_in [] number = None
 flying_in (Began url now (Lead flight ready) ∷ earlier) number = if same_number flight.number number then Some flight.url else flying_in earlier number
 flying_in (Began url now (Hit answer) ∷ earlier) number = flying_in earlier number
 flying_in (Began url now (Join joined) ∷ earlier) number = flying_in earlier number
 flying_in (Began url now Bypass ∷ earlier) number = flying_in earlier number
-flying_in (Landed flight answer now landing back ∷ earlier) number = if is_landing landing && same_number flight.number number then None else flying_in earlier number
+flying_in (Landed flight answer now given ∷ earlier) number = if is_of flight.url (flying_in earlier flight.number) && same_number flight.number number then None else flying_in earlier number
 flying_in (PickedUp picked answer ∷ earlier) number = flying_in earlier number
+
+-- this very flight flies, so that it lands where it is handed in
+abbrev pub flies_in : History → Flight → Bool
+flies_in earlier flight = is_of flight.url (flying_in earlier flight.number)
+
+-- a landing is bridged: a failing answer is handed in, and another that isn't failing is given back
+abbrev pub is_bridged : Answered → Answered → Bool
+is_bridged answer given = is_failing answer.reply && not (is_failing given.reply)
+
+-- the answer of the latest landing for the URL that wasn't bridged, and the second of that landing
+abbrev pub latest : List ℕ → History → Option (Answered × ℕ)
+latest url [] = None
+latest url (Landed flight answer now given ∷ earlier) = if flies_in earlier flight && (not (is_bridged answer given) && bytes_eq flight.url url) then Some (answer, now) else latest url earlier
+latest url (Began u now answer ∷ earlier) = latest url earlier
+latest url (PickedUp number answer ∷ earlier) = latest url earlier
 
 -- the answer with which the flight of a number landed
 abbrev pub landed_in : History → ℕ → Option Answered
 landed_in [] number = None
-landed_in (Landed flight answer now landing back ∷ earlier) number = if is_landing landing && same_number flight.number number then Some back else landed_in earlier number
+landed_in (Landed flight answer now given ∷ earlier) number = if flies_in earlier flight && same_number flight.number number then Some given else landed_in earlier number
 landed_in (Began url now answer ∷ earlier) number = landed_in earlier number
 landed_in (PickedUp picked answer ∷ earlier) number = landed_in earlier number
 
@@ -54,7 +53,7 @@ leads (Began url now (Lead flight ready) ∷ earlier) = leads earlier + 1
 leads (Began url now (Hit answer) ∷ earlier) = leads earlier
 leads (Began url now (Join joined) ∷ earlier) = leads earlier
 leads (Began url now Bypass ∷ earlier) = leads earlier
-leads (Landed flight answer now landing back ∷ earlier) = leads earlier
+leads (Landed flight answer now given ∷ earlier) = leads earlier
 leads (PickedUp picked answer ∷ earlier) = leads earlier
 
 -- how often the flight of a number was joined
@@ -64,7 +63,7 @@ joins (Began url now (Join joined) ∷ earlier) number = if same_number joined n
 joins (Began url now (Hit answer) ∷ earlier) number = joins earlier number
 joins (Began url now (Lead flight ready) ∷ earlier) number = joins earlier number
 joins (Began url now Bypass ∷ earlier) number = joins earlier number
-joins (Landed flight answer now landing back ∷ earlier) number = joins earlier number
+joins (Landed flight answer now given ∷ earlier) number = joins earlier number
 joins (PickedUp picked answer ∷ earlier) number = joins earlier number
 
 -- how often its answer was picked up
@@ -74,7 +73,7 @@ heres (PickedUp picked (Here answer) ∷ earlier) number = if same_number picked
 heres (PickedUp picked Flying ∷ earlier) number = heres earlier number
 heres (PickedUp picked Unknown ∷ earlier) number = heres earlier number
 heres (Began url now answer ∷ earlier) number = heres earlier number
-heres (Landed flight answer now landing back ∷ earlier) number = heres earlier number
+heres (Landed flight answer now given ∷ earlier) number = heres earlier number
 
 -- the answer is that of the latest landing for the URL that wasn't bridged; it was to be stored, and this is its expiry
 abbrev pub IsLatest : History → List ℕ → Answered → ℕ → Type 0
@@ -84,25 +83,26 @@ IsLatest earlier url answer expiry = (at : ℕ) × (latest url earlier ≡ Some 
 abbrev pub NoneFlew : History → List ℕ → Type 0
 NoneFlew earlier url = (number : ℕ) → flying_in earlier number ≢ Some url
 
+-- a bridged landing is of a flight that flies, and gives the latest answer, before its expiry plus its extension
+abbrev pub Bridges : History → Flight → Answered → ℕ → Answered → Type 0
+Bridges earlier flight answer now given = IsTrue (is_bridged answer given) × (flying_in earlier flight.number ≡ Some flight.url) × (expiry : ℕ) × IsLatest earlier flight.url given expiry × (now < second_after expiry (extension_of given.reply))
+
 -- what a call says of the earlier ones
 abbrev pub Follows : History → Event → Type 0
 -- a hit is the latest answer, before its expiry
 Follows earlier (Began url now (Hit answer)) = (expiry : ℕ) × IsLatest earlier url answer expiry × (now < expiry)
 -- a join is of the flight that flies for the URL
 Follows earlier (Began url now (Join number)) = flying_in earlier number ≡ Some url
--- a flight is led where none flies for the URL; flights are numbered from 0, in turn
-Follows earlier (Began url now (Lead flight ready)) = (flight.url ≡ url) × (flight.number ≡ leads earlier) × NoneFlew earlier url
+-- a flight is led where none flies for the URL, with a failed answer; flights are numbered from 0, in turn
+Follows earlier (Began url now (Lead flight ready)) = (flight.url ≡ url) × (flight.number ≡ leads earlier) × (ready ≡ failed url) × NoneFlew earlier url
 Follows earlier (Began url now Bypass) = ⊤
--- a bridged flight lands with the latest answer, before its expiry plus its extension
-Follows earlier (Landed flight answer now Bridged back) = (flying_in earlier flight.number ≡ Some flight.url) × (expiry : ℕ) × IsLatest earlier flight.url back expiry × (now < second_after expiry (extension_of back.reply))
--- any other lands with the answer that is handed in, and any other `land` gives that back
-Follows earlier (Landed flight answer now Stored back) = (flying_in earlier flight.number ≡ Some flight.url) × (back ≡ answer)
-Follows earlier (Landed flight answer now NotStored back) = (flying_in earlier flight.number ≡ Some flight.url) × (back ≡ answer)
-Follows earlier (Landed flight answer now NoFlight back) = (flying_in earlier flight.number ≢ Some flight.url) × (back ≡ answer)
+-- a landing that isn't bridged, and a `land` of a flight that doesn't fly, give back what is handed in
+Follows earlier (Landed flight answer now given) = (given ≡ answer) ⊎ Bridges earlier flight answer now given
 -- a pick-up gives the answer with which the flight landed, and there was a join for it
 Follows earlier (PickedUp number (Here answer)) = (landed_in earlier number ≡ Some answer) × (heres earlier number < joins earlier number)
-Follows earlier (PickedUp number Flying) = ⊤
-Follows earlier (PickedUp number Unknown) = ⊤
+-- a flight whose answer is still to come flies, and one that is unknown doesn't
+Follows earlier (PickedUp number Flying) = IsSome (flying_in earlier number)
+Follows earlier (PickedUp number Unknown) = flying_in earlier number ≡ None
 
 -- each call follows from those before it
 abbrev pub Keeps : History → Type 0
@@ -114,5 +114,5 @@ abbrev pub OneFlies : History → Type 0
 OneFlies history = (url : List ℕ) (one other : ℕ) → flying_in history one ≡ Some url → flying_in history other ≡ Some url → one ≡ other
 
 -- The law of the cache: in every run of a new shard each call follows from the earlier ones, and at most one flight flies for a URL.
-abbrev pub CacheLaw : ℕ → Type 0
-CacheLaw capacity = (history : History) (s : State) → Run capacity history s → Keeps history × OneFlies history
+abbrev pub CacheLaw : Type 0
+CacheLaw = (capacity : ℕ) (history : History) (s : State) → Run capacity history s → Keeps history × OneFlies history

@@ -8,9 +8,9 @@ use Rattle.fragment_cache.specs.Machine.{Flight, Airspace, airspace, State, Flig
 
 -- what `begin` answers
 pub data BeginAnswer : Type 0 where
-  Hit : Answered → BeginAnswer
-  Join : ℕ → BeginAnswer
-  Lead : Flight → Answered → BeginAnswer
+  Hit : (answer : Answered) → BeginAnswer
+  Join : (number : ℕ) → BeginAnswer
+  Lead : (flight : Flight) (ready : Answered) → BeginAnswer
   Bypass : BeginAnswer
 
 -- how a `land` goes
@@ -22,7 +22,7 @@ pub data Landing : Type 0 where
 
 -- what `pick` answers
 pub data PickAnswer : Type 0 where
-  Here : Answered → PickAnswer
+  Here : (answer : Answered) → PickAnswer
   Flying : PickAnswer
   Unknown : PickAnswer
 
@@ -31,8 +31,8 @@ abbrev pub IsFull : Airspace → Type 0
 IsFull a = (MAX_FLIGHTS ≤ length a.flights) ⊎ (2 ^ 64 - 1 ≤ a.next)
 
 -- There is room for one more flight: it leaves under the next number, and its leader also gets a failed answer.
-abbrev pub Leads : Airspace → List ℕ → Flight → Answered → Airspace → Type 0
-Leads old url flight ready new = (length old.flights < MAX_FLIGHTS) × (old.next < 2 ^ 64 - 1) × (flight ≡ record { number = old.next; url = url }) × (ready ≡ failed url)
+abbrev pub Departs : Airspace → List ℕ → Flight → Answered → Airspace → Type 0
+Departs old url flight ready new = (length old.flights < MAX_FLIGHTS) × (old.next < 2 ^ 64 - 1) × (flight ≡ record { number = old.next; url = url }) × (ready ≡ failed url)
     × (new ≡ record { flights = old.flights ++ (old.next, departed url) ∷ []; next = old.next + 1 })
 
 -- From old, a `begin` of the URL may answer this and leave new.
@@ -42,33 +42,33 @@ Begins old url now (Hit answer) new = (fresh old.entries url now ≡ Some answer
 -- a flight of the URL flies: one more pick-up of it is noted
 Begins old url now (Join number) new = (fresh old.entries url now ≡ None) × (flying_at old.flights number ≡ Some url) × (picks_at old.flights number < MAX_PICKS) × (new ≡ record old { flights = changed number one_more old.flights })
 -- none flies: a flight leaves
-Begins old url now (Lead flight ready) new = (fresh old.entries url now ≡ None) × NoneFlies old.flights url × Leads (airspace old) url flight ready (airspace new) × (new ≡ record old { flights = new.flights; next = new.next })
--- nothing changes; in place of a join only where the flight has all the pick-ups that it may have
+Begins old url now (Lead flight ready) new = (fresh old.entries url now ≡ None) × NoneFlies old.flights url × Departs (airspace old) url flight ready (airspace new) × (new ≡ record old { flights = new.flights; next = new.next })
+-- nothing changes: in place of a hit or of a lead at any time, since no clause can tell that a growth was refused; in place of a join only where the flight has all the pick-ups that it may have
 Begins old url now Bypass new = (new ≡ old) × (fresh old.entries url now ≡ None → (number : ℕ) → flying_at old.flights number ≡ Some url → picks_at old.flights number ≡ MAX_PICKS)
 
 -- The flight of this number lands with the answer and keeps its pick-ups; it may be gone, and is where it has none.
 abbrev pub Arrives : Flights → ℕ → Answered → Flights → Type 0
 Arrives old number answer new = ((0 < picks_at old number) × (new ≡ changed number (landed_with answer) old)) ⊎ (new ≡ without number old)
 
--- From old, a `land` of the flight with the answer may go so, answer `back`, and leave new.
+-- From old, a `land` of the flight with the answer may go this way, give `given` back, and leave new.
 abbrev pub Lands : State → Flight → Answered → ℕ → Landing → Answered → State → Type 0
 -- no such flight flies here: nothing changes
-Lands old flight answer now NoFlight back new = (flying_at old.flights flight.number ≢ Some flight.url) × (back ≡ answer) × (new ≡ old)
+Lands old flight answer now NoFlight given new = (flying_at old.flights flight.number ≢ Some flight.url) × (given ≡ answer) × (new ≡ old)
 -- the origin fails, and the URL's entry can stand in: no entry changes or moves, and its answer is given and landed with
-Lands old flight answer now Bridged back new = (flying_at old.flights flight.number ≡ Some flight.url) × IsTrue (is_failing answer.reply) × (bridging old.entries flight.url now ≡ Some back)
-    × (new ≡ record old { flights = new.flights }) × Arrives old.flights flight.number back new.flights
+Lands old flight answer now Bridged given new = (flying_at old.flights flight.number ≡ Some flight.url) × IsTrue (is_failing answer.reply) × (bridging old.entries flight.url now ≡ Some given)
+    × (new ≡ record old { flights = new.flights }) × Arrives old.flights flight.number given new.flights
 -- the answer is to be stored: it is, until its expiry
-Lands old flight answer now Stored back new = (flying_at old.flights flight.number ≡ Some flight.url) × (back ≡ answer)
+Lands old flight answer now Stored given new = (flying_at old.flights flight.number ≡ Some flight.url) × (given ≡ answer)
     × (expiry : ℕ) × (expiry_of answer now ≡ Some expiry) × (new ≡ record old { entries = stored old.capacity flight.url (record { answer = answer; expiry = expiry }) old.entries; flights = new.flights })
     × Arrives old.flights flight.number answer new.flights
--- it is not, or a growth was refused: an older entry of the URL is taken out
-Lands old flight answer now NotStored back new = (flying_at old.flights flight.number ≡ Some flight.url) × (back ≡ answer)
+-- it isn't, or a growth was refused, which no clause can tell, so that any landing may go this way: an older entry of the URL is taken out
+Lands old flight answer now NotStored given new = (flying_at old.flights flight.number ≡ Some flight.url) × (given ≡ answer)
     × (new ≡ record old { entries = others flight.url old.entries; flights = new.flights }) × Arrives old.flights flight.number answer new.flights
 
 -- it goes in one of these ways
 abbrev pub LandsSomehow : State → Flight → Answered → ℕ → Answered → State → Type 0
-LandsSomehow old flight answer now back new =
-    Lands old flight answer now NoFlight back new ⊎ (Lands old flight answer now Bridged back new ⊎ (Lands old flight answer now Stored back new ⊎ Lands old flight answer now NotStored back new))
+LandsSomehow old flight answer now given new =
+    Lands old flight answer now NoFlight given new ⊎ (Lands old flight answer now Bridged given new ⊎ (Lands old flight answer now Stored given new ⊎ Lands old flight answer now NotStored given new))
 
 -- From old, a `pick` of the number may answer this and leave new flights.
 abbrev pub PicksUp : Flights → ℕ → PickAnswer → Flights → Type 0
@@ -76,7 +76,7 @@ abbrev pub PicksUp : Flights → ℕ → PickAnswer → Flights → Type 0
 PicksUp old number (Here answer) new = (landed_at old number ≡ Some answer) × (new ≡ picked number old)
 -- it flies
 PicksUp old number Flying new = IsSome (flying_at old number) × (new ≡ old)
--- there is no such flight; or a growth was refused, and the pick-up is used up
+-- there is no such flight; or a growth was refused, which no clause can tell, and the pick-up is used up
 PicksUp old number Unknown new = ((kept_at old number ≡ None) × (new ≡ old)) ⊎ (IsSome (landed_at old number) × (new ≡ picked number old))
 
 -- nothing else changes

@@ -1,4 +1,5 @@
--- For how long answers are good, in whole seconds of the cache's clock.
+-- For how long answers are good, in whole seconds of the cache's clock. `max-age=N+M` and `no-store`: Edge Architecture Specification 1.0, "Surrogate-Control Header".
+-- Our profile: successes alone are stored, none with a `max-age` of 0, and the extension M serves where the origin fails, and there alone.
 use Rattle.std.specs.Prelude.{ℕ, ◌+◌, ◌-◌, ◌^◌, Bool, true, ◌&&◌, not, nat_le, min, Option, None, Some, if◌then◌else◌}
 use Rattle.edge_types.specs.declared.answer.Reply.{Reply}
 use Rattle.edge_types.specs.declared.answer.Reply.TheVariants.{Failed, Got}

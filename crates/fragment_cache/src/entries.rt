@@ -145,19 +145,13 @@ impl Entries {
             × (self.new ≡ record self.old { entries = stored self.old.capacity url.now (record { answer = answer.now; expiry = expiry }) self.old.entries }))
             (self.new ≡ record self.old { entries = others url.now self.old.entries }) }
     {
-        match expiry(answer.get(), now) {
-            Some(expiry) => match self.try_put(url, answer, expiry) {
-                Ok(()) => true,
-                Err(NoMemory) => {
-                    self.remove(url);
-                    false
-                }
-            },
-            None => {
-                self.remove(url);
-                false
+        if let Some(expiry) = expiry(answer.get(), now) {
+            if self.try_put(url, answer, expiry).is_ok() {
+                return true;
             }
         }
+        self.remove(url);
+        false
     }
 
     fn try_put(&mut self, url: &PageUrl, answer: &SharedAnswer, expiry: u64) -> Result<(), NoMemory>

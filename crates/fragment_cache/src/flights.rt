@@ -1,7 +1,8 @@
 //! The flights of a shard: fetches that are under way, and answers that wait for their pick-ups.
 //! Clauses see them by number, in order, and the next number.
 
-use crate::kept::{Kept, MAX_PICKS, arrive, note_pick_up, picks, use_up};
+use crate::kept::{Kept, MAX_PICKS};
+use crate::kept_flights::{arrive, note_pick_up, picks, use_up};
 use edge_types::{Answer, NoMemory, PageUrl, SharedAnswer};
 use std::alloc::Global;
 use std::collections::BTreeMap;
@@ -82,7 +83,7 @@ impl Flights {
     ghost use Rattle.fragment_cache.specs.Machine as machine;
     ghost use Rattle.fragment_cache.specs.Machine.{kept_at, picks_at, flying_at, NoneFlies, changed, one_more, departed};
     ghost use Rattle.fragment_cache.specs.Sound.{AreFlights};
-    ghost use Rattle.fragment_cache.specs.Steps.{Arrives, PicksUp, IsFull, Leads};
+    ghost use Rattle.fragment_cache.specs.Steps.{Arrives, PicksUp, IsFull, Departs};
     ghost use Rattle.fragment_cache.specs.Shown.{picked_answer};
 
     pub(crate) fn new(alloc: Global) -> Flights
@@ -144,7 +145,7 @@ impl Flights {
         requires { NoneFlies self.old.flights url.now }
         ensures ok { IfOk result (λ found. MatchOption found
             (IsFull self.old × (self.new ≡ self.old))
-            (λ lead. Leads self.old url.now lead.0 (arc_value lead.1) self.new)) }
+            (λ lead. Departs self.old url.now lead.0 (arc_value lead.1) self.new)) }
         ensures err { OnErr result (self.new ≡ self.old) }
     {
         if self.kept.len() >= MAX_FLIGHTS || self.next == u64::MAX {
@@ -157,7 +158,7 @@ impl Flights {
         requires none { NoneFlies self.old.flights url.now }
         requires room { length self.old.flights < MAX_FLIGHTS }
         requires numbers { self.old.next < 2 ^ 64 - 1 }
-        ensures ok { IfOk result (λ lead. Leads self.old url.now lead.0 (arc_value lead.1) self.new) }
+        ensures ok { IfOk result (λ lead. Departs self.old url.now lead.0 (arc_value lead.1) self.new) }
         ensures err { OnErr result (self.new ≡ self.old) }
     {
         let number = self.next;
@@ -209,7 +210,7 @@ ghost use Rattle.std.specs.BTreeMap.{get};
 ghost use Rattle.std.specs.Ordering.{nat_cmp};
 ghost use Rattle.std.specs.Cmp.Lexicographic.{slice_cmp};
 ghost use Rattle.fragment_cache.specs.Machine.{departed};
-ghost use Rattle.fragment_cache.specs.Index.{Changes, Agree};
+ghost use Rattle.fragment_cache.specs.Index.{Changes, HaveSameNumbers};
 
 // Puts a flight that has just left into the index and among the flights, or into neither.
 fn open(
@@ -222,7 +223,7 @@ fn open(
     requires last { AllByRecursion (λ e. e.0 < number) kept.old.entries }
     ensures index { OnOk result (Changes url.now (Some number) flying.old flying.new) }
     ensures flights { OnOk result (kept.new.entries ≡ kept.old.entries ++ (number, departed url.now) ∷ []) }
-    ensures index_stays { OnErr result (Agree flying.old flying.new) }
+    ensures index_stays { OnErr result (HaveSameNumbers flying.old flying.new) }
     ensures flights_stay { OnErr result (kept.new.entries ≡ kept.old.entries) }
 {
     let departed = Kept::departed(url.share()?);

@@ -1,16 +1,31 @@
-//! The law of the cache, over every list of calls.
+//! What holds of every shard, and of every list of calls: each is the contract of a function that
+//! does nothing.
 
+ghost use Rattle.std.specs.Prelude.{◌≡◌};
 ghost use Rattle.fragment_cache.specs.Law.{CacheLaw};
 
-/// Over every list of calls of a shard of this capacity that was new: a hit is the answer of the
-/// latest landing for its URL that wasn't bridged, before the expiry of that answer; a bridged
-/// flight landed with such an answer, before its expiry plus its extension; a URL has at most one
-/// flight flying, which every join for it names; a pick-up gives the answer with which the flight
-/// of that number landed, at most once for each join. Takes no memory.
+use crate::flights::MAX_FLIGHTS;
+use crate::kept::MAX_PICKS;
+use crate::shard::MAX_CAPACITY;
+
+/// Over every list of calls of a shard that was new, told from the calls and their answers alone:
+/// a hit is the answer of the latest landing for its URL that wasn't bridged, before the expiry of
+/// that answer; a bridged flight landed with such an answer, before its expiry plus its extension,
+/// and any other `land` gives back what was handed in; a URL has at most one flight flying, which
+/// every join for it names; flights are led in turn, each with a failed answer of its URL; a
+/// pick-up gives the answer with which the flight of that number landed, at most once for each
+/// join, `Flying` only while it flies, and `Unknown` only while it doesn't. Takes no memory.
 ///
 /// Our profile.
-pub fn every_run_keeps_the_law(capacity: usize)
-    ensures { CacheLaw capacity }
-{
-    let _ = capacity;
-}
+pub fn every_run_keeps_the_law()
+    ensures { CacheLaw }
+{}
+
+/// The limits of a shard, in figures. Takes no memory.
+///
+/// Our profile.
+pub fn limits_of_shards()
+    ensures capacity { MAX_CAPACITY ≡ 1024 }
+    ensures flights { MAX_FLIGHTS ≡ 1024 }
+    ensures pick_ups { MAX_PICKS ≡ 65535 }
+{}

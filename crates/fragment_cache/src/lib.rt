@@ -3,10 +3,11 @@
 #![tactic(auto)]
 
 mod entries;
-pub mod flights;
+mod flights;
 mod kept;
+mod kept_flights;
 pub mod laws;
-pub mod shard;
+mod shard;
 mod times;
 
 pub use flights::{Flight, MAX_FLIGHTS, Picked};

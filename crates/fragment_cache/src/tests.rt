@@ -1,8 +1,8 @@
 //! Tables of calls on a new shard and what each answers.
 ghost use Rattle.std.specs.Prelude.{◌≤◌};
 
-use crate::{Begun, Flight, MAX_CAPACITY, MAX_FLIGHTS, MAX_PICKS, Picked, Shard};
-use edge_types::{Answer, Control, Octets, PageUrl, Reply};
+use crate::{Begun, Flight, Picked, Shard};
+use edge_types::{Answer, Control, Octets, PageUrl};
 use std::alloc::Global;
 use std::process::Abort;
 use std::sync::Arc;
@@ -80,10 +80,7 @@ fn answer(alloc: Global, url: PageUrl, told: Told) -> Result<Arc<Answer>, Fail> 
 }
 
 fn body(answer: &Answer) -> Option<u8> {
-    match answer.reply() {
-        Reply::Failed => None,
-        Reply::Got { body, .. } => body.as_bytes().first().copied(),
-    }
+    answer.body().first().copied()
 }
 
 // A shard, and what its leaders hold.
@@ -145,7 +142,7 @@ impl Desk {
 
 fn new_desk(alloc: Global, capacity: usize) -> Result<Desk, Fail>
     requires from { 1 ≤ capacity }
-    requires to { capacity ≤ MAX_CAPACITY }
+    requires to { capacity ≤ 1024 }
 {
     Ok(Desk {
         shard: Shard::new(alloc, capacity)?,
@@ -162,7 +159,7 @@ fn play(
     rows: &[(Call, Says)],
 ) -> Result<(), Fail>
     requires from { 1 ≤ capacity }
-    requires to { capacity ≤ MAX_CAPACITY }
+    requires to { capacity ≤ 1024 }
 {
     let mut desk = new_desk(alloc, capacity)?;
     for (at, (call, says)) in rows.iter().enumerate() {
@@ -370,7 +367,7 @@ fn pick_ups_have_a_limit(rt: HostRuntime) -> Result<(), Fail> {
     let url = url(alloc, A)?;
     let mut desk = new_desk(alloc, 1)?;
     assert_eq!(rt; desk.begin(&url, 5)?, Lead(0));
-    for _ in 0..MAX_PICKS {
+    for _ in 0..65_535 {
         assert_eq!(rt; desk.begin(&url, 5)?, Join(0));
     }
     assert_eq!(rt; desk.begin(&url, 5)?, Says::Bypass);
@@ -381,7 +378,7 @@ fn pick_ups_have_a_limit(rt: HostRuntime) -> Result<(), Fail> {
 fn flights_have_a_limit(rt: HostRuntime) -> Result<(), Fail> {
     let alloc = rt.alloc();
     let mut desk = new_desk(alloc, 1)?;
-    for number in 0..MAX_FLIGHTS as u64 {
+    for number in 0..1024 {
         let text = format!(in alloc; "http://a.test/{number}")?;
         assert_eq!(rt; desk.begin(&url(alloc, text.as_str())?, 5)?, Lead(number));
     }

@@ -15,7 +15,8 @@ use Rattle.surrogate_headers.specs.declared.directive.Asks.{Asks}
 use Rattle.surrogate_headers.specs.declared.directive.Asks.TheVariants.{NoStore, MaxAge, Content}
 use Rattle.surrogate_headers.specs.Token.{is_token_byte, is_token}
 use Rattle.surrogate_headers.specs.Cut.{is_blank, skip_blanks}
-use Rattle.surrogate_headers.specs.Parameter.{is_white, ends_value, around, bare_value, value_after_equals, value_at, seconds_of, age, age_around, age_of, names_esi}
+use Rattle.edge_types.specs.WhiteSpace.{is_ws}
+use Rattle.surrogate_headers.specs.Parameter.{ends_value, around, bare_value, value_after_equals, value_at, seconds_of, age, age_around, age_of, names_esi}
 use Rattle.surrogate_headers.specs.Directive.{Target, Every, Device, Directive, ends_name, name_of, asked_by, token_behind, target_of, directive_of}
 use Rattle.surrogate_headers.specs.Spelling.{EachPasses, NonePasses, IsNamed, SpellsValue, SpellsSeconds, SpellsAge, SpellsParameter, SpellsAsks, SpellsTarget, Spells}
 use Rattle.surrogate_headers.proofs.RunLemmas.{run_stops, stops_at, around-spelled, around-none}
@@ -46,7 +47,7 @@ age_of-spelled value a (inr s) =
 
 -- a blank and a `;` end a value and a name
 blank_ends_value : (b : ℕ) → is_blank b ≡ true → ends_value b ≡ true
-unfolding ends_value is_white
+unfolding ends_value
 blank_ends_value b e = elim (or_cases (eqb b 32) (eqb b 9) e) [
   | inl space ↦ rw (eqb-true b 32 space) refl
   | inr tab ↦ rw (eqb-true b 9 tab) refl
@@ -57,7 +58,7 @@ unfolding ends_name
 blank_ends_name b e = ap (λ t. t || (eqb b 61 || eqb b 59)) e
 
 semicolon_ends_value : ends_value 59 ≡ true
-unfolding ends_value is_white
+unfolding ends_value
 semicolon_ends_value = refl
 
 semicolon_ends_name : ends_name 59 ≡ true
@@ -86,7 +87,7 @@ bare_value-spelled value rest some none stop =
 
 quote_ends_value : (b : ℕ) → not (ends_value b) ≡ true → eqb b 34 ≡ false
 unfolding ends_value
-quote_ends_value b e = (or_parts (eqb b 59) (eqb b 34) (or_parts (eqb b 44) (eqb b 59 || eqb b 34) (or_parts (is_white b) (eqb b 44 || (eqb b 59 || eqb b 34)) (not-true (ends_value b) e)).1).1).1
+quote_ends_value b e = (or_parts (eqb b 59) (eqb b 34) (or_parts (eqb b 44) (eqb b 59 || eqb b 34) (or_parts (is_ws b) (eqb b 44 || (eqb b 59 || eqb b 34)) (not-true (ends_value b) e)).1).1).1
 
 value-spelled : (spelling value rest : List ℕ) → SpellsValue spelling value → position_or_len ends_value rest ≡ 0 → value_after_equals (spelling ++ rest) ≡ Some (value, rest)
 value-spelled spelling value rest (inl s) stop =

@@ -5,19 +5,16 @@ use Rattle.std.specs.Borrow.{Bor}
 use Rattle.std.specs.Char.{is_ascii_digit}
 use Rattle.std.specs.Str.{byte}
 use Rattle.std.specs.Str.Parse.{digits_value}
+use Rattle.edge_types.specs.WhiteSpace.{is_ws}
 use Rattle.surrogate_headers.specs.declared.parameter.Age.{Age}
 
 infixl 10 ◌>>=◌
 abbrev pub ◌>>=◌ : {A B : Type 0} → Option A → (A → Option B) → Option B
 o >>= f = option_and_then f o
 
--- a space, a tab, a carriage return or a line feed
-unfoldable pub is_white : ℕ → Bool
-is_white b = b == byte " " || (b == byte "\t" || (b == byte "\r" || b == byte "\n"))
-
 -- a byte that ends a value without quotes
 unfoldable pub ends_value : ℕ → Bool
-ends_value b = is_white b || (b == byte "," || (b == byte ";" || b == byte "\""))
+ends_value b = is_ws b || (b == byte "," || (b == byte ";" || b == byte "\""))
 
 -- what stands before the first of this byte, and after it, where there is one
 unfoldable pub around : ℕ → List ℕ → Option (List ℕ × List ℕ)
@@ -69,7 +66,7 @@ is_filled (b ∷ bs) = true
 
 -- the words of a value: the pieces between its white bytes that aren't empty
 unfoldable pub words_of : List ℕ → List (List ℕ)
-words_of value = filter is_filled (slice_split is_white value)
+words_of value = filter is_filled (slice_split is_ws value)
 
 -- whether one of the words is `ESI/1.0`
 unfoldable pub names_esi : List ℕ → Bool

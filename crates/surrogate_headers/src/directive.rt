@@ -1,4 +1,4 @@
-//! A directive: what it asks, and which device it is aimed at.
+// A directive: what it asks, and which device it is aimed at.
 ghost use Rattle.std.specs.Prelude.{◌≡◌, ◌≤◌, length, bytes_eq, IfSome};
 ghost use Rattle.std.specs.List.{position_or_len};
 ghost use Rattle.std.specs.Option.{option_map};

@@ -1,4 +1,4 @@
-//! What was found so far among a value's directives.
+// What was found so far among a value's directives.
 ghost use Rattle.std.specs.Prelude.{◌≡◌, ℕ, List, []};
 ghost use Rattle.std.specs.Option.{option_or};
 ghost use Rattle.surrogate_headers.specs.Directive.{shown_target};

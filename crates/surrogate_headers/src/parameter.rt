@@ -1,9 +1,11 @@
-//! The parameter of a directive: the value after its name's `=`.
+// The parameter of a directive: the value after its name's `=`.
 ghost use Rattle.std.specs.Prelude.{◌≡◌, ◌==◌, ◌<◌, ◌≤◌, length, position, bytes_eq, codes, IfSome};
 ghost use Rattle.std.specs.List.{position_or_len};
 ghost use Rattle.std.specs.Option.{option_map};
 ghost use Rattle.surrogate_headers.specs.Parameter as spec;
 ghost use Rattle.surrogate_headers.specs.Parameter.{around, bare_value, value_after_equals, value_at, seconds_of, age_of, names_esi, shown_pair};
+
+use edge_types::is_ws;
 
 /// The largest number of seconds that counts; a larger one counts as this.
 pub const MAX_SECONDS: u32 = 2_147_483_647;
@@ -18,19 +20,12 @@ pub(crate) struct Age {
     pub(crate) extension: u32,
 }
 
-#[tactic(auto, unfolding(crate::specs::Parameter::is_white))]
-fn is_white(byte: u8) -> bool
-    ensures { result ≡ spec.is_white byte }
-{
-    matches!(byte, b' ' | b'\t' | b'\r' | b'\n')
-}
-
 // Whether the byte ends a value without quotes.
 #[tactic(auto, unfolding(crate::specs::Parameter::ends_value))]
 fn ends_value(byte: u8) -> bool
     ensures { result ≡ spec.ends_value byte }
 {
-    is_white(byte) || matches!(byte, b',' | b';' | b'"')
+    is_ws(byte) || matches!(byte, b',' | b';' | b'"')
 }
 
 fn place_of(mark: u8, text: &[u8]) -> Option<usize>
@@ -146,5 +141,5 @@ fn is_esi(word: &[u8]) -> bool
 pub(crate) fn names_esi(value: &[u8]) -> bool
     ensures { result ≡ names_esi value.now }
 {
-    value.split(|byte| is_white(*byte)).any(|word| is_esi(word))
+    value.split(|byte| is_ws(*byte)).any(|word| is_esi(word))
 }

@@ -1,4 +1,4 @@
-//! The parts of a header's value, one after another.
+// The parts of a header's value, one after another.
 ghost use Rattle.std.specs.Prelude.{◌≡◌, ◌∷◌, reverse};
 ghost use Rattle.std.specs.Iterator.{YieldsFirstRef, item_count};
 ghost use Rattle.surrogate_headers.specs.Cut as spec;

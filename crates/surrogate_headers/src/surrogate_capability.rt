@@ -1,4 +1,4 @@
-//! What the edge tells an origin that it can do.
+// What the edge tells an origin that it can do.
 ghost use Rattle.std.specs.Prelude.{◌≡◌, IfOk, IsTrue};
 ghost use Rattle.surrogate_headers.specs.Token.{capability_of, is_token};
 

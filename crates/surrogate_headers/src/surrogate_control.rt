@@ -1,4 +1,4 @@
-//! What an origin asks of the edge.
+// What an origin asks of the edge.
 ghost use Rattle.std.specs.Prelude.{◌≡◌, ℕ, List, ◌∷◌};
 ghost use Rattle.surrogate_headers.specs.Control.{control_of, directives_among};
 ghost use Rattle.surrogate_headers.specs.Found.{settled};

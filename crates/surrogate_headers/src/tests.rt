@@ -1,4 +1,4 @@
-//! Worked rows of the profile and of the specification.
+// Worked rows of the profile and of the specification.
 use crate::{capability, control, is_token};
 use edge_types::Control;
 use std::test::Fail;

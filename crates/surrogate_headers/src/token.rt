@@ -1,4 +1,4 @@
-//! Tokens, by which devices are named.
+// Tokens, by which devices are named.
 ghost use Rattle.std.specs.Prelude.{◌≡◌};
 ghost use Rattle.surrogate_headers.specs.Token as spec;
 

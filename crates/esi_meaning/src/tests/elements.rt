@@ -16,17 +16,17 @@ const PAGES: [(&str, &str, &str); 16] = [
     (
         "an attempt whose include continues",
         "/p 200 esi <esi:try><esi:attempt>A<esi:include src=\"/x\" alt=\"/y\" onerror=\"continue\"/>B</esi:attempt><esi:except>E</esi:except></esi:try>\n/x 404 plain no\n/y failed",
-        "200 AB",
+        "200 text/p AB",
     ),
     (
         "an attempt that fails",
         "/p 200 esi <esi:try><esi:attempt>T<esi:include src=\"/x\"/></esi:attempt><esi:except>E</esi:except></esi:try>\n/x failed",
-        "200 E",
+        "200 text/p E",
     ),
     (
         "an attempt that succeeds",
         "/p 200 esi <esi:try><esi:attempt>T<esi:include src=\"/x\"/></esi:attempt><esi:except>E</esi:except></esi:try>\n/x 200 plain 1",
-        "200 T1",
+        "200 text/p T1",
     ),
     (
         "an except that fails",
@@ -36,37 +36,37 @@ const PAGES: [(&str, &str, &str); 16] = [
     (
         "a try in a try",
         "/p 200 esi a<esi:try><esi:attempt>b<esi:try><esi:attempt><esi:include src=\"/x\"/></esi:attempt><esi:except>c<esi:include src=\"/y\"/></esi:except></esi:try></esi:attempt><esi:except>d</esi:except></esi:try>e",
-        "200 ade",
+        "200 text/p ade",
     ),
     (
         "the except before the attempt",
         "/p 200 esi <esi:try> <esi:except>E</esi:except><esi:attempt>T</esi:attempt></esi:try>",
-        "200 T",
+        "200 text/p T",
     ),
     (
         "the otherwise for none",
         "/p 200 esi <esi:choose><esi:when test=\"$(HTTP_COOKIE{g})=='1'\">Y</esi:when><esi:otherwise>N</esi:otherwise></esi:choose>",
-        "200 N",
+        "200 text/p N",
     ),
     (
         "the first of two that hold",
         "/p 200 esi <esi:choose><esi:when test=\"1\">a</esi:when><esi:when test=\"2\">b</esi:when></esi:choose>",
-        "200 a",
+        "200 text/p a",
     ),
     (
         "an otherwise before a branch that holds",
         "/p 200 esi <esi:choose><esi:otherwise>N</esi:otherwise><esi:when test=\"1\">Y</esi:when></esi:choose>",
-        "200 Y",
+        "200 text/p Y",
     ),
     (
         "no branch",
         "/p 200 esi a<esi:choose><esi:when test=\"''\">Y</esi:when></esi:choose>b",
-        "200 ab",
+        "200 text/p ab",
     ),
     (
         "a branch that isn't taken asks nobody",
         "/p 200 esi <esi:choose><esi:when test=\"''\"><esi:include src=\"/x\"/></esi:when><esi:otherwise>N</esi:otherwise></esi:choose>",
-        "200 N",
+        "200 text/p N",
     ),
     (
         "a test that can't be read",
@@ -76,22 +76,22 @@ const PAGES: [(&str, &str, &str); 16] = [
     (
         "a default in a block",
         "/p 200 esi <!--esi <esi:vars>$(QUERY_STRING{q}|'no')</esi:vars>-->",
-        "200  no",
+        "200 text/p  no",
     ),
     (
         "a comment and a block",
         "/p 200 esi a<!--esi b-->c<esi:comment text=\"t\"/>",
-        "200 a bc",
+        "200 text/p a bc",
     ),
     (
         "a remove",
         "/p 200 esi a<esi:remove><esi:bogus </esi:remove>b",
-        "200 ab",
+        "200 text/p ab",
     ),
     (
         "a block that ends outside vars",
         "/p 200 esi <esi:vars><!--esi </esi:vars>-->z",
-        "200  z",
+        "200 text/p  z",
     ),
 ];
 
@@ -110,61 +110,61 @@ const ASKED: [(&str, Fields, &str, &str); 10] = [
         "the first branch",
         GROUP_ONE,
         "/p 200 esi <esi:choose><esi:when test=\"$(HTTP_COOKIE{g})=='1'\">Y</esi:when><esi:otherwise>N</esi:otherwise></esi:choose>",
-        "200 Y",
+        "200 text/p Y",
     ),
     (
         "the otherwise for another value",
         GROUP_OTHER,
         "/p 200 esi <esi:choose><esi:when test=\"$(HTTP_COOKIE{g})=='1'\">Y</esi:when><esi:otherwise>N</esi:otherwise></esi:choose>",
-        "200 N",
+        "200 text/p N",
     ),
     (
         "a fragment with vars that is processed",
         HOST,
         "/p 200 esi <esi:include src=\"/f\"/>\n/f 200 esi <esi:vars>$(HTTP_HOST)</esi:vars>",
-        "200 a.test",
+        "200 text/p a.test",
     ),
     (
         "the same as it stands",
         HOST,
         "/p 200 esi <esi:include src=\"/f\"/>\n/f 200 plain <esi:vars>$(HTTP_HOST)</esi:vars>",
-        "200 <esi:vars>$(HTTP_HOST)</esi:vars>",
+        "200 text/p <esi:vars>$(HTTP_HOST)</esi:vars>",
     ),
     (
         "a value in a block",
         ASKED_A,
         "/p 200 esi <!--esi <esi:vars>$(QUERY_STRING{q}|'no')</esi:vars>-->",
-        "200  %41",
+        "200 text/p  %41",
     ),
     (
         "a reference outside vars",
         HOST,
         "/p 200 esi $(HTTP_HOST)",
-        "200 $(HTTP_HOST)",
+        "200 text/p $(HTTP_HOST)",
     ),
     (
         "a reference in a branch inside vars",
         HOST,
         "/p 200 esi <esi:vars><esi:choose><esi:when test=\"1\">$(HTTP_HOST)</esi:when></esi:choose></esi:vars>",
-        "200 a.test",
+        "200 text/p a.test",
     ),
     (
         "a fragment isn't inside its include's vars",
         HOST,
         "/p 200 esi <esi:vars><esi:include src=\"/f\"/></esi:vars>\n/f 200 esi $(HTTP_HOST)",
-        "200 $(HTTP_HOST)",
+        "200 text/p $(HTTP_HOST)",
     ),
     (
         "a reference in a src",
         ASKED_X,
         "/p 200 esi <esi:include src=\"/$(QUERY_STRING{q})\"/>\n/x 200 plain 1",
-        "200 1",
+        "200 text/p 1",
     ),
     (
         "a reference in an alt",
         ASKED_X,
         "/p 200 esi <esi:include src=\"/none\" alt=\"/$(QUERY_STRING{q})\"/>\n/x 200 plain 1",
-        "200 1",
+        "200 text/p 1",
     ),
 ];
 
@@ -199,7 +199,11 @@ fn a_choose_goes_by_its_tests(rt: HostRuntime) -> Result<(), Fail> {
             "/p 200 esi <esi:choose><esi:when test=\"{test}\">Y</esi:when><esi:otherwise>N</esi:otherwise></esi:choose>"
         )?;
         let got = told_of(rt.alloc(), case.as_str(), NO_FIELDS, 4)?.ok_or("a case")?;
-        let want = if holds { "200 Y" } else { "200 N" };
+        let want = if holds {
+            "200 text/p Y"
+        } else {
+            "200 text/p N"
+        };
         assert_eq!(rt; got.as_str(), want, "{test}");
     }
     Ok(())

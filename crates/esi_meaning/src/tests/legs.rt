@@ -22,7 +22,7 @@ const MANY: [(&str, Repeated, Repeated, Repeated); 9] = [
         "a thousand legs",
         ("plain ", "1", 1, ""),
         ("", TO_X, 1000, ""),
-        ("200 ", "1", 1000, ""),
+        ("200 text/p ", "1", 1000, ""),
     ),
     (
         "one leg more",
@@ -51,13 +51,13 @@ const MANY: [(&str, Repeated, Repeated, Repeated); 9] = [
         "an except that isn't tried",
         ("plain ", "1", 1, ""),
         (ATTEMPT, TO_X, 1000, OTHER_EXCEPT),
-        ("200 ", "1", 1000, ""),
+        ("200 text/p ", "1", 1000, ""),
     ),
     (
         "the legs of a dropped attempt leave room for one",
         ("plain ", "1", 1, ""),
         (ATTEMPT, TO_X, 998, NONE_THEN_X),
-        ("200 ", "1", 1, ""),
+        ("200 text/p ", "1", 1, ""),
     ),
     (
         "the legs of a dropped attempt leave no room",

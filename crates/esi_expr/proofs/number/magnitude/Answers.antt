@@ -1,5 +1,5 @@
 use Rattle.std.proofs.Common.{arith}
-use Rattle.esi_expr.proofs.NumberLemmas.{few_digits, digit_at, magnitude_more, pow_few, pow_all, fits_more, less_more}
+use Rattle.esi_expr.proofs.NumberLemmas.{few_digits, digit_at, value_more, pow_few, pow_all, fits_more, less_more}
 use Rattle.esi_expr.proofs.number.magnitude.Goals as goal
 
 pub overflow_mul-magnitude : goal.overflow_mul-magnitude
@@ -19,7 +19,7 @@ pub loop-digit-preserved : goal.loop-digit-preserved
 loop-digit-preserved c =
     let digit = digit_at c.args.digits.now c.requires c.loop-digit.digit-index 0 c.loop-digit-test.true in
     record {
-      value = magnitude_more c.args.digits.now c.loop-digit.digit-index 0 c.loop-digit.magnitude c.from.result c.loop-digit-test.true c.loop-digit.invariant.value c.from.ensures;
+      value = value_more c.args.digits.now c.loop-digit.digit-index c.loop-digit.magnitude c.from.result c.loop-digit-test.true c.requires c.loop-digit.invariant.value c.from.ensures;
       small = less_more c.loop-digit.magnitude c.from.result c.loop-digit.digit-index c.loop-digit.invariant.small (omega (arith, c.from.ensures, digit.0, digit.1));
     }
 

@@ -1,7 +1,7 @@
 use Rattle.std.proofs.Common.{ℕ, List, ◌∷◌, [], ◌++◌, Some, ◌≡◌, ◌∙◌, ap, subst}
 use Rattle.fragment_cache.specs.Machine.{Kept, departed}
 use Rattle.fragment_cache.specs.Index.{Changes}
-use Rattle.fragment_cache.proofs.FlightLemmas.{insert_entry-end, Agree-undone}
+use Rattle.fragment_cache.proofs.FlightLemmas.{insert_entry-end, HaveSameNumbers-undone}
 use Rattle.fragment_cache.proofs.flights.open.Goals as goal
 
 pub returns-in-Ok-clause-flights : goal.returns-in-Ok-clause-flights
@@ -11,6 +11,6 @@ returns-in-Ok-clause-flights c =
 
 pub returns-clause-index_stays : goal.returns-clause-index_stays
 returns-clause-index_stays c =
-    Agree-undone c.args.flying.now c.insert.new.self c.remove.new.self c.args.url.now c.args.number c.requires.absent
+    HaveSameNumbers-undone c.args.flying.now c.insert.new.self c.remove.new.self c.args.url.now c.args.number c.requires.absent
     (subst (λ (url : List ℕ). Changes url (Some c.args.number) c.args.flying.now c.insert.new.self) c.in_ok-share-2.ensures c.in_ok-insert.ensures.updates.0)
     c.remove.ensures.updates.0

@@ -1,0 +1,51 @@
+-- How the program ends: exit statuses, and the lines on standard error.
+use Rattle.std.specs.Prelude.{◌≡◌, ◌⊎◌, ℕ, List, codes, Option, Some, None, Result, Ok, Err}
+use Rattle.clap.specs.declared.error.kind.ErrorKind.{ErrorKind}
+use Rattle.clap.specs.declared.error.kind.ErrorKind.TheVariants.{DisplayHelp, DisplayVersion, OutOfMemory}
+use Rattle.edge_case.specs.declared.ending.CaseEnd.{CaseEnd}
+use Rattle.edge_case.specs.declared.ending.CaseEnd.TheVariants.{PagePrinted, FaultPrinted}
+use Rattle.edge_case.specs.declared.ending.CaseFault.{CaseFault}
+use Rattle.edge_case.specs.declared.ending.CaseFault.TheVariants as fault
+use Rattle.edge_main.specs.declared.status.Status.{Status}
+use Rattle.edge_main.specs.declared.status.Status.TheVariants.{Page, PageFault, Usage, NotText, BadCase, NoMemory, InputOutput}
+
+-- the exit status
+abbrev pub code_of : Status → ℕ
+code_of Page = 0
+code_of PageFault = 1
+code_of Usage = 2
+code_of NotText = 2
+code_of BadCase = 3
+code_of NoMemory = 4
+code_of InputOutput = 5
+
+-- the line on standard error, where the program itself writes one
+abbrev pub line_of : Status → Option (List ℕ)
+line_of Page = None
+line_of PageFault = None
+line_of Usage = None
+line_of NotText = Some (codes "error: a word of the command line isn't UTF-8")
+line_of BadCase = Some (codes "bad case text")
+line_of NoMemory = Some (codes "no memory")
+line_of InputOutput = Some (codes "input or output failed")
+
+-- how the program ends after a case that was run
+abbrev pub status_of : Result CaseEnd CaseFault → Status
+status_of (Ok PagePrinted) = Page
+status_of (Ok FaultPrinted) = PageFault
+status_of (Err fault.BadCase) = BadCase
+status_of (Err fault.NoMemory) = NoMemory
+status_of (Err fault.Read) = InputOutput
+status_of (Err fault.Write) = InputOutput
+
+-- how it ends where help was asked for, by whether that could be printed
+abbrev pub help_status : {T E : Type 0} → Result T E → Status
+help_status (Ok printed) = Page
+help_status (Err e) = InputOutput
+
+-- how it may end where the command line runs no case
+abbrev pub IsEndOf : ErrorKind → Status → Type 0
+IsEndOf OutOfMemory status = status ≡ NoMemory
+IsEndOf DisplayHelp status = (status ≡ Page) ⊎ (status ≡ InputOutput)
+IsEndOf DisplayVersion status = (status ≡ Page) ⊎ (status ≡ InputOutput)
+IsEndOf _ status = status ≡ Usage

@@ -1,0 +1,322 @@
+// The evaluator: it goes over a template's tree as the meaning does.
+ghost use Rattle.std.specs.Prelude.{◌≤◌, IfOk};
+ghost use Rattle.std.specs.Arc.{arc_value};
+ghost use Rattle.esi_tree.specs.Shown.{element_of, elements_of, branches_of};
+ghost use Rattle.esi_tree.specs.Tree.{depth, element_depth, branches_depth};
+ghost use Rattle.esi_meaning.specs.Ending.{Ends};
+ghost use Rattle.esi_meaning.specs.Evaluator.{FitsDepth};
+ghost use Rattle.esi_meaning.specs.Evaluator.{leg_at, elements_at, element_at, choice_at, try_at, include_at, alternative_at};
+ghost use Rattle.esi_meaning.specs.Evaluator.{named_at, fetched_at, reply_at, body_at};
+ghost use Rattle.esi_meaning.specs.Run.{AsksNobody, tries};
+
+use crate::choice::chosen;
+use crate::inlines::inline_for;
+use crate::limits::MAX_LEGS;
+use crate::progress::{
+    Ending, Progress, count_leg, no_leg, on_error, push_text, push_values, unprocessed,
+};
+use edge_types::{Answer, NoMemory, PageUrl, Request, Table};
+use esi_tree::{Branch, Node, Parts, Template, TreeFault, template};
+use esi_vars::{Part, substitute};
+use std::alloc::Global;
+use std::sync::Arc;
+
+/// What a page is processed with.
+#[derive(Clone, Copy)]
+pub(crate) struct Setting<'a> {
+    pub(crate) alloc: Global,
+    pub(crate) request: &'a Request,
+    pub(crate) table: &'a Table,
+}
+
+/// Where a template stands: how many levels are left under it, and its URL.
+#[derive(Clone, Copy)]
+pub(crate) struct Standing<'a> {
+    pub(crate) level: u8,
+    pub(crate) url: &'a PageUrl,
+    pub(crate) template: &'a Template,
+}
+
+/// The elements one after another; nothing after the first that fails is tried.
+#[cycle(evaluator)]
+#[tactic(auto, using(crate::proofs::Depths::depth_at))]
+pub(crate) fn elements(
+    setting: &Setting<'_>,
+    standing: Standing<'_>,
+    nodes: &[Node],
+    progress: &mut Progress,
+) -> Result<Ending, NoMemory>
+    requires few { progress.old.legs ≤ MAX_LEGS }
+    requires shallow { FitsDepth (depth (elements_of nodes.now)) }
+    ensures { IfOk result
+        (Ends (elements_at setting.now standing.entry (elements_of nodes.now)) progress.old progress.new) }
+{
+    let mark = progress.body.mark();
+    for node in nodes {
+        match element(setting, standing, node, progress)? {
+            Ending::Complete => {}
+            Ending::Failed => {
+                progress.body.cut(mark);
+                return Ok(Ending::Failed);
+            }
+            Ending::TooManyLegs => return Ok(Ending::TooManyLegs),
+        }
+    }
+    Ok(Ending::Complete)
+}
+
+#[cycle(evaluator)]
+fn element(
+    setting: &Setting<'_>,
+    standing: Standing<'_>,
+    node: &Node,
+    progress: &mut Progress,
+) -> Result<Ending, NoMemory>
+    requires few { progress.old.legs ≤ MAX_LEGS }
+    requires shallow { FitsDepth (element_depth (element_of node.now)) }
+    ensures { IfOk result
+        (Ends (element_at setting.now standing.entry (element_of node.now)) progress.old progress.new) }
+{
+    match node {
+        Node::Text(text) => push_text(setting.alloc, text, progress),
+        Node::VarsText(parts) => push_values(
+            setting.alloc,
+            setting.request,
+            parts.as_slice(),
+            progress,
+        ),
+        Node::Include {
+            src,
+            alt,
+            continues,
+        } => include(setting, standing, src, alt, *continues, progress),
+        Node::Choose(branches) => choose(setting, standing, branches.as_slice(), progress),
+        Node::Try {
+            attempt,
+            except,
+            ..
+        } => one_of(
+            setting,
+            standing,
+            attempt.as_slice(),
+            except.as_slice(),
+            progress,
+        ),
+        Node::Vars(content) | Node::Inline { content, .. } => {
+            elements(setting, standing, content.as_slice(), progress)
+        }
+        Node::Nothing => Ok(Ending::Complete),
+    }
+}
+
+// A choose: the branch that is taken.
+#[cycle(evaluator)]
+#[tactic(auto, using(crate::proofs::Legs::chosen_run_content))]
+fn choose(
+    setting: &Setting<'_>,
+    standing: Standing<'_>,
+    branches: &[Branch],
+    progress: &mut Progress,
+) -> Result<Ending, NoMemory>
+    requires few { progress.old.legs ≤ MAX_LEGS }
+    requires shallow { FitsDepth (branches_depth (branches_of branches.now)) }
+    ensures { IfOk result
+        (Ends (choice_at setting.now standing.entry (branches_of branches.now)) progress.old progress.new) }
+{
+    let content = chosen(setting.request, branches);
+    elements(setting, standing, content, progress)
+}
+
+// A try: the attempt, else the except.
+#[cycle(evaluator)]
+fn one_of(
+    setting: &Setting<'_>,
+    standing: Standing<'_>,
+    attempt: &[Node],
+    except: &[Node],
+    progress: &mut Progress,
+) -> Result<Ending, NoMemory>
+    requires few { progress.old.legs ≤ MAX_LEGS }
+    requires shallow_attempt { FitsDepth (depth (elements_of attempt.now)) }
+    requires shallow_except { FitsDepth (depth (elements_of except.now)) }
+    ensures { IfOk result
+        (Ends (try_at setting.now standing.entry (elements_of attempt.now) (elements_of except.now)) progress.old progress.new) }
+{
+    match elements(setting, standing, attempt, progress)? {
+        Ending::Failed => elements(setting, standing, except, progress),
+        ended => Ok(ended),
+    }
+}
+
+// An include: its src, else what stands for it.
+#[cycle(evaluator)]
+fn include(
+    setting: &Setting<'_>,
+    standing: Standing<'_>,
+    src: &Parts,
+    alt: &Option<Parts>,
+    continues: bool,
+    progress: &mut Progress,
+) -> Result<Ending, NoMemory>
+    requires few { progress.old.legs ≤ MAX_LEGS }
+    ensures { IfOk result
+        (Ends (include_at setting.now standing.entry src.now alt.now continues) progress.old progress.new) }
+{
+    match leg(setting, standing, src.as_slice(), progress)? {
+        Ending::Failed => alternative(setting, standing, alt, continues, progress),
+        ended => Ok(ended),
+    }
+}
+
+// What stands for an include whose src can't be had: its alt, else what `onerror` asks for.
+#[cycle(evaluator)]
+fn alternative(
+    setting: &Setting<'_>,
+    standing: Standing<'_>,
+    alt: &Option<Parts>,
+    continues: bool,
+    progress: &mut Progress,
+) -> Result<Ending, NoMemory>
+    requires few { progress.old.legs ≤ MAX_LEGS }
+    ensures { IfOk result
+        (Ends (alternative_at setting.now standing.entry alt.now continues) progress.old progress.new) }
+{
+    let Some(alt) = alt else {
+        return Ok(on_error(continues));
+    };
+    match leg(setting, standing, alt.as_slice(), progress)? {
+        Ending::Failed => Ok(on_error(continues)),
+        ended => Ok(ended),
+    }
+}
+
+// A leg of this template.
+#[cycle(evaluator)]
+#[tactic(auto, using(crate::proofs::Legs::leg_above))]
+fn leg(
+    setting: &Setting<'_>,
+    standing: Standing<'_>,
+    text: &[Part],
+    progress: &mut Progress,
+) -> Result<Ending, NoMemory>
+    requires few { progress.old.legs ≤ MAX_LEGS }
+    ensures { IfOk result
+        (Ends (leg_at setting.now standing.entry text.now) progress.old progress.new) }
+{
+    if standing.level == 0 {
+        return Ok(no_leg(progress));
+    }
+    let text = substitute(setting.alloc, setting.request, text)?;
+    let Some(url) = standing.url.resolve(setting.alloc, text.as_slice())? else {
+        return Ok(no_leg(progress));
+    };
+    let below = Standing {
+        level: standing.level - 1,
+        ..standing
+    };
+    named(setting, below, &url, progress)
+}
+
+// A leg of this URL: an inline of its template, or else what the origin answers.
+#[cycle(evaluator)]
+fn named(
+    setting: &Setting<'_>,
+    standing: Standing<'_>,
+    url: &PageUrl,
+    progress: &mut Progress,
+) -> Result<Ending, NoMemory>
+    requires few { progress.old.legs ≤ MAX_LEGS }
+    ensures { IfOk result
+        (Ends (named_at setting.now standing.entry url.now) progress.old progress.new) }
+{
+    match inline_for(setting.alloc, standing.url, url, standing.template.nodes())? {
+        Some(content) => inlined(setting, standing, content, progress),
+        None => fetched(setting, standing.level, url, progress),
+    }
+}
+
+// A leg that an inline of its template gives: it asks nobody.
+#[cycle(evaluator)]
+fn inlined(
+    setting: &Setting<'_>,
+    standing: Standing<'_>,
+    content: &[Node],
+    progress: &mut Progress,
+) -> Result<Ending, NoMemory>
+    requires few { progress.old.legs ≤ MAX_LEGS }
+    requires shallow { FitsDepth (depth (elements_of content.now)) }
+    ensures { IfOk result
+        (Ends (tries AsksNobody (elements_at setting.now standing.entry (elements_of content.now))) progress.old progress.new) }
+{
+    if !count_leg(&mut progress.legs) {
+        return Ok(Ending::TooManyLegs);
+    }
+    elements(setting, standing, content, progress)
+}
+
+// A leg of this URL that its origin answers.
+#[cycle(evaluator)]
+fn fetched(
+    setting: &Setting<'_>,
+    level: u8,
+    url: &PageUrl,
+    progress: &mut Progress,
+) -> Result<Ending, NoMemory>
+    requires few { progress.old.legs ≤ MAX_LEGS }
+    ensures { IfOk result
+        (Ends (fetched_at setting.now level url.now) progress.old progress.new) }
+{
+    if !count_leg(&mut progress.legs) {
+        return Ok(Ending::TooManyLegs);
+    }
+    match setting.table.get(url) {
+        Some(answer) => answered(setting, level, url, answer, progress),
+        None => Ok(Ending::Failed),
+    }
+}
+
+// What an origin's answer comes to.
+#[cycle(evaluator)]
+fn answered(
+    setting: &Setting<'_>,
+    level: u8,
+    url: &PageUrl,
+    answer: &Arc<Answer>,
+    progress: &mut Progress,
+) -> Result<Ending, NoMemory>
+    requires few { progress.old.legs ≤ MAX_LEGS }
+    ensures { IfOk result
+        (Ends (reply_at setting.now level url.now (arc_value answer.now).reply) progress.old progress.new) }
+{
+    if answer.processed() {
+        processed(setting, level, url, answer.body(), progress)
+    } else {
+        unprocessed(answer, progress)
+    }
+}
+
+// A body, processed.
+#[cycle(evaluator)]
+fn processed(
+    setting: &Setting<'_>,
+    level: u8,
+    url: &PageUrl,
+    body: &[u8],
+    progress: &mut Progress,
+) -> Result<Ending, NoMemory>
+    requires few { progress.old.legs ≤ MAX_LEGS }
+    ensures { IfOk result
+        (Ends (body_at setting.now level url.now body.now) progress.old progress.new) }
+{
+    let template = match template(setting.alloc, body) {
+        Ok(template) => template,
+        Err(TreeFault::Bad(_)) => return Ok(Ending::Failed),
+        Err(TreeFault::NoMemory) => return Err(NoMemory),
+    };
+    let there = Standing {
+        level,
+        url,
+        template: &template,
+    };
+    elements(setting, there, template.nodes(), progress)
+}

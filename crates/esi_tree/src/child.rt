@@ -1,0 +1,12 @@
+//! What an element gives, at its end, to the one in which it stands.
+
+use crate::node::{Branch, Node};
+
+// An element of a run, a branch of a choose, or a part of a try.
+#[derive(Drop)]
+pub(crate) enum Child {
+    Element(Node),
+    Branch(Branch),
+    Attempt(Vec<Node>),
+    Except(Vec<Node>),
+}

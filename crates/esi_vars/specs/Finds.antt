@@ -1,0 +1,49 @@
+-- What stands in a field, told without a search: its parts, their names and values, and the text behind a word.
+use Rattle.std.specs.Prelude.{◌≡◌, ◌≢◌, ◌⊎◌, ℕ, ◌<◌, false, List, [], ◌∷◌, ◌++◌, length, drop}
+use Rattle.std.specs.List.{All, AllPass, Contains, join_with_byte}
+use Rattle.esi_vars.specs.Reference.{is_blank}
+
+-- the field is these parts, with such a byte between each two and in none of them
+pub record AreParts (c : ℕ) (field : List ℕ) (parts : List (List ℕ)) : Type 0 where
+  pub some : 0 < length parts
+  pub whole : join_with_byte c parts ≡ field
+  pub uncut : All (λ part. ¬ Contains part c) parts
+
+-- the text is this one with spaces and tabs on both sides, and it neither begins nor ends with one
+pub record IsTrimmed (text middle : List ℕ) : Type 0 where
+  pub left : List ℕ
+  pub right : List ℕ
+  pub whole : text ≡ left ++ (middle ++ right)
+  pub left_blank : AllPass is_blank left
+  pub right_blank : AllPass is_blank right
+  pub begins : (b : ℕ) (bs : List ℕ) → middle ≡ b ∷ bs → is_blank b ≡ false
+  pub ends : (bs : List ℕ) (b : ℕ) → middle ≡ bs ++ b ∷ [] → is_blank b ≡ false
+
+-- the text is cut at the first such byte; where there is none, it is the front, and nothing follows it
+abbrev pub AreHalves : ℕ → List ℕ → List ℕ × List ℕ → Type 0
+AreHalves c text halves =
+    (¬ Contains halves.0 c) × ((text ≡ halves.0 ++ c ∷ halves.1) ⊎ ((text ≡ halves.0) × (halves.1 ≡ [])))
+
+-- the part is `name=value`, or a name alone, whose value is empty
+abbrev pub HasName : List ℕ → List ℕ → Type 0
+HasName name part = (value : List ℕ) × AreHalves 61 part (name, value)
+
+-- the first part of the name has the value
+pub record IsFirstNamed (name : List ℕ) (parts : List (List ℕ)) (value : List ℕ) : Type 0 where
+  pub before : List (List ℕ)
+  pub part : List ℕ
+  pub after : List (List ℕ)
+  pub whole : parts ≡ before ++ part ∷ after
+  pub others : All (λ other. ¬ HasName name other) before
+  pub is : AreHalves 61 part (name, value)
+
+-- the value of the first part of the name; nothing where no part has the name
+abbrev pub IsNamed : List ℕ → List (List ℕ) → List ℕ → Type 0
+IsNamed name parts value =
+    IsFirstNamed name parts value ⊎ (All (λ part. ¬ HasName name part) parts × (value ≡ []))
+
+-- the rest of the text follows the first place at which the word begins
+pub record IsBehind (word text rest : List ℕ) : Type 0 where
+  pub before : List ℕ
+  pub whole : text ≡ before ++ (word ++ rest)
+  pub first : (i : ℕ) (later : List ℕ) → i < length before → drop i text ≢ word ++ later
