@@ -273,7 +273,7 @@ fn urls_of_one_fingerprint_keep_apart(rt: HostRuntime) -> Result<(), Fail> {
 fn a_body_is_cut_back_to_its_mark(rt: HostRuntime) -> Result<(), Fail> {
     let alloc = rt.alloc();
     let shared = answer(&rt, alloc, "http://a.test/x", 200, PLAIN, "fragment")?;
-    let end = "fragment".len();
+    let end = shared.body().len();
     let mut body = PageBody::new(alloc);
     assert!(rt; body.is_empty());
     body.push_own(octets(alloc, "A")?)?;
