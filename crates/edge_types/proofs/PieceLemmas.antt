@@ -22,10 +22,10 @@ pub joined-take_le : (n : ℕ) (ps : List (List ℕ)) → length (joined (take n
 joined-take_le n ps = omega (arith, joined-split n ps)
 
 -- one piece more, as a loop over the pieces adds it
-pub joined-step : (ps : List (List ℕ)) (i total : ℕ) (item bytes : List ℕ) → i < length ps → total ≡ length (joined (take i ps)) → item ≡ get_or ps i item → bytes ≡ item → total + length bytes ≡ length (joined (take (i + 1) ps))
-joined-step ps i total item bytes h t is same =
+pub joined-step : (ps : List (List ℕ)) (i total added : ℕ) (item : List ℕ) → i < length ps → total ≡ length (joined (take i ps)) → item ≡ get_or ps i item → added ≡ length item → total + added ≡ length (joined (take (i + 1) ps))
+joined-step ps i total added item h t is same =
     let next : length (joined (take (i + 1) ps)) ≡ length (joined (take i ps)) + length (get_or ps i item) = joined-take_next i ps item h in
-    let l : length bytes ≡ length (get_or ps i item) = ap length (same ∙ is) in
+    let l : length item ≡ length (get_or ps i item) = ap length is in
     omega arith
 
 -- the pieces from a mark on, as a slice gives them
@@ -46,8 +46,7 @@ joined-rest_le m len ps slice l s =
     omega (arith, joined-parts m len (length (joined (take (length slice - m) (drop m slice)))) ps slice (take m ps) l s refl refl)
 
 -- one piece more at the end
-pub joined-pushed : (before after : List (List ℕ)) (piece bytes : List ℕ) (len sum : ℕ) → len ≡ length (joined before) → bytes ≡ piece → after ≡ before ++ piece ∷ [] → sum ≡ len + length bytes → sum ≡ length (joined after)
-joined-pushed before after piece bytes len sum l same pushed s =
+pub joined-pushed : (before after : List (List ℕ)) (piece : List ℕ) (len added sum : ℕ) → len ≡ length (joined before) → added ≡ length piece → after ≡ before ++ piece ∷ [] → sum ≡ len + added → sum ≡ length (joined after)
+joined-pushed before after piece len added sum l same pushed s =
     let after_length : length (joined after) ≡ length (joined before) + length piece = ap (λ (qs : List (List ℕ)). length (joined qs)) pushed ∙ joined-push before piece in
-    let piece_length : length bytes ≡ length piece = ap length same in
     omega arith

@@ -1,10 +1,12 @@
 //! What origins answer. Clauses see an `Answer` as its URL and its reply.
 
-ghost use Rattle.std.specs.Prelude.{◌≡◌, ◌↔◌, IsTrue, IsSome, IfSome};
+ghost use Rattle.std.specs.Prelude.{◌≡◌, ◌↔◌, IsTrue, IsSome, IfSome, IfOk};
 
 use crate::control::Control;
+use crate::no_memory::NoMemory;
 use crate::octets::Octets;
 use crate::page_url::PageUrl;
+use crate::shared_bytes::SharedBytes;
 use std::marker::Model;
 
 /// The smallest status of an answer.
@@ -30,7 +32,7 @@ pub enum Reply {
         /// What the origin asks of the edge.
         control: Control,
         /// The body, whole.
-        body: Octets,
+        body: SharedBytes,
     },
 }
 
@@ -74,7 +76,7 @@ impl Answer {
         status: u16,
         content_type: Octets,
         control: Control,
-        body: Octets,
+        body: SharedBytes,
     ) -> Option<Answer>
         ensures limits { IsSome result ↔ IsAcceptable status content_type body }
         ensures value { IfSome result (λ answer. answer ≡ got url status content_type control body) }
@@ -118,6 +120,16 @@ impl Answer {
         }
     }
 
+    /// A second owner of the body, which a failure doesn't have.
+    pub fn share_body(&self) -> Result<SharedBytes, NoMemory>
+        ensures { IfOk result (λ body. body ≡ body_of self.now.reply) }
+    {
+        match &self.reply {
+            Reply::Failed => Ok(SharedBytes::new()),
+            Reply::Got { body, .. } => body.share(),
+        }
+    }
+
     /// Whether the fetch gave a resource: an answer of status 200 to 299. Takes no memory.
     pub fn succeeded(&self) -> bool
         ensures { result ≡ succeeded self.now.reply }
@@ -147,11 +159,11 @@ impl Answer {
 ghost use Rattle.edge_types.specs.Answered.{IsAcceptable, is_success};
 
 // Whether the edge takes in an answer with this head and body.
-fn is_acceptable(status: u16, content_type: &Octets, body: &Octets) -> bool
+fn is_acceptable(status: u16, content_type: &Octets, body: &SharedBytes) -> bool
     ensures { IsTrue result ↔ IsAcceptable status content_type.now body.now }
 {
     (MIN_STATUS..=MAX_STATUS).contains(&status)
-        && body.as_bytes().len() <= MAX_BODY
+        && body.len() <= MAX_BODY
         && content_type.as_bytes().len() <= MAX_CONTENT_TYPE
         && content_type
             .as_bytes()

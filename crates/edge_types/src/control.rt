@@ -2,8 +2,10 @@
 
 /// The directives of one `Surrogate-Control` header that count for this edge.
 ///
+/// The default asks nothing.
+///
 /// Source: Edge Architecture Specification 1.0, "Surrogate-Control Header".
-#[derive(Clone, Copy, Debug, Drop, PartialEq, Eq)]
+#[derive(Clone, Copy, Debug, Default, Drop, PartialEq, Eq)]
 pub struct Control {
     /// The answer is not to be stored.
     pub no_store: bool,

@@ -4,6 +4,7 @@
 mod answer;
 mod compare;
 mod control;
+mod halves;
 mod no_memory;
 mod octets;
 mod outcome;
@@ -11,11 +12,13 @@ mod page_body;
 mod page_url;
 mod request;
 mod shared_answer;
+mod shared_bytes;
 mod table;
 mod white_space;
 
 pub use answer::{Answer, MAX_BODY, MAX_CONTENT_TYPE, MAX_STATUS, MIN_STATUS, Reply};
 pub use control::Control;
+pub use halves::around;
 pub use no_memory::NoMemory;
 pub use octets::Octets;
 pub use outcome::{Outcome, PageFault};
@@ -23,6 +26,7 @@ pub use page_body::PageBody;
 pub use page_url::{MAX_TEXT, MAX_URL, PageUrl};
 pub use request::{Request, query_of};
 pub use shared_answer::SharedAnswer;
+pub use shared_bytes::SharedBytes;
 pub use table::{InsertFault, Table};
 pub use white_space::is_ws;
 

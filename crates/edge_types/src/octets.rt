@@ -1,6 +1,6 @@
 //! Byte strings in the fields of other values. Clauses see the list of the bytes.
 
-ghost use Rattle.std.specs.Prelude.{◌≡◌, IfOk};
+ghost use Rattle.std.specs.Prelude.{◌≡◌, [], IfOk};
 
 use crate::no_memory::NoMemory;
 use std::alloc::Global;
@@ -21,11 +21,29 @@ impl Model for Octets {
 }
 
 impl Octets {
+    /// No bytes. Takes no memory.
+    pub fn empty(alloc: Global) -> Octets
+        ensures { result ≡ [] }
+    {
+        Octets {
+            bytes: Vec::new(alloc),
+        }
+    }
+
     /// Keeps these bytes. Takes no memory.
     pub fn of(bytes: Vec<u8>) -> Octets
         ensures { result ≡ bytes.items }
     {
         Octets { bytes }
+    }
+
+    /// Copies these bytes.
+    pub fn copy_of(alloc: Global, bytes: &[u8]) -> Result<Octets, NoMemory>
+        ensures { IfOk result (λ copy. copy ≡ bytes.now) }
+    {
+        Ok(Octets {
+            bytes: bytes.to_vec(alloc)?,
+        })
     }
 
     /// Lends the bytes. Takes no memory.
@@ -39,8 +57,6 @@ impl Octets {
     pub fn copy(&self, alloc: Global) -> Result<Octets, NoMemory>
         ensures { IfOk result (λ copy. copy ≡ self.now) }
     {
-        Ok(Octets {
-            bytes: self.as_bytes().to_vec(alloc)?,
-        })
+        Octets::copy_of(alloc, self.as_bytes())
     }
 }

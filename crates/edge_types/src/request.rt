@@ -24,6 +24,22 @@ pub struct Request {
 }
 
 impl Request {
+    ghost use Rattle.edge_types.specs.Query.{empty_request};
+
+    /// A request with no field and no query. Takes no memory.
+    pub fn empty(alloc: Global) -> Request
+        ensures { result ≡ empty_request }
+    {
+        Request {
+            host: Octets::empty(alloc),
+            cookie: Octets::empty(alloc),
+            referer: Octets::empty(alloc),
+            user_agent: Octets::empty(alloc),
+            accept_language: Octets::empty(alloc),
+            query: Octets::empty(alloc),
+        }
+    }
+
     /// Copies every field.
     pub fn copy(&self, alloc: Global) -> Result<Request, NoMemory>
         ensures { IfOk result (λ copy. copy ≡ self.now) }

@@ -1,22 +1,19 @@
 // Worked examples: expected values come from the URL Standard and from the edge's own rules.
 use crate::{
     Answer, Control, InsertFault, NoMemory, Octets, PageBody, PageFault, PageUrl, Reply, Request,
-    SharedAnswer, Table, is_ws, query_of,
+    SharedAnswer, SharedBytes, Table, around, is_ws, query_of,
 };
 use std::alloc::Global;
 use std::process::Abort;
 use std::sync::Arc;
 use std::test::Fail;
 
-const PLAIN: Control = Control {
-    no_store: false,
-    max_age: None,
-    extension: 0,
-    esi: false,
-};
-
 fn octets(alloc: Global, text: &str) -> Result<Octets, NoMemory> {
-    Ok(Octets::of(text.as_bytes().to_vec(alloc)?))
+    Octets::copy_of(alloc, text.as_bytes())
+}
+
+fn shared(alloc: Global, text: &str) -> Result<SharedBytes, NoMemory> {
+    SharedBytes::copy_of(alloc, text.as_bytes())
 }
 
 fn url(rt: &impl Abort, alloc: Global, text: &str) -> Result<PageUrl, NoMemory> {
@@ -36,7 +33,7 @@ fn answer(
         status,
         octets(alloc, "text/html")?,
         control,
-        octets(alloc, body)?,
+        shared(alloc, body)?,
     );
     Ok(Arc::new(alloc, got.expect(rt, "an answer"))?)
 }
@@ -175,8 +172,8 @@ fn answers_have_limits(rt: HostRuntime) -> Result<(), Fail> {
             url(&rt, alloc, "http://a.test/")?,
             status,
             Octets::of(filled(alloc, "", byte, type_len)?),
-            PLAIN,
-            Octets::of(filled(alloc, "", b'b', body_len)?),
+            Control::default(),
+            SharedBytes::of(filled(alloc, "", b'b', body_len)?)?,
         );
         assert_eq!(rt;
             found.is_some(),
@@ -190,22 +187,25 @@ fn answers_have_limits(rt: HostRuntime) -> Result<(), Fail> {
 #[test]
 fn answers_tell_what_came(rt: HostRuntime) -> Result<(), Fail> {
     let alloc = rt.alloc();
-    let esi = Control { esi: true, ..PLAIN };
+    let plain = Control::default();
+    let esi = Control { esi: true, ..plain };
     for (status, control, succeeded, processed) in [
-        (200, PLAIN, true, false),
+        (200, plain, true, false),
         (299, esi, true, true),
         (300, esi, false, false),
-        (404, PLAIN, false, false),
+        (404, plain, false, false),
     ] {
         let found = answer(&rt, alloc, "http://a.test/x", status, control, "1")?;
         assert_eq!(rt; found.succeeded(), succeeded, "{status}");
         assert_eq!(rt; found.processed(), processed, "{status}");
         assert_eq!(rt; found.url().as_bytes(), b"http://a.test/x".as_slice());
         assert_eq!(rt; found.body(), b"1".as_slice());
+        assert_eq!(rt; found.share_body()?.as_bytes(), b"1".as_slice());
     }
     let failed = Answer::failed(url(&rt, alloc, "http://a.test/x")?);
     assert!(rt; !failed.succeeded() && !failed.processed());
     assert!(rt; matches!(failed.reply(), Reply::Failed) && failed.body().is_empty());
+    assert!(rt; failed.share_body()?.is_empty());
     Ok(())
 }
 
@@ -219,7 +219,7 @@ fn a_table_takes_each_url_once(rt: HostRuntime) -> Result<(), Fail> {
         ("http://A.test/2#f", Some(InsertFault::Twice)),
         ("http://a.test/3", None),
     ] {
-        let fault = match table.insert(answer(&rt, alloc, at, 200, PLAIN, at)?) {
+        let fault = match table.insert(answer(&rt, alloc, at, 200, Control::default(), at)?) {
             Ok(()) => None,
             Err((fault, _back)) => Some(fault),
         };
@@ -251,7 +251,7 @@ fn urls_of_one_fingerprint_keep_apart(rt: HostRuntime) -> Result<(), Fail> {
         assert!(rt; table.get(&asked).is_none(), "{at}");
         assert!(rt;
             table
-                .insert(answer(&rt, alloc, at, 200, PLAIN, at)?)
+                .insert(answer(&rt, alloc, at, 200, Control::default(), at)?)
                 .is_ok()
         );
     }
@@ -261,7 +261,7 @@ fn urls_of_one_fingerprint_keep_apart(rt: HostRuntime) -> Result<(), Fail> {
         assert_eq!(rt; body, Some(at.as_bytes()), "{at}");
         assert!(rt;
             table
-                .insert(answer(&rt, alloc, at, 200, PLAIN, at)?)
+                .insert(answer(&rt, alloc, at, 200, Control::default(), at)?)
                 .is_err(),
             "{at}"
         );
@@ -272,19 +272,18 @@ fn urls_of_one_fingerprint_keep_apart(rt: HostRuntime) -> Result<(), Fail> {
 #[test]
 fn a_body_is_cut_back_to_its_mark(rt: HostRuntime) -> Result<(), Fail> {
     let alloc = rt.alloc();
-    let shared = answer(&rt, alloc, "http://a.test/x", 200, PLAIN, "fragment")?;
-    let end = shared.body().len();
+    let text = shared(alloc, "a fragment here")?;
     let mut body = PageBody::new(alloc);
     assert!(rt; body.is_empty());
-    body.push_own(octets(alloc, "A")?)?;
-    body.push_own(octets(alloc, "")?)?;
-    body.push_part(&shared, 0, end)?;
-    body.push_part(&shared, end, end)?;
+    body.push(shared(alloc, "A")?)?;
+    body.push(SharedBytes::new())?;
+    body.push(text.part(2, 10)?)?;
+    body.push(text.part(10, 10)?)?;
     let mark = body.mark();
-    body.push_own(octets(alloc, "lost")?)?;
-    body.push_part(&shared, 0, end)?;
+    body.push(shared(alloc, "lost")?)?;
+    body.push(text)?;
     body.cut(mark);
-    body.push_own(octets(alloc, "B")?)?;
+    body.push(shared(alloc, "B")?)?;
     assert_eq!(rt; body.len(), 10);
     for (i, want) in [
         (0, Some("A")),
@@ -292,7 +291,38 @@ fn a_body_is_cut_back_to_its_mark(rt: HostRuntime) -> Result<(), Fail> {
         (2, Some("B")),
         (3, None),
     ] {
-        assert_eq!(rt; body.piece(i), want.map(|w| w.as_bytes()), "piece {i}");
+        let want = want.map(|w| w.as_bytes());
+        assert_eq!(rt; body.piece(i), want, "piece {i}");
+        let second = body.shared_piece(i)?;
+        assert_eq!(rt; second.as_ref().map(|p| p.as_bytes()), want, "piece {i}, shared");
+    }
+    Ok(())
+}
+
+#[test]
+fn parts_outlive_the_owner_that_they_came_from(rt: HostRuntime) -> Result<(), Fail> {
+    let alloc = rt.alloc();
+    let whole = shared(alloc, "one two")?;
+    let two = whole.part(4, 7)?;
+    let again = two.share()?;
+    drop(whole);
+    drop(two);
+    assert_eq!(rt; again.as_bytes(), b"two".as_slice());
+    assert_eq!(rt; (again.len(), again.is_empty()), (3, false));
+    assert_eq!(rt; again.part(1, 2)?.into_bytes().as_slice(), b"w".as_slice());
+    Ok(())
+}
+
+#[test]
+fn halves_stand_round_the_first_mark(rt: HostRuntime) -> Result<(), Fail> {
+    for (text, want) in [
+        ("a=b=c", Some(("a", "b=c"))),
+        ("=", Some(("", ""))),
+        ("a", None),
+        ("", None),
+    ] {
+        let want = want.map(|(before, after)| (before.as_bytes(), after.as_bytes()));
+        assert_eq!(rt; around(b'=', text.as_bytes()), want, "{text}");
     }
     Ok(())
 }
@@ -319,7 +349,9 @@ fn copies_and_second_owners_are_equal(rt: HostRuntime) -> Result<(), Fail> {
     ] {
         assert_eq!(rt; found.as_bytes(), want.as_bytes());
     }
-    let owner = SharedAnswer::of(answer(&rt, alloc, "http://a.test/x", 204, PLAIN, "")?);
+    let empty = Request::empty(alloc);
+    assert!(rt; empty.host.as_bytes().is_empty() && empty.query.as_bytes().is_empty());
+    let owner = SharedAnswer::of(answer(&rt, alloc, "http://a.test/x", 204, Control::default(), "")?);
     let second = owner.share()?;
     let want = b"http://a.test/x".as_slice();
     assert_eq!(rt; second.get().url().as_bytes(), want);
