@@ -1,5 +1,6 @@
 -- What contracts see of nodes: their trees, without where they lie in memory.
 use Rattle.std.specs.Prelude.{List, [], ◌∷◌, map, Option, Some, None, option_map}
+use Rattle.std.specs.Arc.{arc_value}
 use Rattle.esi_expr.specs.Tree.{Test}
 use Rattle.esi_expr.specs.Shown.{test_of}
 use Rattle.esi_tree.specs.declared.node.Branch as code
@@ -40,7 +41,7 @@ element_step (layer.Inline name content) = tree.Inline name (row content.items)
 element_step layer.Nothing = tree.Nothing
 
 abbrev pub branch_step : layer.Branch-F tree.Element Branch → Branch
-branch_step b = record { test = option_map (λ test. test_of test.value) b.test; content = row b.content.items }
+branch_step b = record { test = option_map (λ test. test_of (arc_value test)) b.test; content = row b.content.items }
 
 -- the element of a node, and those of several
 abbrev pub element_of : Node → tree.Element

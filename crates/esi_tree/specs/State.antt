@@ -1,5 +1,6 @@
 -- What contracts see of a reader at work: what has been read, without where it lies in memory.
 use Rattle.std.specs.Prelude.{◌≡◌, ℕ, ◌+◌, ◌≤◌, Bool, true, false, List, [], ◌∷◌, map, reverse, Option, Some, None, Ok, if◌then◌else◌}
+use Rattle.std.specs.Arc.{arc_value}
 use Rattle.esi_expr.specs.Shown.{test_of}
 use Rattle.esi_tree.specs.declared.halves.Halves as code
 use Rattle.esi_tree.specs.declared.halves.Halves.TheVariants as half
@@ -36,7 +37,7 @@ frame_of unended.Comment = reading.InComment
 frame_of (unended.Inline name content) = reading.InInline name (map element_of content.items)
 frame_of (unended.Vars content) = reading.InVars (map element_of content.items)
 frame_of (unended.Choose branches) = reading.InChoose (map branch_of branches.items)
-frame_of (unended.When test content) = reading.InWhen (test_of test.value) (map element_of content.items)
+frame_of (unended.When test content) = reading.InWhen (test_of (arc_value test)) (map element_of content.items)
 frame_of (unended.Otherwise content) = reading.InOtherwise (map element_of content.items)
 frame_of (unended.Try halves) = reading.InTry (halves_of halves)
 frame_of (unended.Attempt content) = reading.InAttempt (map element_of content.items)

@@ -4,6 +4,7 @@ ghost use Rattle.std.specs.Prelude.{◌≡◌};
 use crate::parts::Parts;
 use edge_types::Octets;
 use esi_expr::Expr;
+use std::sync::Arc;
 
 /// One element, or a run of text.
 #[cycle(tree)]
@@ -51,7 +52,7 @@ pub enum Node {
 #[derive(Drop)]
 pub struct Branch {
     /// The test of a `when`.
-    pub test: Option<Box<Expr>>,
+    pub test: Option<Arc<Expr>>,
     /// What is processed where the branch is taken.
     pub content: Vec<Node>,
 }

@@ -13,6 +13,7 @@ use crate::parts::Parts;
 use edge_types::{NoMemory, Octets};
 use esi_expr::Expr;
 use esi_scanner::ElementName;
+use std::sync::Arc;
 
 #[derive(Drop)]
 pub(crate) enum OpenElement {
@@ -29,7 +30,7 @@ pub(crate) enum OpenElement {
     Vars(Vec<Node>),
     Choose(Vec<Branch>),
     When {
-        test: Box<Expr>,
+        test: Arc<Expr>,
         content: Vec<Node>,
     },
     Otherwise(Vec<Node>),

@@ -6,20 +6,22 @@ use edge_types::NoMemory;
 use esi_vars::{Part, parts};
 use std::alloc::Global;
 use std::marker::Model;
+use std::sync::Arc;
 
 /// The parts of a text: its references, and the text between them.
 #[derive(Drop)]
 pub struct Parts {
-    parts: Vec<Part>,
+    parts: Arc<Vec<Part>>,
 }
 
 impl Model for Parts {
     ghost use Rattle.std.specs.Prelude.{List};
+    ghost use Rattle.std.specs.Arc.{arc_value};
     ghost use Rattle.esi_vars.specs.declared.part.Part.{Part};
 
     ghost Value = { List Part };
 
-    ghost view = { λ p. p.parts.items };
+    ghost view = { λ p. (arc_value p.parts).items };
 }
 
 impl Parts {
@@ -30,7 +32,16 @@ impl Parts {
         ensures { IfOk result (λ made. made ≡ parts_of text.now) }
     {
         Ok(Parts {
-            parts: parts(alloc, text)?,
+            parts: Arc::new(alloc, parts(alloc, text)?)?,
+        })
+    }
+
+    /// A second owner of the parts. `NoMemory` where a growth is refused; none is made then.
+    pub fn share(&self) -> Result<Parts, NoMemory>
+        ensures { IfOk result (λ shared. shared ≡ self.now) }
+    {
+        Ok(Parts {
+            parts: Arc::try_clone(&self.parts)?,
         })
     }
 

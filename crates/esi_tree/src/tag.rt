@@ -15,6 +15,7 @@ use edge_types::{NoMemory, Octets, is_ws};
 use esi_expr::{Expr, parse};
 use esi_scanner::{Attributes, ElementName, KnownAttribute, Span, Tag};
 use std::alloc::Global;
+use std::sync::Arc;
 
 // The one value of `onerror` that says anything.
 const CONTINUE: &[u8] = b"continue";
@@ -103,7 +104,7 @@ fn when_of(alloc: Global, attributes: &Attributes) -> Result<Option<OpenElement>
         return Ok(None);
     };
     Ok(Some(OpenElement::When {
-        test: Box::new(alloc, test)?,
+        test: Arc::new(alloc, test)?,
         content: Vec::new(alloc),
     }))
 }
