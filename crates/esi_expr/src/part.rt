@@ -118,7 +118,7 @@ fn quoted(alloc: Global, text: &[u8]) -> Result<Option<(Operand, &[u8])>, NoMemo
 {
     match cut_at(QUOTE, text) {
         Some((bytes, rest)) => {
-            let bytes = Octets::of(bytes.to_vec(alloc)?);
+            let bytes = Octets::copy_of(alloc, bytes)?;
             Ok(Some((Operand::Quoted(bytes), rest)))
         }
         None => Ok(None),

@@ -16,7 +16,7 @@ fn request(alloc: Global, cookie: &str, query: &str) -> Result<Request, NoMemory
 }
 
 fn octets(alloc: Global, text: &str) -> Result<Octets, NoMemory> {
-    Ok(Octets::of(text.as_bytes().to_vec(alloc)?))
+    Octets::copy_of(alloc, text.as_bytes())
 }
 
 // Whether the text holds; `None` where it is no test.

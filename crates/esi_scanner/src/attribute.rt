@@ -69,7 +69,7 @@ impl AttributeName {
     {
         match KnownAttribute::of(bytes) {
             Some(known) => Ok(AttributeName::Known(known)),
-            None => Ok(AttributeName::Other(Octets::of(bytes.to_vec(alloc)?))),
+            None => Ok(AttributeName::Other(Octets::copy_of(alloc, bytes)?)),
         }
     }
 

@@ -1,15 +1,15 @@
 -- The search for references, and the parts that it finds.
-use Rattle.std.proofs.Common.{◌≡◌, ◌⊎◌, inl, inr, ℕ, zero, suc, ◌+◌, ◌-◌, ◌<◌, ◌≤◌, ◌==◌, Bool, true, false, cond, nat_lt, codes, List, [], ◌∷◌, ◌++◌, length, take, drop, get_or, Option, Some, None, refl, sym, ◌∙◌, ap, append_assoc, arith}
+use Rattle.std.proofs.Common.{◌≡◌, ◌⊎◌, inl, inr, ℕ, zero, suc, ◌+◌, ◌-◌, ◌<◌, ◌≤◌, ◌==◌, Bool, true, false, cond, nat_lt, codes, List, [], ◌∷◌, ◌++◌, length, take, drop, slice_range, get_or, subst, Option, Some, None, refl, sym, ◌∙◌, ap, append_assoc, arith}
 use Rattle.std.specs.List.{position, position_or_len}
 use Rattle.std.proofs.lemmas.Bool.{ltb-true, ltb-false, eqb-false, cases_lt}
-use Rattle.std.proofs.lemmas.List.{drop_more, drop_all, length-append, length-drop, append-nil, drop-drop, get_or_at, get_or-drop}
+use Rattle.std.proofs.lemmas.List.{drop_more, drop_all, drop_at, take_at, take_all, length-append, length-drop, append-nil, drop-drop, get_or_at, get_or-drop}
 use Rattle.std.proofs.lemmas.List.Sums.{fails_before_first}
 use Rattle.std.proofs.lemmas.Option.{same_Some}
 use Rattle.esi_vars.specs.declared.reference.Reference.{Reference}
 use Rattle.esi_vars.specs.declared.part.Part.{Part}
 use Rattle.esi_vars.specs.declared.part.Part.TheVariants as part
 use Rattle.esi_vars.specs.Reading.{Written, reference_of, written_at, reference_at}
-use Rattle.esi_vars.specs.Parts.{Found, with_before, next_reference, places_past, places_of, with_text, joined, parts_of, text_part}
+use Rattle.esi_vars.specs.Parts.{Found, with_before, found_or, next_reference, places_past, places_of, with_text, joined, parts_of, text_part}
 use Rattle.esi_vars.proofs.Sound.{written_sound}
 
 with_before_none : (o : Option Found) → o ≡ with_before [] o
@@ -206,6 +206,66 @@ parts_next (b ∷ bs) = by_reading (parts_next bs) (written_at (b ∷ bs)) refl
     by_reading : parts_of bs ≡ parts_by (next_reference bs) bs → (o : Option (Written × List ℕ)) → written_at (b ∷ bs) ≡ o → parts_of (b ∷ bs) ≡ parts_by (next_reference (b ∷ bs)) (b ∷ bs)
     by_reading later None is = rw is (ap (with_text (b ∷ [])) later ∙ with_text_by b bs (next_reference bs))
     by_reading later (Some x) is = rw is (ap (λ ps. part.Reference (reference_of x.0) ∷ joined ps) (places_behind b bs x.0 x.1 is))
+
+-- a reference that is found stands in the text, between what is before it and the rest
+pub record Stands (text before rest : List ℕ) : Type 0 where
+  pub piece : List ℕ
+  pub whole : text ≡ before ++ (piece ++ rest)
+
+stands_later : (b : ℕ) (bs : List ℕ) (o : Option Found) (f : Found) → ((g : Found) → o ≡ Some g → Stands bs g.before g.rest) → with_before (b ∷ []) o ≡ Some f → Stands (b ∷ bs) f.before f.rest
+stands_later b bs None f later is = absurd (cc)
+stands_later b bs (Some g) f later is =
+    let stands = later g refl in
+    let same : record { before = b ∷ g.before; written = g.written; rest = g.rest } ≡ f = same_Some _ _ is in
+    subst (λ (x : Found). Stands (b ∷ bs) x.before x.rest) same (record { piece = stands.piece; whole = ap (λ t. b ∷ t) stands.whole })
+
+pub next_stands : (text : List ℕ) (f : Found) → next_reference text ≡ Some f → Stands text f.before f.rest
+unfolding next_reference
+next_stands [] f is = absurd (cc)
+next_stands (b ∷ bs) f is = by_reading (λ g later. next_stands bs g later) (written_at (b ∷ bs)) refl is
+  where
+    by_reading : ((g : Found) → next_reference bs ≡ Some g → Stands bs g.before g.rest) → (o : Option (Written × List ℕ)) → written_at (b ∷ bs) ≡ o
+        → found_or o (with_before (b ∷ []) (next_reference bs)) ≡ Some f → Stands (b ∷ bs) f.before f.rest
+    by_reading later None none is = stands_later b bs (next_reference bs) f later is
+    by_reading later (Some x) here is =
+        let found = written_sound (b ∷ bs) x.0 x.1 here in
+        let same : record { before = []; written = x.0; rest = x.1 } ≡ f = same_Some _ _ is in
+        subst (λ (y : Found). Stands (b ∷ bs) y.before y.rest) same (record { piece = found.piece; whole = found.whole })
+
+-- where a found reference's text and rest stand in the whole, of which the first bytes are read
+pub record Within (at end next len : ℕ) (text before rest : List ℕ) : Type 0 where
+  pub order : at + length before ≤ len
+  pub shorter : length rest ≤ len
+  pub rest_within : length rest + (at + length before) ≤ len
+  pub before_is : end ≡ at + length before → slice_range text at end ≡ before
+  pub rest_is : next ≡ len - length rest → drop next text ≡ rest
+
+stands_within : (at end next : ℕ) (text left before rest : List ℕ) → at ≤ length text → left ≡ drop at text → Stands left before rest → Within at end next (length text) text before rest
+stands_within at end next text left before rest read cut stands =
+    let all : length left ≡ length before + (length stands.piece + length rest) = ap length stands.whole ∙ length-append before (stands.piece ++ rest) ∙ ap (λ n. length before + n) (length-append stands.piece rest) in
+    let left_length : length left ≡ length text - at = ap length cut ∙ length-drop at text in
+    record {
+      order = omega (arith, all, left_length);
+      shorter = omega (arith, all, left_length);
+      rest_within = omega (arith, all, left_length);
+      before_is = λ e.
+        let n : end - at ≡ length before = omega (arith, e) in
+        ap (λ m. take m (drop at text)) n ∙ ap (take (length before)) (sym cut ∙ stands.whole) ∙ take_at before (stands.piece ++ rest) (length before) refl;
+      rest_is = λ e.
+        let k = length before + length stands.piece in
+        let n : next ≡ at + k = omega (arith, e, all, left_length) in
+        ap (λ m. drop m text) n ∙ sym (drop-drop k at text)
+        ∙ ap (drop k) (sym cut ∙ stands.whole ∙ sym (append_assoc before stands.piece rest)) ∙ drop_at (before ++ stands.piece) rest k (length-append before stands.piece);
+    }
+
+pub next_within : (at end next : ℕ) (text left before rest : List ℕ) (w : Written) → at ≤ length text → left ≡ drop at text
+    → Some (record { before = before; written = w; rest = rest }) ≡ next_reference left → Within at end next (length text) text before rest
+next_within at end next text left before rest w read cut found =
+    stands_within at end next text left before rest read cut (next_stands left (record { before = before; written = w; rest = rest }) (sym found))
+
+-- the text behind the last reference
+pub rest_of : (text : List ℕ) (at len : ℕ) → len ≡ length text → slice_range text at len ≡ drop at text
+rest_of text at len all = take_all (len - at) (drop at text) (omega (arith, all, length-drop at text))
 
 -- a turn of the reading: the text before the next reference, and the reference
 pub parts_turn : (ps ps1 ps2 : List Part) (text left before rest : List ℕ) (w : Written) (r : Reference) → ps1 ≡ ps ++ text_part before → ps2 ≡ ps1 ++ (part.Reference r ∷ []) → r ≡ reference_of w

@@ -1,6 +1,6 @@
 //! Texts in parts: references, and the text between them. Clauses see a `Part` with its bytes as a list.
 
-ghost use Rattle.std.specs.Prelude.{◌≡◌, ◌<◌, ◌++◌, length, IfOk, OnOk, IfSome, option_map};
+ghost use Rattle.std.specs.Prelude.{◌≡◌, ◌<◌, ◌≤◌, ◌++◌, length, slice_range, IfOk, OnOk, IfSome, option_map};
 ghost use Rattle.esi_vars.specs.Parts.{parts_of, next_reference, text_part};
 ghost use Rattle.esi_vars.specs.Shown.{shown_next};
 ghost use Rattle.esi_vars.specs.Values.{part_value, substituted, within};
@@ -9,7 +9,7 @@ use crate::bytes::find_byte;
 use crate::reference::{Reference, owned};
 use crate::values::value;
 use crate::written::{Written, written_at};
-use edge_types::{NoMemory, Octets, Request};
+use edge_types::{NoMemory, Request, SharedBytes};
 use std::alloc::Global;
 
 /// The byte with which each reference begins.
@@ -22,7 +22,7 @@ const CLOSE: u8 = b')';
 #[derive(Drop)]
 pub enum Part {
     /// Text that stands for itself; one byte or more.
-    Text(Octets),
+    Text(SharedBytes),
     /// A reference, which stands for its value.
     Reference(Reference),
 }
@@ -36,22 +36,25 @@ struct Found<'a> {
 }
 
 /// The parts of a text, read from the left: a reference where one begins, and between references the text in one
-/// piece. What begins no reference is text.
+/// piece, which is a part of the bytes that are read. What begins no reference is text.
 ///
 /// `NoMemory` where a growth is refused; no parts are made then.
 ///
 /// Source: ESI Language Specification 1.0, "Variables"; the spelling of keys and defaults is our profile.
-pub fn parts(alloc: Global, text: &[u8]) -> Result<Vec<Part>, NoMemory>
+pub fn parts(alloc: Global, text: &SharedBytes) -> Result<Vec<Part>, NoMemory>
     ensures { IfOk result (λ parts. parts.items ≡ parts_of text.now) }
 {
+    let bytes = text.as_bytes();
+    let len = bytes.len();
     let mut parts = Vec::new(alloc);
-    let mut rest = text;
-    while let Some(found) = next_reference(rest) {
-        push_text(alloc, &mut parts, found.before)?;
+    let mut at = 0;
+    while let Some(found) = next_reference(bytes.split_at(at).1) {
+        let end = at + found.before.len();
+        push_text(&mut parts, text, at, end)?;
         parts.push(Part::Reference(owned(alloc, found.written)?))?;
-        rest = found.rest;
+        at = len - found.rest.len();
     }
-    push_text(alloc, &mut parts, rest)?;
+    push_text(&mut parts, text, at, len)?;
     Ok(parts)
 }
 
@@ -79,14 +82,22 @@ fn next_reference(text: &[u8]) -> Option<Found<'_>>
     }
 }
 
-// Adds the bytes as a part, where there are any.
-fn push_text(alloc: Global, parts: &mut Vec<Part>, bytes: &[u8]) -> Result<(), NoMemory>
-    ensures { OnOk result (parts.new.items ≡ parts.old.items ++ text_part bytes.now) }
+// Adds the bytes `from` to `to` as a part, where there are any.
+fn push_text(
+    parts: &mut Vec<Part>,
+    text: &SharedBytes,
+    from: usize,
+    to: usize,
+) -> Result<(), NoMemory>
+    requires order { from ≤ to }
+    requires within { to ≤ length text.now }
+    ensures { OnOk result (parts.new.items ≡ parts.old.items ++ text_part (slice_range text.now from to)) }
 {
-    if bytes.is_empty() {
+    let part = text.part(from, to)?;
+    if part.is_empty() {
         return Ok(());
     }
-    parts.push(Part::Text(Octets::of(bytes.to_vec(alloc)?)))?;
+    parts.push(Part::Text(part))?;
     Ok(())
 }
 

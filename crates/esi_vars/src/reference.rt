@@ -84,7 +84,7 @@ fn variable_of(alloc: Global, name: &[u8]) -> Result<Variable, NoMemory>
     } else if name == b"QUERY_STRING".as_slice() {
         Ok(Variable::QueryString)
     } else {
-        Ok(Variable::Unknown(Octets::of(name.to_vec(alloc)?)))
+        Ok(Variable::Unknown(Octets::copy_of(alloc, name)?))
     }
 }
 
@@ -93,7 +93,7 @@ fn copied(alloc: Global, bytes: Option<&[u8]>) -> Result<Option<Octets>, NoMemor
     ensures { IfOk result (λ copy. copy ≡ option_copied bytes.entry) }
 {
     match bytes {
-        Some(bytes) => Ok(Some(Octets::of(bytes.to_vec(alloc)?))),
+        Some(bytes) => Ok(Some(Octets::copy_of(alloc, bytes)?)),
         None => Ok(None),
     }
 }

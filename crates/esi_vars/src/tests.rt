@@ -1,5 +1,5 @@
 use crate::{Part, Reference, Variable, parts, reference_at, substitute, substitute_within, value};
-use edge_types::{NoMemory, Octets, Request};
+use edge_types::{NoMemory, Octets, Request, SharedBytes};
 use std::alloc::Global;
 use std::test::Fail;
 
@@ -22,12 +22,17 @@ fn request(
 }
 
 fn octets(alloc: Global, text: &str) -> Result<Octets, NoMemory> {
-    Ok(Octets::of(text.as_bytes().to_vec(alloc)?))
+    Octets::copy_of(alloc, text.as_bytes())
+}
+
+// The parts of a text.
+fn parts_of(alloc: Global, text: &str) -> Result<Vec<Part>, NoMemory> {
+    parts(alloc, &SharedBytes::copy_of(alloc, text.as_bytes())?)
 }
 
 // A text with its references replaced.
 fn replaced(alloc: Global, request: &Request, text: &str) -> Result<Vec<u8>, NoMemory> {
-    substitute(alloc, request, parts(alloc, text.as_bytes())?.as_slice())
+    substitute(alloc, request, parts_of(alloc, text)?.as_slice())
 }
 
 const MSIE: &str = "Mozilla/4.0 (compatible; MSIE 5.5; Windows NT 5.0)";
@@ -143,7 +148,7 @@ fn agents_are_told_by_the_first_line_that_fits(rt: HostRuntime) -> Result<(), Fa
 
 #[test]
 fn parts_are_references_and_whole_texts_between(rt: HostRuntime) -> Result<(), Fail> {
-    let parts = parts(rt.alloc(), b"a$b$(X{'k'}|'d')$(HTTP_HOST)c$(").map_err(|_| "no memory")?;
+    let parts = parts_of(rt.alloc(), "a$b$(X{'k'}|'d')$(HTTP_HOST)c$(").map_err(|_| "no memory")?;
     assert_eq!(rt; parts.len(), 4);
     assert!(rt; matches!(&parts[0], Part::Text(text) if text.as_bytes() == b"a$b".as_slice()));
     assert!(rt;
@@ -171,7 +176,7 @@ fn a_text_longer_than_the_limit_is_given_up(rt: HostRuntime) -> Result<(), Fail>
         ("$(HTTP_COOKIE{g})$(HTTP_COOKIE{g})", 9, false),
     ];
     for (text, limit, fits) in rows {
-        let parts = parts(rt.alloc(), text.as_bytes()).map_err(|_| "no memory")?;
+        let parts = parts_of(rt.alloc(), text).map_err(|_| "no memory")?;
         let found = substitute_within(rt.alloc(), &request, parts.as_slice(), limit).map_err(
             |_| "no memory",
         )?;
