@@ -11,6 +11,7 @@ pub mod Complete
 pub mod Inside
 pub mod Ends
 pub mod Sound
+pub mod SpanLemmas
 pub mod ReadableTest
 pub mod Closings
 pub mod Theorems

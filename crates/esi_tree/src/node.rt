@@ -2,7 +2,7 @@
 ghost use Rattle.std.specs.Prelude.{◌≡◌};
 
 use crate::parts::Parts;
-use edge_types::Octets;
+use edge_types::{Octets, SharedBytes};
 use esi_expr::Expr;
 use std::sync::Arc;
 
@@ -10,8 +10,8 @@ use std::sync::Arc;
 #[cycle(tree)]
 #[derive(Drop)]
 pub enum Node {
-    /// Text that is given out as it stands.
-    Text(Octets),
+    /// Text that is given out as it stands: a part of the template's body.
+    Text(SharedBytes),
     /// Text inside a `vars`, which is given out with the values of its references.
     VarsText(Parts),
     /// A resource that replaces the element.

@@ -2,7 +2,7 @@
 ghost use Rattle.std.specs.Prelude.{◌≡◌, IfOk};
 ghost use Rattle.esi_vars.specs.Parts.{parts_of};
 
-use edge_types::NoMemory;
+use edge_types::{NoMemory, SharedBytes};
 use esi_vars::{Part, parts};
 use std::alloc::Global;
 use std::marker::Model;
@@ -25,10 +25,10 @@ impl Model for Parts {
 }
 
 impl Parts {
-    /// The parts of this text. `NoMemory` where a growth is refused; none are made then.
+    /// The parts of this text; what stands between its references is a part of its bytes. `NoMemory` where a growth is refused; none are made then.
     ///
     /// Source: ESI Language Specification 1.0, "Variables".
-    pub fn of(alloc: Global, text: &[u8]) -> Result<Parts, NoMemory>
+    pub fn of(alloc: Global, text: &SharedBytes) -> Result<Parts, NoMemory>
         ensures { IfOk result (λ made. made ≡ parts_of text.now) }
     {
         Ok(Parts {

@@ -12,9 +12,9 @@ use crate::fault::TreeFault;
 use crate::node::Node;
 use crate::open_element::push_node;
 use crate::open_elements::{OPEN_LIMIT, OpenElements};
-use crate::tag::{bytes_at, is_white, opened_by, text_node};
+use crate::tag::{is_white, opened_by, part_at, text_node};
 use crate::tree::Template;
-use edge_types::NoMemory;
+use edge_types::{NoMemory, SharedBytes};
 use esi_scanner::{ElementName, Kind, Tag, Token, scan};
 use std::alloc::Global;
 
@@ -48,15 +48,15 @@ impl Reader {
 
     // Reads a run of text. Where no run stands, white space alone may stand, and gives nothing.
     #[tactic(auto, unfolding(crate::specs::Reading::after_text))]
-    fn after_text(&mut self, alloc: Global, bytes: &[u8]) -> Result<bool, NoMemory>
-        ensures { IfOk result (λ goes_on. some_if goes_on (state_of self.new) ≡ after_text bytes.now (state_of self.old)) }
+    fn after_text(&mut self, alloc: Global, text: SharedBytes) -> Result<bool, NoMemory>
+        ensures { IfOk result (λ goes_on. some_if goes_on (state_of self.new) ≡ after_text text (state_of self.old)) }
     {
         if self.open.is_run() {
-            let node = text_node(alloc, self.open.in_vars(), bytes)?;
+            let node = text_node(alloc, self.open.in_vars(), text)?;
             self.add(Child::Element(node))?;
             Ok(true)
         } else {
-            Ok(is_white(bytes))
+            Ok(is_white(text.as_bytes()))
         }
     }
 
@@ -125,11 +125,16 @@ impl Reader {
 
     // Reads one more token, and says whether a template goes on with it.
     #[tactic(auto, unfolding(crate::specs::Reading::after))]
-    fn after(&mut self, alloc: Global, text: &[u8], token: &Token) -> Result<bool, NoMemory>
+    fn after(
+        &mut self,
+        alloc: Global,
+        text: &SharedBytes,
+        token: &Token,
+    ) -> Result<bool, NoMemory>
         ensures { IfOk result (λ goes_on. some_if goes_on (state_of self.new) ≡ after (item_of text.now token.now) (state_of self.old)) }
     {
         match &token.kind {
-            Kind::Text => self.after_text(alloc, bytes_at(text, token.span)),
+            Kind::Text => self.after_text(alloc, part_at(text, token.span)?),
             Kind::Open(tag) => self.after_tag(alloc, tag),
             Kind::Close(name) => self.leave(*name),
             Kind::Remove => self.after_remove(),
@@ -160,19 +165,20 @@ fn add_to_page(content: &mut Vec<Node>, child: Child) -> Result<(), NoMemory>
 }
 
 // The template of a text's tokens.
-fn template_of(alloc: Global, text: &[u8], tokens: &[Token]) -> Result<Template, TreeFault>
+fn template_of(alloc: Global, text: &SharedBytes, tokens: &[Token]) -> Result<Template, TreeFault>
     ensures { Gives result (tree_of_tokens text.now tokens.now) }
 {
+    let end = text.len();
     let mut reader = Reader::new(alloc);
     for token in tokens {
         if !reader.after(alloc, text, token)? {
             return Err(TreeFault::Bad(token.span.start));
         }
     }
-    reader.ended(text.len())
+    reader.ended(end)
 }
 
-/// Reads the template that a text is.
+/// Reads the template that a text is. What the tree holds of the text are parts of its bytes.
 ///
 /// The place of a fault is in bytes: that of the first token with which no template begins, else
 /// the text's length. A tag without an attribute that it needs, a test that can't be read, and an
@@ -185,10 +191,10 @@ fn template_of(alloc: Global, text: &[u8], tokens: &[Token]) -> Result<Template,
 /// Source: ESI Language Specification 1.0, "ESI Language"; how the elements may stand in each
 /// other is our profile.
 #[tactic(auto, unfolding(crate::specs::Reading::tree_of))]
-pub fn template(alloc: Global, text: &[u8]) -> Result<Template, TreeFault>
+pub fn template(alloc: Global, text: &SharedBytes) -> Result<Template, TreeFault>
     ensures tree { Gives result (tree_of text.now) }
     ensures shallow { IfOk result (λ template. depth (tree_in template) ≤ OPEN_LIMIT + 1) }
 {
-    let tokens = scan(alloc, text)?;
+    let tokens = scan(alloc, text.as_bytes())?;
     template_of(alloc, text, tokens.as_slice())
 }

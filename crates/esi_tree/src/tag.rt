@@ -1,5 +1,6 @@
 //! What the tags and the text of a template say.
 ghost use Rattle.std.specs.Prelude.{◌≡◌, IfOk, option_map};
+ghost use Rattle.esi_vars.specs.Parts.{parts_of};
 ghost use Rattle.esi_tree.specs.Shown.{element_of};
 ghost use Rattle.esi_tree.specs.Items.{bytes_at};
 ghost use Rattle.esi_tree.specs.Attributes.{continues, is_white};
@@ -11,7 +12,7 @@ use crate::halves::Halves;
 use crate::node::Node;
 use crate::open_element::OpenElement;
 use crate::parts::Parts;
-use edge_types::{NoMemory, Octets, is_ws};
+use edge_types::{NoMemory, Octets, SharedBytes, is_ws};
 use esi_expr::{Expr, parse};
 use esi_scanner::{Attributes, ElementName, KnownAttribute, Span, Tag};
 use std::alloc::Global;
@@ -20,13 +21,14 @@ use std::sync::Arc;
 // The one value of `onerror` that says anything.
 const CONTINUE: &[u8] = b"continue";
 
-// The bytes that stand there in a text.
-pub(crate) fn bytes_at(text: &[u8], span: Span) -> &[u8]
-    ensures { result.now ≡ bytes_at text.now span }
+// The bytes that stand there in a text, as a part of it.
+#[tactic(auto, using(crate::proofs::SpanLemmas::clamped))]
+pub(crate) fn part_at(text: &SharedBytes, span: Span) -> Result<SharedBytes, NoMemory>
+    ensures { IfOk result (λ part. part ≡ bytes_at text.now span) }
 {
-    let rest = text.get(span.start..).unwrap_or(&[]);
-    let len = span.end.saturating_sub(span.start);
-    rest.get(..len).unwrap_or(rest)
+    let end = span.end.min(text.len());
+    let start = span.start.min(end);
+    text.part(start, end)
 }
 
 // Whether the bytes are white space alone.
@@ -37,14 +39,21 @@ pub(crate) fn is_white(bytes: &[u8]) -> bool
 }
 
 // A run of text: inside a `vars` in parts, else as it stands.
-pub(crate) fn text_node(alloc: Global, in_vars: bool, bytes: &[u8]) -> Result<Node, NoMemory>
-    ensures { IfOk result (λ node. element_of node ≡ text_element in_vars bytes.now) }
+pub(crate) fn text_node(alloc: Global, in_vars: bool, text: SharedBytes) -> Result<Node, NoMemory>
+    ensures { IfOk result (λ node. element_of node ≡ text_element in_vars text) }
 {
     if in_vars {
-        Ok(Node::VarsText(Parts::of(alloc, bytes)?))
+        Ok(Node::VarsText(Parts::of(alloc, &text)?))
     } else {
-        Ok(Node::Text(Octets::of(bytes.to_vec(alloc)?)))
+        Ok(Node::Text(text))
     }
+}
+
+// The parts of an attribute's value, which is decoded: bytes of its own.
+fn parts_of_value(alloc: Global, value: &[u8]) -> Result<Parts, NoMemory>
+    ensures { IfOk result (λ parts. parts ≡ parts_of value.now) }
+{
+    Parts::of(alloc, &SharedBytes::copy_of(alloc, value)?)
 }
 
 // Whether the page goes on without the element.
@@ -66,9 +75,9 @@ fn include_of(alloc: Global, attributes: &Attributes) -> Result<Option<OpenEleme
     let Some(src) = attributes.value(KnownAttribute::Src) else {
         return Ok(None);
     };
-    let src = Parts::of(alloc, src)?;
+    let src = parts_of_value(alloc, src)?;
     let alt = match attributes.value(KnownAttribute::Alt) {
-        Some(alt) => Some(Parts::of(alloc, alt)?),
+        Some(alt) => Some(parts_of_value(alloc, alt)?),
         None => None,
     };
     Ok(Some(OpenElement::Include {
@@ -87,7 +96,7 @@ fn inline_of(alloc: Global, attributes: &Attributes) -> Result<Option<OpenElemen
         return Ok(None);
     };
     Ok(Some(OpenElement::Inline {
-        name: Octets::of(name.to_vec(alloc)?),
+        name: Octets::copy_of(alloc, name)?,
         content: Vec::new(alloc),
     }))
 }

@@ -1,7 +1,15 @@
-use crate::{Branch, Node, Parts, Template, TreeFault, template};
+use crate::{Branch, Node, Parts, Template, TreeFault, template as read_template};
+use edge_types::{NoMemory, SharedBytes};
 use esi_vars::{Part, Reference, Variable};
 use std::alloc::{AllocError, Global};
 use std::test::Fail;
+
+fn template(alloc: Global, text: &[u8]) -> Result<Template, TreeFault> {
+    match SharedBytes::copy_of(alloc, text) {
+        Ok(text) => read_template(alloc, &text),
+        Err(NoMemory) => Err(TreeFault::NoMemory),
+    }
+}
 
 // The nodes in one line, a bar after each: text as it is and, inside a `vars`, behind a `~`; an
 // include as `{src}`, `{src,alt}` or, where the page goes on without it, `{src,alt}?`; the others by

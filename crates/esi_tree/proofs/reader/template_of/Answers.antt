@@ -58,4 +58,4 @@ pub returns : goal.returns
 returns c =
     let text = c.args.text.now in
     let P : Result Elements ℕ → Type 0 = λ read. Gives c.ended.result read in
-    subst P (whole text c.args.tokens.now c.loop-token.token-index (state_of c.loop-token.reader) (omega arith) c.loop-token.invariant) c.ended.ensures
+    subst P (ap (ended (state_of c.loop-token.reader).frames (state_of c.loop-token.reader).content) c.len-end.ensures ∙ whole text c.args.tokens.now c.loop-token.token-index (state_of c.loop-token.reader) (omega arith) c.loop-token.invariant) c.ended.ensures
