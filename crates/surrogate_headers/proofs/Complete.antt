@@ -16,7 +16,8 @@ use Rattle.surrogate_headers.specs.declared.directive.Asks.TheVariants.{NoStore,
 use Rattle.surrogate_headers.specs.Token.{is_token_byte, is_token}
 use Rattle.surrogate_headers.specs.Cut.{is_blank, skip_blanks}
 use Rattle.edge_types.specs.WhiteSpace.{is_ws}
-use Rattle.surrogate_headers.specs.Parameter.{ends_value, around, bare_value, value_after_equals, value_at, seconds_of, age, age_around, age_of, names_esi}
+use Rattle.edge_types.specs.Halves.{around}
+use Rattle.surrogate_headers.specs.Parameter.{ends_value, bare_value, value_after_equals, value_at, seconds_of, age, age_around, age_of, names_esi}
 use Rattle.surrogate_headers.specs.Directive.{Target, Every, Device, Directive, ends_name, name_of, asked_by, token_behind, target_of, directive_of}
 use Rattle.surrogate_headers.specs.Spelling.{EachPasses, NonePasses, IsNamed, SpellsValue, SpellsSeconds, SpellsAge, SpellsParameter, SpellsAsks, SpellsTarget, Spells}
 use Rattle.surrogate_headers.proofs.RunLemmas.{run_stops, stops_at, around-spelled, around-none}

@@ -7,7 +7,7 @@ use Rattle.std.proofs.lemmas.List.{length-append, get_or-take, length-take}
 use Rattle.std.proofs.lemmas.List.Sums.{list_all-from_AllPass, fails_before_first, passes_at_first, split_at_first}
 use Rattle.std.proofs.lemmas.Option.{some_pair_parts}
 use Rattle.std.proofs.Math.Seq.{take-append_seam}
-use Rattle.surrogate_headers.specs.Parameter.{around}
+use Rattle.edge_types.specs.Halves.{around}
 use Rattle.surrogate_headers.specs.Spelling.{NonePasses}
 
 -- a value that a chain of steps gave

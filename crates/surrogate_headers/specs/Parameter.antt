@@ -1,10 +1,10 @@
 -- The parameter of a directive: the value after its name's `=`.
-use Rattle.std.specs.Prelude.{ℕ, ◌+◌, Bool, true, false, ◌&&◌, ◌||◌, ◌==◌, nat_lt, min, List, [], ◌∷◌, length, take, drop, codes, bytes_eq, filter, position, Option, Some, None, option_and_then, option_map, if◌then◌else◌}
+use Rattle.std.specs.Prelude.{ℕ, Bool, true, false, ◌&&◌, ◌||◌, ◌==◌, nat_lt, min, List, [], ◌∷◌, length, take, drop, codes, bytes_eq, filter, Option, Some, None, option_and_then, option_map, if◌then◌else◌}
 use Rattle.std.specs.List.{list_all, list_any, slice_split, position_or_len}
-use Rattle.std.specs.Borrow.{Bor}
 use Rattle.std.specs.Char.{is_ascii_digit}
 use Rattle.std.specs.Str.{byte}
 use Rattle.std.specs.Str.Parse.{digits_value}
+use Rattle.edge_types.specs.Halves.{around}
 use Rattle.edge_types.specs.WhiteSpace.{is_ws}
 use Rattle.surrogate_headers.specs.declared.parameter.Age.{Age}
 
@@ -15,10 +15,6 @@ o >>= f = option_and_then f o
 -- a byte that ends a value without quotes
 unfoldable pub ends_value : ℕ → Bool
 ends_value b = is_ws b || (b == byte "," || (b == byte ";" || b == byte "\""))
-
--- what stands before the first of this byte, and after it, where there is one
-unfoldable pub around : ℕ → List ℕ → Option (List ℕ × List ℕ)
-around mark text = option_map (λ n. (take n text, drop (n + 1) text)) (position (λ b. b == mark) text)
 
 -- one or more bytes before the first that ends a value, and what follows them
 unfoldable pub bare_value : List ℕ → Option (List ℕ × List ℕ)
@@ -71,7 +67,3 @@ words_of value = filter is_filled (slice_split is_ws value)
 -- whether one of the words is `ESI/1.0`
 unfoldable pub names_esi : List ℕ → Bool
 names_esi value = list_any (λ word. bytes_eq word (codes "ESI/1.0")) (words_of value)
-
--- what a reader of the code lends
-abbrev pub shown_pair : Bor (List ℕ) × Bor (List ℕ) → List ℕ × List ℕ
-shown_pair pair = (pair.0.now, pair.1.now)

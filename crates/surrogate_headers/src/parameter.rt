@@ -3,9 +3,10 @@ ghost use Rattle.std.specs.Prelude.{◌≡◌, ◌==◌, ◌<◌, ◌≤◌, len
 ghost use Rattle.std.specs.List.{position_or_len};
 ghost use Rattle.std.specs.Option.{option_map};
 ghost use Rattle.surrogate_headers.specs.Parameter as spec;
-ghost use Rattle.surrogate_headers.specs.Parameter.{around, bare_value, value_after_equals, value_at, seconds_of, age_of, names_esi, shown_pair};
+ghost use Rattle.surrogate_headers.specs.Parameter.{bare_value, value_after_equals, value_at, seconds_of, age_of, names_esi};
+ghost use Rattle.edge_types.specs.Halves.{lent_pair};
 
-use edge_types::is_ws;
+use edge_types::{around, is_ws};
 
 /// The largest number of seconds that counts; a larger one counts as this.
 pub const MAX_SECONDS: u32 = 2_147_483_647;
@@ -28,22 +29,6 @@ fn ends_value(byte: u8) -> bool
     is_ws(byte) || matches!(byte, b',' | b';' | b'"')
 }
 
-fn place_of(mark: u8, text: &[u8]) -> Option<usize>
-    ensures value { result ≡ position (λ b. b == mark) text.now }
-    ensures within { IfSome result (λ n. n < length text.now) }
-{
-    text.iter().position(|byte| *byte == mark)
-}
-
-// What stands before the first of this byte, and after it.
-#[tactic(auto, unfolding(crate::specs::Parameter::around))]
-fn around(mark: u8, text: &[u8]) -> Option<(&[u8], &[u8])>
-    ensures { option_map shown_pair result ≡ around mark text.now }
-{
-    let at = place_of(mark, text)?;
-    Some((&text[..at], &text[at + 1..]))
-}
-
 // How many bytes stand before the first that ends a value.
 fn bare_len(text: &[u8]) -> usize
     ensures value { result ≡ position_or_len spec.ends_value text.now }
@@ -60,7 +45,7 @@ fn bare_len(text: &[u8]) -> usize
 // The value without quotes at the front, and what follows it.
 #[tactic(auto, unfolding(crate::specs::Parameter::bare_value))]
 fn bare_value(text: &[u8]) -> Option<(&[u8], &[u8])>
-    ensures { option_map shown_pair result ≡ bare_value text.now }
+    ensures { option_map lent_pair result ≡ bare_value text.now }
 {
     let len = bare_len(text);
     if len == 0 {
@@ -72,7 +57,7 @@ fn bare_value(text: &[u8]) -> Option<(&[u8], &[u8])>
 // The value in its quotes or without them, and what follows it.
 #[tactic(auto, unfolding(crate::specs::Parameter::bare_value))]
 fn value_after_equals(text: &[u8]) -> Option<(&[u8], &[u8])>
-    ensures { option_map shown_pair result ≡ value_after_equals text.now }
+    ensures { option_map lent_pair result ≡ value_after_equals text.now }
 {
     match text {
         [b'"', rest @ ..] => around(b'"', rest),
@@ -83,7 +68,7 @@ fn value_after_equals(text: &[u8]) -> Option<(&[u8], &[u8])>
 // The value after the `=`, and what follows it.
 #[tactic(auto, unfolding(crate::specs::Parameter::value_at))]
 pub(crate) fn value_at(after: &[u8]) -> Option<(&[u8], &[u8])>
-    ensures { option_map shown_pair result ≡ value_at after.now }
+    ensures { option_map lent_pair result ≡ value_at after.now }
 {
     match after {
         [b'=', rest @ ..] => value_after_equals(rest),
