@@ -11,13 +11,14 @@ ghost use Rattle.esi_meaning.specs.Run.{AsksNobody, tries};
 
 use crate::choice::chosen;
 use crate::inlines::inline_for;
+use crate::leg_url::leg_url;
 use crate::limits::MAX_LEGS;
 use crate::progress::{
     Ending, Progress, count_leg, no_leg, on_error, push_text, push_values, unprocessed,
 };
-use edge_types::{Answer, NoMemory, PageUrl, Request, Table};
+use edge_types::{Answer, NoMemory, PageUrl, Request, SharedBytes, Table};
 use esi_tree::{Branch, Node, Parts, Template, TreeFault, template};
-use esi_vars::{Part, substitute};
+use esi_vars::Part;
 use std::alloc::Global;
 use std::sync::Arc;
 
@@ -78,7 +79,7 @@ fn element(
         (Ends (element_at setting.now standing.entry (element_of node.now)) progress.old progress.new) }
 {
     match node {
-        Node::Text(text) => push_text(setting.alloc, text, progress),
+        Node::Text(text) => push_text(text, progress),
         Node::VarsText(parts) => push_values(
             setting.alloc,
             setting.request,
@@ -206,8 +207,7 @@ fn leg(
     if standing.level == 0 {
         return Ok(no_leg(progress));
     }
-    let text = substitute(setting.alloc, setting.request, text)?;
-    let Some(url) = standing.url.resolve(setting.alloc, text.as_slice())? else {
+    let Some(url) = leg_url(setting.alloc, setting.request, standing.url, text)? else {
         return Ok(no_leg(progress));
     };
     let below = Standing {
@@ -289,7 +289,7 @@ fn answered(
         (Ends (reply_at setting.now level url.now (arc_value answer.now).reply) progress.old progress.new) }
 {
     if answer.processed() {
-        processed(setting, level, url, answer.body(), progress)
+        processed(setting, level, url, &answer.share_body()?, progress)
     } else {
         unprocessed(answer, progress)
     }
@@ -301,7 +301,7 @@ fn processed(
     setting: &Setting<'_>,
     level: u8,
     url: &PageUrl,
-    body: &[u8],
+    body: &SharedBytes,
     progress: &mut Progress,
 ) -> Result<Ending, NoMemory>
     requires few { progress.old.legs ≤ MAX_LEGS }

@@ -5,6 +5,7 @@ mod choice;
 mod evaluator;
 mod inlines;
 pub mod laws;
+mod leg_url;
 mod limits;
 mod page;
 mod progress;

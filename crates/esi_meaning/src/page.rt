@@ -10,7 +10,8 @@ ghost use Rattle.esi_meaning.specs.Evaluator.{answered_page, processed_page};
 use crate::evaluator::{Setting, Standing, elements};
 use crate::progress::{Ending, Progress, push_whole};
 use edge_types::{
-    Answer, NoMemory, Octets, Outcome, PageBody, PageFault, PageUrl, Reply, Request, Table,
+    Answer, NoMemory, Octets, Outcome, PageBody, PageFault, PageUrl, Reply, Request, SharedBytes,
+    Table,
 };
 use esi_tree::{TreeFault, template};
 use std::alloc::Global;
@@ -66,7 +67,7 @@ fn answered_page(
         return Ok(Outcome::Fault(PageFault::PageFetch));
     };
     if answer.processed() {
-        return processed_page(setting, url, levels, *status, content_type, body.as_bytes());
+        return processed_page(setting, url, levels, *status, content_type, body);
     }
     Ok(Outcome::Page {
         status: *status,
@@ -92,7 +93,7 @@ fn processed_page(
     levels: u8,
     status: u16,
     content_type: &Octets,
-    body: &[u8],
+    body: &SharedBytes,
 ) -> Result<Outcome, NoMemory>
     ensures { IfOk result (λ o. shown o ≡
         processed_page setting.now levels url.now status content_type.now body.now) }

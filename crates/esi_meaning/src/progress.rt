@@ -9,7 +9,7 @@ ghost use Rattle.esi_meaning.specs.Meaning.{on_error, unprocessed_run};
 ghost use Rattle.esi_meaning.specs.Run.{AsksNobody, gives, tries};
 
 use crate::limits::MAX_LEGS;
-use edge_types::{Answer, NoMemory, Octets, PageBody, Request};
+use edge_types::{Answer, NoMemory, PageBody, Request, SharedBytes};
 use esi_vars::{Part, substitute};
 use std::alloc::Global;
 use std::sync::Arc;
@@ -35,16 +35,12 @@ pub(crate) struct Progress {
 }
 
 /// A text that is given out as it stands.
-pub(crate) fn push_text(
-    alloc: Global,
-    text: &Octets,
-    progress: &mut Progress,
-) -> Result<Ending, NoMemory>
+pub(crate) fn push_text(text: &SharedBytes, progress: &mut Progress) -> Result<Ending, NoMemory>
     requires { progress.old.legs ≤ MAX_LEGS }
     ensures { IfOk result
         (Ends (gives (Some text.now)) progress.old progress.new) }
 {
-    progress.body.push_own(text.copy(alloc)?)?;
+    progress.body.push(text.share()?)?;
     Ok(Ending::Complete)
 }
 
@@ -60,7 +56,7 @@ pub(crate) fn push_values(
         (Ends (gives (Some (substituted request.now parts.now))) progress.old progress.new) }
 {
     let text = substitute(alloc, request, parts)?;
-    progress.body.push_own(Octets::of(text))?;
+    progress.body.push(SharedBytes::of(text)?)?;
     Ok(Ending::Complete)
 }
 
@@ -115,5 +111,5 @@ pub(crate) fn unprocessed(answer: &Arc<Answer>, progress: &mut Progress) -> Resu
 pub(crate) fn push_whole(answer: &Arc<Answer>, page: &mut PageBody) -> Result<(), NoMemory>
     ensures { OnOk result (Adds (body_of (arc_value answer.now).reply) page.old page.new) }
 {
-    page.push_part(answer, 0, answer.body().len())
+    page.push(answer.share_body()?)
 }

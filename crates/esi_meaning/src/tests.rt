@@ -2,7 +2,9 @@
 // body. An answer's content type is `text` and its path. The page is at `/p`. What is told is the
 // status, the content type and the body, or the fault.
 use super::*;
-use edge_types::{Answer, Control, NoMemory, Octets, Outcome, PageFault, PageUrl, Request, Table};
+use edge_types::{
+    Answer, Control, NoMemory, Octets, Outcome, PageFault, PageUrl, Request, SharedBytes, Table,
+};
 use std::alloc::Global;
 use std::fmt::Write;
 use std::str;
@@ -14,7 +16,7 @@ mod legs;
 mod pages;
 
 fn octets(alloc: Global, text: &str) -> Result<Octets, NoMemory> {
-    Ok(Octets::of(text.as_bytes().to_vec(alloc)?))
+    Octets::copy_of(alloc, text.as_bytes())
 }
 
 // A request's host, cookie and query; the other fields are empty.
@@ -27,10 +29,8 @@ fn request(alloc: Global, fields: Fields) -> Result<Request, NoMemory> {
     Ok(Request {
         host: octets(alloc, host)?,
         cookie: octets(alloc, cookie)?,
-        referer: Octets::of(Vec::new(alloc)),
-        user_agent: Octets::of(Vec::new(alloc)),
-        accept_language: Octets::of(Vec::new(alloc)),
         query: octets(alloc, query)?,
+        ..Request::empty(alloc)
     })
 }
 
@@ -65,17 +65,15 @@ fn answer(alloc: Global, line: &str) -> Result<Option<Answer>, NoMemory> {
     content_type.push_str("text")?;
     content_type.push_str(path)?;
     let control = Control {
-        no_store: false,
-        max_age: None,
-        extension: 0,
         esi: kind == "esi",
+        ..Control::default()
     };
     Ok(Answer::got(
         url,
         status,
         octets(alloc, content_type.as_str())?,
         control,
-        octets(alloc, body)?,
+        SharedBytes::copy_of(alloc, body.as_bytes())?,
     ))
 }
 
