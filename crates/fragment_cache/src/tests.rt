@@ -2,7 +2,7 @@
 ghost use Rattle.std.specs.Prelude.{◌≤◌};
 
 use crate::{Begun, Flight, Picked, Shard};
-use edge_types::{Answer, Control, Octets, PageUrl};
+use edge_types::{Answer, Control, Octets, PageUrl, SharedBytes};
 use std::alloc::Global;
 use std::process::Abort;
 use std::sync::Arc;
@@ -69,10 +69,10 @@ fn answer(alloc: Global, url: PageUrl, told: Told) -> Result<Arc<Answer>, Fail> 
         no_store: told.no_store,
         max_age: told.max_age,
         extension: told.extension,
-        esi: false,
+        ..Control::default()
     };
-    let content_type = Octets::of(Vec::new(alloc));
-    let body = Octets::of([told.body].to_vec(alloc)?);
+    let content_type = Octets::empty(alloc);
+    let body = SharedBytes::of([told.body].to_vec(alloc)?)?;
     match Answer::got(url, told.status, content_type, control, body) {
         Some(answer) => Ok(Arc::new(alloc, answer)?),
         None => Err("no answer")?,
