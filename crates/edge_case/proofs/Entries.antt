@@ -7,7 +7,8 @@ use Rattle.std.proofs.lemmas.Bool.{eqb-false, ltb-false, le-ltb, cond-false}
 use Rattle.std.specs.List.{All}
 use Rattle.std.specs.Option.{option_or}
 use Rattle.edge_case.specs.Document.{space, line_feed, Entry, Failed, Got, line, field, got_line, entry, IsValue, IsField, IsEntry}
-use Rattle.edge_case.specs.Reading.{around, after_word, line_at, field_at, number_of, got_line_of, body_at, failed_at, got_at, entry_at}
+use Rattle.edge_types.specs.Halves.{around}
+use Rattle.edge_case.specs.Reading.{after_word, line_at, field_at, number_of, got_line_of, body_at, failed_at, got_at, entry_at}
 use Rattle.edge_case.proofs.Steps.{bound, mapped, unguarded, same_value}
 use Rattle.edge_case.proofs.Lines.{around_sound, around_complete, after_word_sound, after_word_complete, line_at_sound, line_at_complete, field_at_sound, field_at_complete, lacks_field}
 use Rattle.edge_case.proofs.Numbers.{number_sound, number_complete, decimal_lacks}

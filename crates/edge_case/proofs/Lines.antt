@@ -11,7 +11,8 @@ use Rattle.std.proofs.lemmas.Grind.{common_steps}
 use Rattle.std.specs.List.{All, position_or_len}
 use Rattle.std.specs.Option.{option_map}
 use Rattle.edge_case.specs.Document.{line_feed, line, field, IsValue, IsField}
-use Rattle.edge_case.specs.Reading.{◌>>=◌, around, after_word, line_at, some_field, field_from, field_at}
+use Rattle.edge_types.specs.Halves.{around}
+use Rattle.edge_case.specs.Reading.{◌>>=◌, after_word, line_at, some_field, field_from, field_at}
 use Rattle.edge_case.proofs.Steps.{bound, mapped, guarded, same_value}
 
 around_parts : (mark : ℕ) (text v rest : List ℕ) (i : ℕ) → i < length text → get_or text i 0 ≡ mark → ((k : ℕ) → k < i → get_or text k 0 ≡ mark → ⊥)

@@ -1,11 +1,12 @@
 -- Reading a case text from the left.
-use Rattle.std.specs.Prelude.{ℕ, ◌+◌, zero, suc, Bool, false, not, ◌&&◌, ◌==◌, nat_lt, nat_le, List, [], ◌∷◌, ◌++◌, length, take, drop, codes, bytes_eq, position, Option, Some, None, is_some, option_and_then, if◌then◌else◌}
+use Rattle.std.specs.Prelude.{ℕ, zero, suc, Bool, false, not, ◌&&◌, ◌==◌, nat_lt, nat_le, List, [], ◌∷◌, ◌++◌, length, take, drop, codes, bytes_eq, Option, Some, None, is_some, option_and_then, if◌then◌else◌}
 use Rattle.std.specs.Option.{option_map, option_or, option_copied}
 use Rattle.std.specs.Borrow.{Bor}
 use Rattle.std.specs.List.{list_all}
 use Rattle.std.specs.Char.{is_ascii_digit}
 use Rattle.std.specs.Str.{byte}
 use Rattle.std.specs.Str.Parse.{digits_value}
+use Rattle.edge_types.specs.Halves.{around}
 use Rattle.edge_types.specs.Asked.{asked}
 use Rattle.edge_types.specs.Answered.{Answered, failed, got}
 use Rattle.edge_types.specs.declared.answer.TheConstants.{MIN_STATUS, MAX_STATUS, MAX_CONTENT_TYPE, MAX_BODY}
@@ -23,10 +24,6 @@ use Rattle.edge_case.specs.Case.{request_of, value_or_empty, device}
 infixl 10 ◌>>=◌
 abbrev pub ◌>>=◌ : {A B : Type 0} → Option A → (A → Option B) → Option B
 o >>= f = option_and_then f o
-
--- what stands before the first of this byte, and after it
-unfoldable pub around : ℕ → List ℕ → Option (List ℕ × List ℕ)
-around mark text = option_map (λ n. (take n text, drop (n + 1) text)) (position (λ b. b == mark) text)
 
 -- what follows a word at the front
 unfoldable pub after_word : List ℕ → List ℕ → Option (List ℕ)
@@ -170,9 +167,6 @@ unfoldable pub case_of : List ℕ → Option Case
 case_of text = if nat_le (length text) MAX_CASE then lines_case text else None
 
 -- what the code's readers lend
-abbrev pub lent_pair : Bor (List ℕ) × Bor (List ℕ) → List ℕ × List ℕ
-lent_pair pair = (pair.0.now, pair.1.now)
-
 abbrev pub lent_field : Option (Bor (List ℕ)) × Bor (List ℕ) → Option (List ℕ) × List ℕ
 lent_field field = (option_copied field.0, field.1.now)
 

@@ -4,9 +4,9 @@ ghost use Rattle.std.specs.Option.{option_copied};
 ghost use Rattle.edge_case.specs.Case.{value_or_empty};
 ghost use Rattle.edge_case.specs.Reading.{got_from, answered_by, with_entry, answers_at, shown_entry};
 
-use crate::bytes::{lent_or_empty, octets_of};
+use crate::bytes::lent_or_empty;
 use crate::entry::{Entry, Got, entry_at};
-use edge_types::{Answer, InsertFault, NoMemory, PageUrl, Table};
+use edge_types::{Answer, InsertFault, NoMemory, Octets, PageUrl, SharedBytes, Table};
 use std::alloc::Global;
 use std::sync::Arc;
 use surrogate_headers::control;
@@ -30,9 +30,9 @@ impl Got<'_> {
         if self.status > MAX_STATUS {
             return Ok(None);
         }
-        let content_type = octets_of(alloc, lent_or_empty(self.content_type))?;
+        let content_type = Octets::copy_of(alloc, lent_or_empty(self.content_type))?;
         let control = control(lent_or_empty(self.control), DEVICE);
-        let body = octets_of(alloc, self.body)?;
+        let body = SharedBytes::copy_of(alloc, self.body)?;
         Ok(Answer::got(url, self.status as u16, content_type, control, body))
     }
 }

@@ -1,10 +1,7 @@
-//! Byte strings, copied.
-ghost use Rattle.std.specs.Prelude.{◌≡◌, IfOk};
+//! Byte strings that may be absent.
+ghost use Rattle.std.specs.Prelude.{◌≡◌};
 ghost use Rattle.std.specs.Option.{option_copied};
 ghost use Rattle.edge_case.specs.Case.{value_or_empty};
-
-use edge_types::{NoMemory, Octets};
-use std::alloc::Global;
 
 /// What an absent line says: nothing.
 pub(crate) fn lent_or_empty(value: Option<&[u8]>) -> &[u8]
@@ -14,11 +11,4 @@ pub(crate) fn lent_or_empty(value: Option<&[u8]>) -> &[u8]
         Some(value) => value,
         None => &[],
     }
-}
-
-/// A copy of the bytes.
-pub(crate) fn octets_of(alloc: Global, bytes: &[u8]) -> Result<Octets, NoMemory>
-    ensures { IfOk result (λ copy. copy ≡ bytes.now) }
-{
-    Ok(Octets::of(bytes.to_vec(alloc)?))
 }

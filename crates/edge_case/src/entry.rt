@@ -1,10 +1,12 @@
 //! Answers as they are written, and the answers that they stand for.
 ghost use Rattle.std.specs.Prelude.{◌≡◌};
 ghost use Rattle.std.specs.Option.{option_map};
-ghost use Rattle.edge_case.specs.Reading.{got_line_of, body_at, failed_at, got_at, entry_at, lent_pair, lent_got_line, lent_entry};
+ghost use Rattle.edge_case.specs.Reading.{got_line_of, body_at, failed_at, got_at, entry_at, lent_got_line, lent_entry};
+ghost use Rattle.edge_types.specs.Halves.{lent_pair};
 
-use crate::line::{SPACE, after_word, around, field_at, line_at};
+use crate::line::{SPACE, after_word, field_at, line_at};
 use crate::number::number_of;
+use edge_types::around;
 
 /// An answer as it is written.
 #[derive(Clone, Copy, Drop)]

@@ -4,9 +4,9 @@ ghost use Rattle.std.specs.Option.{option_map};
 ghost use Rattle.edge_case.specs.Case.{value_or_empty, request_of};
 ghost use Rattle.edge_case.specs.Reading.{heading_at, lent_heading, shown_heading};
 
-use crate::bytes::{lent_or_empty, octets_of};
+use crate::bytes::lent_or_empty;
 use crate::line::{field_at, line_at};
-use edge_types::{NoMemory, Request, query_of};
+use edge_types::{NoMemory, Octets, Request, query_of};
 use std::alloc::Global;
 
 /// The lines before the answers, without their words.
@@ -48,12 +48,12 @@ impl Heading<'_> {
         ensures { IfOk result (λ request. request ≡ request_of (shown_heading self.now)) }
     {
         Ok(Request {
-            host: octets_of(alloc, lent_or_empty(self.host))?,
-            cookie: octets_of(alloc, lent_or_empty(self.cookie))?,
-            referer: octets_of(alloc, lent_or_empty(self.referer))?,
-            user_agent: octets_of(alloc, lent_or_empty(self.agent))?,
-            accept_language: octets_of(alloc, lent_or_empty(self.language))?,
-            query: octets_of(alloc, query_of(self.page))?,
+            host: Octets::copy_of(alloc, lent_or_empty(self.host))?,
+            cookie: Octets::copy_of(alloc, lent_or_empty(self.cookie))?,
+            referer: Octets::copy_of(alloc, lent_or_empty(self.referer))?,
+            user_agent: Octets::copy_of(alloc, lent_or_empty(self.agent))?,
+            accept_language: Octets::copy_of(alloc, lent_or_empty(self.language))?,
+            query: Octets::copy_of(alloc, query_of(self.page))?,
         })
     }
 }

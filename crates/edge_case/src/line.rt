@@ -1,28 +1,15 @@
-//! Lines, words and the pieces between marks.
-ghost use Rattle.std.specs.Prelude.{◌≡◌, ◌==◌, ◌<◌, length, position, IfSome};
+//! Lines and words.
+ghost use Rattle.std.specs.Prelude.{◌≡◌};
 ghost use Rattle.std.specs.Option.{option_map, option_copied};
-ghost use Rattle.edge_case.specs.Reading.{around, after_word, line_at, field_from, field_at, lent_pair, lent_field};
+ghost use Rattle.edge_case.specs.Reading.{after_word, line_at, field_from, field_at, lent_field};
+ghost use Rattle.edge_types.specs.Halves.{lent_pair};
+
+use edge_types::around;
 
 /// The byte that ends a line.
 pub(crate) const LINE_FEED: u8 = b'\n';
 /// The byte between the parts of a line.
 pub(crate) const SPACE: u8 = b' ';
-
-fn place_of(mark: u8, text: &[u8]) -> Option<usize>
-    ensures value { result ≡ position (λ b. b == mark) text.now }
-    ensures within { IfSome result (λ n. n < length text.now) }
-{
-    text.iter().position(|byte| *byte == mark)
-}
-
-/// What stands before the first of this byte, and after it.
-#[tactic(auto, unfolding(crate::specs::Reading::around))]
-pub(crate) fn around(mark: u8, text: &[u8]) -> Option<(&[u8], &[u8])>
-    ensures { option_map lent_pair result ≡ around mark text.now }
-{
-    let at = place_of(mark, text)?;
-    Some((&text[..at], &text[at + 1..]))
-}
 
 /// What follows a word at the front.
 #[tactic(auto, unfolding(crate::specs::Reading::after_word))]
