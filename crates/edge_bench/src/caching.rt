@@ -2,7 +2,7 @@
 
 use crate::inputs::{or_io_error, url};
 use crate::timing::{Least, nanoseconds_each, ratio};
-use edge_types::{Answer, Control, Octets, PageUrl, SharedAnswer};
+use edge_types::{Answer, Control, Octets, PageUrl, SharedAnswer, SharedBytes};
 use fragment_cache::{Begun, Flight, MAX_CAPACITY, MAX_FLIGHTS, Picked, Shard};
 use lru::LruCache;
 use std::alloc::Global;
@@ -49,15 +49,13 @@ fn answers(alloc: Global, count: usize) -> io::Result<Vec<Arc<Answer>>> {
 // The answer of the URL of a number.
 fn answer(alloc: Global, number: usize) -> io::Result<Arc<Answer>> {
     let control = Control {
-        no_store: false,
         max_age: Some(FRESH),
-        extension: 0,
-        esi: false,
+        ..Control::default()
     };
     let text = format!(in alloc; "http://a.test/fragments/{number}")?;
     let url = url(alloc, text.as_bytes())?;
-    let content_type = Octets::of(Vec::new(alloc));
-    let body = Octets::of(text.into_bytes());
+    let content_type = Octets::empty(alloc);
+    let body = or_io_error(SharedBytes::of(text.into_bytes()))?;
     match Answer::got(url, 200, content_type, control, body) {
         Some(answer) => Ok(Arc::new(alloc, answer)?),
         None => Err(io::Error::from(io::ErrorKind::InvalidInput)),

@@ -2,7 +2,7 @@
 
 use crate::inputs::{or_io_error, repeated};
 use crate::timing::{Least, ratio};
-use edge_types::{NoMemory, Octets, Request};
+use edge_types::{NoMemory, Octets, Request, SharedBytes};
 use esi_vars::{parts, substitute};
 use std::alloc::{AllocError, Global};
 use std::io;
@@ -43,11 +43,12 @@ fn told(
     copy: Duration,
     plain: Duration,
 ) -> io::Result<Duration> {
+    let text = or_io_error(SharedBytes::copy_of(rt.alloc(), text))?;
     let mut reading = Least::new();
     let mut writing = Least::new();
     let mut count = 0;
     for _ in 0..TURNS {
-        let found = or_io_error(reading.time(rt, || parts(rt.alloc(), text))?)?;
+        let found = or_io_error(reading.time(rt, || parts(rt.alloc(), &text))?)?;
         let out = or_io_error(writing.time(
             rt,
             || substitute(rt.alloc(), request, found.as_slice()),
@@ -86,11 +87,8 @@ fn page(alloc: Global) -> Result<String, AllocError> {
 
 fn request(alloc: Global) -> Result<Request, NoMemory> {
     Ok(Request {
-        host: Octets::of(b"a.test".to_vec(alloc)?),
-        cookie: Octets::of(b"session=12345678; theme=dark; group=staff".to_vec(alloc)?),
-        referer: Octets::of(Vec::new(alloc)),
-        user_agent: Octets::of(Vec::new(alloc)),
-        accept_language: Octets::of(Vec::new(alloc)),
-        query: Octets::of(Vec::new(alloc)),
+        host: Octets::copy_of(alloc, b"a.test")?,
+        cookie: Octets::copy_of(alloc, b"session=12345678; theme=dark; group=staff")?,
+        ..Request::empty(alloc)
     })
 }

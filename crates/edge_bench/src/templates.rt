@@ -1,7 +1,8 @@
 //! Templates, beside the scan alone of the same text.
 
-use crate::inputs::{CHOOSE, page_of_includes};
+use crate::inputs::{CHOOSE, or_io_error, page_of_includes};
 use crate::timing::{Least, ratio};
+use edge_types::SharedBytes;
 use esi_scanner::scan;
 use esi_tree::template;
 use std::io;
@@ -27,11 +28,12 @@ pub fn run(rt: &HostRuntime) -> io::Result<()> {
 
 // The quickest of several turns of each.
 fn told(rt: &HostRuntime, name: &str, text: &[u8]) -> io::Result<()> {
+    let shared = or_io_error(SharedBytes::copy_of(rt.alloc(), text))?;
     let mut scanning = Least::new();
     let mut reading = Least::new();
     for _ in 0..TURNS {
         drop(scanning.time(rt, || scan(rt.alloc(), text))?);
-        if reading.time(rt, || template(rt.alloc(), text))?.is_err() {
+        if reading.time(rt, || template(rt.alloc(), &shared))?.is_err() {
             println!(rt; "templates, {name}: no template")?;
         }
     }
