@@ -1,0 +1,71 @@
+-- No step of a tree jumps past the end of its plan.
+use Rattle.std.proofs.Common.{◌≡◌, ℕ, zero, suc, ◌+◌, ◌≤◌, Bool, true, false, List, [], ◌∷◌, ◌++◌, length, slice_get, Option, Some, None, refl, ap, arith, length-append}
+use Rattle.esi_vars.specs.declared.part.Part.{Part}
+use Rattle.esi_tree.specs.Tree as tree
+use Rattle.esi_tree.specs.Tree.{Element, Elements, Branches}
+use Rattle.plan_compiler.specs.Plan.{Step, Test, Jump, Try, EndTry, Leg}
+use Rattle.plan_compiler.specs.Code.{else_code, dropped_code, include_code, code_in, code_of, chosen_code}
+use Rattle.plan_compiler.specs.Laws.{skip_of, JumpsStay}
+
+-- so many steps stand behind these, and none jumps further
+abbrev Bounded : ℕ → List Step → Type 0
+Bounded n [] = Unit {0}
+Bounded n (s ∷ ss) = (skip_of s ≤ length ss + n) × Bounded n ss
+
+more : (m n : ℕ) (c : List Step) → m ≤ n → Bounded m c → Bounded n c
+more m n [] le b = tt
+more m n (s ∷ c) le b = (omega (arith, le, b.0), more m n c le b.1)
+
+both : (c d : List Step) → Bounded (length d) c → Bounded zero d → Bounded zero (c ++ d)
+both [] d b e = e
+both (s ∷ c) d b e = (omega (arith, b.0, length-append c d), both c d b.1 e)
+
+-- pieces one after another
+in_turn : (c d : List Step) → Bounded zero c → Bounded zero d → Bounded zero (c ++ d)
+in_turn c d b e = both c d (more zero (length d) c (omega arith) b) e
+
+-- two pieces, each behind a step that jumps over the next piece at most
+jumps : (x y : Step) (c d : List Step) → skip_of x ≡ length c + 1 → skip_of y ≡ length d → Bounded zero c → Bounded zero d → Bounded zero (x ∷ c ++ y ∷ d)
+jumps x y c d over behind b e = (omega (arith, over, length-append c (y ∷ d)), in_turn c (y ∷ d) b (omega (arith, behind), e))
+
+else_bounded : (c d : List Step) → Bounded zero c → Bounded zero d → Bounded zero (else_code c d)
+else_bounded c d b e = jumps (Try (length c + 1)) (EndTry (length d)) c d refl refl b e
+
+dropped_bounded : (source : List Part) (continues : Bool) → Bounded zero (dropped_code source continues)
+dropped_bounded source false = (omega arith, tt)
+dropped_bounded source true = else_bounded (Leg source ∷ []) [] (omega arith, tt) tt
+
+include_bounded : (src : List Part) (alt : Option (List Part)) (continues : Bool) → Bounded zero (include_code src alt continues)
+include_bounded src None continues = dropped_bounded src continues
+include_bounded src (Some alt) continues = else_bounded (Leg src ∷ []) (dropped_code alt continues) (omega arith, tt) (dropped_bounded alt continues)
+
+mutual
+  bounded_in : (e : Element) → Bounded zero (code_in e)
+  bounded_in (tree.Text text) = (omega arith, tt)
+  bounded_in (tree.VarsText parts) = (omega arith, tt)
+  bounded_in (tree.Include src alt continues) = include_bounded src alt continues
+  bounded_in (tree.Choose branches) = bounded_among [] tt branches
+  bounded_in (tree.Try attempt except swapped) = else_bounded (code_of attempt) (code_of except) (bounded_of attempt) (bounded_of except)
+  bounded_in (tree.Vars content) = bounded_of content
+  bounded_in (tree.Inline name content) = bounded_of content
+  bounded_in tree.Nothing = tt
+
+  bounded_of : (t : Elements) → Bounded zero (code_of t)
+  bounded_of tree.End = tt
+  bounded_of (tree.Then first rest) = in_turn (code_in first) (code_of rest) (bounded_in first) (bounded_of rest)
+
+  bounded_among : (otherwise : List Step) → Bounded zero otherwise → (branches : Branches) → Bounded zero (chosen_code otherwise branches)
+  bounded_among otherwise b tree.NoBranch = b
+  bounded_among otherwise b (tree.When test content rest) =
+      jumps (Test test (length (code_of content) + 1)) (Jump (length (chosen_code otherwise rest))) (code_of content) (chosen_code otherwise rest) refl refl (bounded_of content) (bounded_among otherwise b rest)
+  bounded_among otherwise b (tree.Otherwise content rest) = bounded_among (code_of content) (bounded_of content) rest
+
+at_place : (c : List Step) → Bounded zero c → (i : ℕ) (s : Step) → slice_get c i ≡ Some s → i + 1 + skip_of s ≤ length c
+at_place [] b i s e = absurd (cc)
+at_place (x ∷ c) b zero s e =
+    let same : x ≡ s = cc in
+    omega (arith, b.0, ap skip_of same)
+at_place (x ∷ c) b (suc i) s e = omega (arith, at_place c b.1 i s e)
+
+pub jumps_stay : JumpsStay
+jumps_stay t i s e = at_place (code_of t) (bounded_of t) i s e

@@ -1,0 +1,9 @@
+pub mod Flow
+pub mod CodeLemmas
+pub mod Sources
+pub mod Bodies
+pub mod Single
+pub mod Jumps
+pub mod Bound
+pub mod UrlLemmas
+pub mod Entries

@@ -1,0 +1,57 @@
+-- What a plan keeps to.
+use Rattle.std.specs.Prelude.{◌≡◌, ℕ, ◌+◌, ◌-◌, ◌≤◌, List, [], length, take, drop, slice_get, Ok, Some}
+use Rattle.std.specs.Option.{option_map}
+use Rattle.edge_types.specs.declared.request.Request.{Request}
+use Rattle.esi_vars.specs.declared.part.Part.{Part}
+use Rattle.esi_tree.specs.Reading.{tree_of}
+use Rattle.esi_tree.specs.Tree.{Elements}
+use Rattle.esi_meaning.specs.Ahead.{ahead_sources}
+use Rattle.esi_meaning.specs.Meaning.{elements_run}
+use Rattle.esi_meaning.specs.Run.{Run}
+use Rattle.esi_meaning.specs.Inlines.{inline_for}
+use Rattle.plan_compiler.specs.declared.inline.Inline.{Inline}
+use Rattle.plan_compiler.specs.Urls.{entry_for}
+use Rattle.plan_compiler.specs.Ahead.{plan_sources}
+use Rattle.plan_compiler.specs.Machine.{frame_run, flow_within}
+use Rattle.plan_compiler.specs.Plan.{Step, Text, Values, Test, Jump, Try, EndTry, Leg, Fail}
+use Rattle.plan_compiler.specs.Bodies.{IsSingle}
+use Rattle.plan_compiler.specs.Code.{code_of}
+
+-- The steps of a tree try the legs of its meaning and come to its text, whatever a leg comes to.
+abbrev pub PlanMeansTheTree : Type 0
+PlanMeansTheTree = (r : Request) (leg : List Part → Run) (t : Elements) → frame_run r leg (code_of t) ≡ elements_run r leg t
+
+-- The walk over the steps of a tree finds the sources that the tree has fetched ahead, in their order.
+abbrev pub PlanFetchesAhead : Type 0
+PlanFetchesAhead = (r : Request) (t : Elements) → plan_sources r (code_of t) ≡ ahead_sources r t
+
+-- In the tree of a text no choose has two otherwises.
+abbrev pub TemplatesAreSingle : Type 0
+TemplatesAreSingle = (text : List ℕ) (t : Elements) → tree_of text ≡ Ok t → IsSingle t
+
+-- how many steps a step may skip
+abbrev pub skip_of : Step → ℕ
+skip_of (Text text) = 0
+skip_of (Values parts) = 0
+skip_of (Test test skip) = skip
+skip_of (Jump skip) = skip
+skip_of (Try skip) = skip
+skip_of (EndTry skip) = skip
+skip_of (Leg source) = 0
+skip_of Fail = 0
+
+-- No step of a tree jumps past the end of its plan.
+abbrev pub JumpsStay : Type 0
+JumpsStay = (t : Elements) (i : ℕ) (s : Step) → slice_get (code_of t) i ≡ Some s → i + 1 + skip_of s ≤ length (code_of t)
+
+-- One frame takes at most as many steps as its plan is long: where that many are allowed it is never stopped, whatever
+-- stopping would come to.
+abbrev pub FramesAreShort : Type 0
+FramesAreShort =
+    (stopped : Run) (r : Request) (leg : List Part → Run) (steps : List Step) → flow_within stopped (length steps) r leg 0 steps [] [] ≡ frame_run r leg steps
+
+-- The first entry, in text order, whose name stands for a URL has the steps of the inline that counts for the URL.
+abbrev pub FirstEntryCounts : Type 0
+FirstEntryCounts =
+    (u w : List ℕ) (t : Elements) → IsSingle t
+    → option_map code_of (inline_for u w t) ≡ option_map (λ (i : Inline). take (i.end - i.first) (drop i.first (code_of t))) (entry_for u w t)

@@ -1,0 +1,9 @@
+pub mod Plan
+pub mod Machine
+pub mod Code
+pub mod Ahead
+pub mod Bodies
+pub mod Laws
+pub mod Shown
+pub mod Prepared
+pub mod Urls
