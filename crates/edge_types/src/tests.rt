@@ -294,7 +294,11 @@ fn a_body_is_cut_back_to_its_mark(rt: HostRuntime) -> Result<(), Fail> {
         let want = want.map(|w| w.as_bytes());
         assert_eq!(rt; body.piece(i), want, "piece {i}");
         let second = body.shared_piece(i)?;
-        assert_eq!(rt; second.as_ref().map(|p| p.as_bytes()), want, "piece {i}, shared");
+        assert_eq!(rt;
+            second.as_ref().map(|p| p.as_bytes()),
+            want,
+            "piece {i}, shared"
+        );
     }
     Ok(())
 }
@@ -351,7 +355,14 @@ fn copies_and_second_owners_are_equal(rt: HostRuntime) -> Result<(), Fail> {
     }
     let empty = Request::empty(alloc);
     assert!(rt; empty.host.as_bytes().is_empty() && empty.query.as_bytes().is_empty());
-    let owner = SharedAnswer::of(answer(&rt, alloc, "http://a.test/x", 204, Control::default(), "")?);
+    let owner = SharedAnswer::of(answer(
+        &rt,
+        alloc,
+        "http://a.test/x",
+        204,
+        Control::default(),
+        "",
+    )?);
     let second = owner.share()?;
     let want = b"http://a.test/x".as_slice();
     assert_eq!(rt; second.get().url().as_bytes(), want);

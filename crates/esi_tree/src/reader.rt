@@ -125,12 +125,7 @@ impl Reader {
 
     // Reads one more token, and says whether a template goes on with it.
     #[tactic(auto, unfolding(crate::specs::Reading::after))]
-    fn after(
-        &mut self,
-        alloc: Global,
-        text: &SharedBytes,
-        token: &Token,
-    ) -> Result<bool, NoMemory>
+    fn after(&mut self, alloc: Global, text: &SharedBytes, token: &Token) -> Result<bool, NoMemory>
         ensures { IfOk result (λ goes_on. some_if goes_on (state_of self.new) ≡ after (item_of text.now token.now) (state_of self.old)) }
     {
         match &token.kind {

@@ -249,13 +249,13 @@ stands_within at end next text left before rest read cut stands =
       shorter = omega (arith, all, left_length);
       rest_within = omega (arith, all, left_length);
       before_is = λ e.
-        let n : end - at ≡ length before = omega (arith, e) in
-        ap (λ m. take m (drop at text)) n ∙ ap (take (length before)) (sym cut ∙ stands.whole) ∙ take_at before (stands.piece ++ rest) (length before) refl;
+          let n : end - at ≡ length before = omega (arith, e) in
+          ap (λ m. take m (drop at text)) n ∙ ap (take (length before)) (sym cut ∙ stands.whole) ∙ take_at before (stands.piece ++ rest) (length before) refl;
       rest_is = λ e.
-        let k = length before + length stands.piece in
-        let n : next ≡ at + k = omega (arith, e, all, left_length) in
-        ap (λ m. drop m text) n ∙ sym (drop-drop k at text)
-        ∙ ap (drop k) (sym cut ∙ stands.whole ∙ sym (append_assoc before stands.piece rest)) ∙ drop_at (before ++ stands.piece) rest k (length-append before stands.piece);
+          let k = length before + length stands.piece in
+          let n : next ≡ at + k = omega (arith, e, all, left_length) in
+          ap (λ m. drop m text) n ∙ sym (drop-drop k at text)
+          ∙ ap (drop k) (sym cut ∙ stands.whole ∙ sym (append_assoc before stands.piece rest)) ∙ drop_at (before ++ stands.piece) rest k (length-append before stands.piece);
     }
 
 pub next_within : (at end next : ℕ) (text left before rest : List ℕ) (w : Written) → at ≤ length text → left ≡ drop at text
