@@ -1,21 +1,18 @@
-//! Laws that tie the definitions together. Each function's clauses are its laws; none of them does anything.
+//! Laws that tie the definitions together. Each function's clauses are its laws; none of them does
+//! anything. Our profile.
 ghost use Rattle.std.specs.Prelude.{◌≡◌};
 ghost use Rattle.edge_case.specs.Laws.{ReadsCases, CasesAreOne};
 
 use crate::case_text::MAX_CASE;
 
 /// What is read of a text is the case that it says, and what it says is read; a text says one case
-/// at most. Takes no memory.
-///
-/// Our profile.
+/// at most.
 pub fn case_texts_are_read()
     ensures read { ReadsCases }
     ensures one { CasesAreOne }
 {}
 
-/// The limit of a case text, in figures. Takes no memory.
-///
-/// Our profile.
+/// The limit of a case text, in figures.
 pub fn limit_of_case_texts()
     ensures { MAX_CASE ≡ 67108864 }
 {}

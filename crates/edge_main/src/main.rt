@@ -29,7 +29,6 @@ fn main(rt: HostRuntime) -> ExitCode {
     status.exit_code()
 }
 
-// The words of the command line.
 fn words(rt: &HostRuntime) -> Result<Vec<String>, Status> {
     match std::env::args(rt) {
         Ok(words) => words.collect(rt.alloc()).map_err(|_| Status::NoMemory),

@@ -70,7 +70,6 @@ impl Table {
         self.firsts.get(&print).copied()
     }
 
-    // The place of a URL's answer.
     fn place(&self, url: &PageUrl) -> Option<usize>
         ensures value { result ≡ position (is_of url.now) self.now }
         ensures once { IsTable self.now }

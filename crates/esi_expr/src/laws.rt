@@ -6,13 +6,13 @@ ghost use Rattle.esi_expr.specs.Laws.{ReadsTests, TestsAreOne};
 use crate::number::DIGIT_LIMIT;
 use crate::reading::NESTING_LIMIT;
 
-/// What is read is spelled so, and what is spelled so is read; a text spells one test at most. Takes no memory.
+/// What is read is spelled so, and what is spelled so is read; a text spells one test at most.
 pub fn tests_are_read()
     ensures read { ReadsTests }
     ensures one { TestsAreOne }
 {}
 
-/// The limits of a test, in figures. Takes no memory.
+/// The limits of a test, in figures.
 ///
 /// Our profile.
 pub fn limits_of_tests()

@@ -52,7 +52,6 @@ fn are_digits(text: &[u8]) -> bool
     is_digit_count(text.len()) && all_digits(text)
 }
 
-// Whether each byte is a digit.
 fn all_digits(text: &[u8]) -> bool
     ensures { result ≡ list_all is_ascii_digit text.now }
 {

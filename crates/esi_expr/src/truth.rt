@@ -45,7 +45,6 @@ impl Expr {
 }
 
 impl Conjunction {
-    // Whether each part of it holds.
     #[cycle(truth)]
     #[tactic(auto, using(crate::proofs::TruthLemmas::conjunction_holds))]
     fn holds(&self, request: &Request) -> bool
@@ -64,7 +63,6 @@ impl Conjunction {
 }
 
 impl Negation {
-    // Whether it holds.
     #[cycle(truth)]
     #[tactic(auto, unfolding(crate::specs::Truth::neg_holds))]
     fn holds(&self, request: &Request) -> bool

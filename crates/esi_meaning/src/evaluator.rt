@@ -191,7 +191,6 @@ fn alternative(
     }
 }
 
-// A leg of this template.
 #[cycle(evaluator)]
 #[tactic(auto, using(crate::proofs::Legs::leg_above))]
 fn leg(
@@ -295,7 +294,6 @@ fn answered(
     }
 }
 
-// A body, processed.
 #[cycle(evaluator)]
 fn processed(
     setting: &Setting<'_>,

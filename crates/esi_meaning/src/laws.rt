@@ -1,4 +1,5 @@
-//! Laws of the meaning: each is the contract of a function that does nothing.
+//! Laws of the meaning: each is the contract of a function that does nothing. Our profile, where
+//! no source is named.
 ghost use Rattle.std.specs.Prelude.{◌≡◌};
 ghost use Rattle.esi_meaning.specs.Laws.{OutcomeRestsOnAsked, StateRestsOnLog, LoggedAnswersSuffice, WaitsForAsked, DoneIsOutcome};
 ghost use Rattle.esi_meaning.specs.Laws.{WaitsAtLeg, LegIsWaitedFor, UnaskedChangesNothing, AsksFew, FailedAttemptLeavesNoText, AttemptWithTextStands};
@@ -9,84 +10,65 @@ ghost use Rattle.esi_meaning.specs.Laws.{OneListOfTokens, OneTreeOfTokens};
 use crate::limits::{MAX_LEGS, MAX_LEVELS, MIN_LEVELS};
 
 /// The outcome of a page rests on the replies of the URLs that are asked for it, and on nothing
-/// else. Takes no memory.
-///
-/// Our profile.
+/// else.
 pub fn outcome_rests_on_asked()
     ensures { OutcomeRestsOnAsked }
 {}
 
 /// What a page waits for, or its outcome, rests on the answers that are in: whatever the missing
-/// answers are, it is the same. Takes no memory.
-///
-/// Our profile.
+/// answers are, it is the same.
 pub fn state_rests_on_log()
     ensures { StateRestsOnLog }
 {}
 
 /// The logged answers alone say what a page waits for, or its outcome: every table that agrees
-/// with them says the same. Takes no memory.
-///
-/// Our profile.
+/// with them says the same.
 pub fn logged_answers_suffice()
     ensures { LoggedAnswersSuffice }
 {}
 
 /// What a page waits for isn't logged, and is asked for it over every table that agrees with the
-/// logged answers. Takes no memory.
-///
-/// Our profile.
+/// logged answers.
 pub fn waits_for_asked()
     ensures { WaitsForAsked }
 {}
 
 /// A page that is done has its outcome over every table that agrees with the logged answers, and
-/// each URL that is asked for it is logged. Takes no memory.
-///
-/// Our profile.
+/// each URL that is asked for it is logged.
 pub fn done_is_outcome()
     ensures { DoneIsOutcome }
 {}
 
 /// A page that waits for a URL waits for its own and at no leg, or at a leg that asks this URL, at
-/// one of the levels under the page. Takes no memory.
-///
-/// Our profile.
+/// one of the levels under the page.
 pub fn waits_at_leg()
     ensures { WaitsAtLeg }
 {}
 
-/// A page that waits at a leg waits for the URL of this leg. Takes no memory.
-///
-/// Our profile.
+/// A page that waits at a leg waits for the URL of this leg.
 pub fn leg_is_waited_for()
     ensures { LegIsWaitedFor }
 {}
 
 /// What was fetched and isn't asked changes no outcome: a table with one answer more, of a URL
-/// that isn't asked, gives the same. Takes no memory.
-///
-/// Our profile.
+/// that isn't asked, gives the same.
 pub fn unasked_changes_nothing()
     ensures { UnaskedChangesNothing }
 {}
 
-/// A page asks at most its own URL and one for each leg that it may try. Takes no memory.
-///
-/// Our profile.
+/// A page asks at most its own URL and one for each leg that it may try.
 pub fn asks_few()
     ensures { AsksFew }
 {}
 
 /// Of a try whose attempt fails the except alone has text, and the legs of both are counted.
-/// Takes no memory.
 ///
 /// Source: ESI Language Specification 1.0, "try"; the count of legs is our profile.
 pub fn failed_attempt_leaves_no_text()
     ensures { FailedAttemptLeavesNoText }
 {}
 
-/// Of a try whose attempt has a text no more than the attempt is tried. Takes no memory.
+/// Of a try whose attempt has a text no more than the attempt is tried.
 ///
 /// Source: ESI Language Specification 1.0, "try".
 pub fn attempt_with_text_stands()
@@ -94,7 +76,7 @@ pub fn attempt_with_text_stands()
 {}
 
 /// A choose is the content of its first `when` whose test holds, else of its otherwise, wherever
-/// this stands, else nothing; and of this content the sources are fetched ahead. Takes no memory.
+/// this stands, else nothing; and of this content the sources are fetched ahead.
 ///
 /// Source: ESI Language Specification 1.0, "choose"; the order of branches and what is fetched
 /// ahead are our profile.
@@ -105,42 +87,31 @@ pub fn first_when_counts()
 
 /// Of the inlines of a template, in the text's order, the first that names a URL counts, wherever
 /// it stands: also in a branch that isn't taken, or within another inline, which comes before it.
-/// Takes no memory.
-///
-/// Our profile.
 pub fn first_inline_counts()
     ensures { FirstInlineCounts }
 {}
 
 /// The inline that counts for a URL is the first of this URL in the list of the template's inlines
-/// in which each name is resolved once. Takes no memory.
-///
-/// Our profile.
+/// in which each name is resolved once.
 pub fn inlines_by_url()
     ensures { InlinesByUrl }
 {}
 
 /// What is fetched ahead for a template is a URL that a `src` or an `alt` of it stands for, and
-/// that no inline of it names. Takes no memory.
-///
-/// Our profile.
+/// that no inline of it names.
 pub fn ahead_has_source()
     ensures { AheadHasSource }
 {}
 
 /// What is asked for a page is its own URL, or one that a `src` or an `alt` stands for in the
-/// template of an answer, and that no inline of this template names. Takes no memory.
-///
-/// Our profile.
+/// template of an answer, and that no inline of this template names.
 pub fn asked_has_source()
     ensures { AskedHasSource }
 {}
 
 /// No answers are a legal log; a legal log grows by the answer of a URL that may follow and isn't
-/// logged; such a URL is the one that a page waits for, and each that is fetched ahead for a logged
-/// answer, then and later. Takes no memory.
-///
-/// Our profile.
+/// logged; such a URL is the one that a page waits for, and each that is fetched ahead for a
+/// logged answer, then and later.
 pub fn legal_logs()
     ensures nothing { NothingIsLegal }
     ensures grows { LegalGrows }
@@ -149,17 +120,13 @@ pub fn legal_logs()
     ensures ahead { AheadFollows }
 {}
 
-/// A text has at most one list of tokens, and that list at most one tree. Takes no memory.
-///
-/// Our profile.
+/// A text has at most one list of tokens, and that list at most one tree.
 pub fn one_list_of_tokens_and_one_tree()
     ensures tokens { OneListOfTokens }
     ensures tree { OneTreeOfTokens }
 {}
 
-/// The limits of a page, in figures. Takes no memory.
-///
-/// Our profile.
+/// The limits of a page, in figures.
 pub fn limits_of_pages()
     ensures legs { MAX_LEGS ≡ 1000 }
     ensures fewest { MIN_LEVELS ≡ 1 }

@@ -26,7 +26,6 @@ pub(crate) fn mark_at(block: bool, text: &[u8]) -> Option<(Kind, &[u8])>
     }
 }
 
-// Whether a mark stands at the front.
 #[tactic(auto, unfolding(crate::specs::Scan::mark_at))]
 fn begins_mark(block: bool, text: &[u8]) -> bool
     ensures { result ≡ begins_mark block text.now }
@@ -34,7 +33,6 @@ fn begins_mark(block: bool, text: &[u8]) -> bool
     mark_at(block, text).is_some()
 }
 
-// Whether an opener stands at the front.
 fn begins_opener(block: bool, text: &[u8]) -> bool
     ensures { result ≡ begins_opener block text.now }
 {

@@ -38,7 +38,6 @@ impl Halves {
         *self = mem::replace(self, Halves::Neither).with_except(except);
     }
 
-    // With the attempt.
     fn with_attempt(self, attempt: Vec<Node>) -> Halves
         ensures { halves_of result ≡ with_attempt (elements_of attempt.items) (halves_of self) }
     {
@@ -53,7 +52,6 @@ impl Halves {
         }
     }
 
-    // With the except.
     fn with_except(self, except: Vec<Node>) -> Halves
         ensures { halves_of result ≡ with_except (elements_of except.items) (halves_of self) }
     {

@@ -62,14 +62,12 @@ pub(crate) fn stands_in_run(name: ElementName) -> bool
     )
 }
 
-// Whether one of the branches is the otherwise.
 fn has_otherwise(branches: &[Branch]) -> bool
     ensures { result ≡ list_any (λ branch. is_otherwise (branch_of branch)) branches.now }
 {
     branches.iter().any(|branch| branch.is_otherwise())
 }
 
-// Whether one of them is a `when`.
 fn has_when(branches: &[Branch]) -> bool
     ensures { result ≡ list_any (λ branch. is_when (branch_of branch)) branches.now }
 {
@@ -88,7 +86,6 @@ fn stands_in_choose(name: ElementName, branches: &[Branch]) -> bool
     }
 }
 
-// A choose of these branches.
 fn choose(branches: Vec<Branch>) -> Child
     ensures { shown_child result ≡ AnElement (tree.Choose (branch_row (map branch_of branches.items))) }
 {
@@ -158,7 +155,6 @@ impl OpenElement {
         }
     }
 
-    // Puts one node more in its run.
     fn add_node(&mut self, node: Node) -> Result<(), NoMemory>
         ensures { OnOk result (frame_of self.new ≡ with_element (element_of node) (frame_of self.old)) }
     {
@@ -177,7 +173,6 @@ impl OpenElement {
         }
     }
 
-    // Puts one branch more in a choose.
     fn add_branch(&mut self, branch: Branch) -> Result<(), NoMemory>
         ensures { OnOk result (frame_of self.new ≡ with_branch (branch_of branch) (frame_of self.old)) }
     {
@@ -188,7 +183,6 @@ impl OpenElement {
         Ok(())
     }
 
-    // Puts the attempt in a try.
     fn add_attempt(&mut self, content: Vec<Node>)
         ensures { frame_of self.new ≡ with_half (with_attempt (elements_of content.items)) (frame_of self.old) }
     {
@@ -198,7 +192,6 @@ impl OpenElement {
         }
     }
 
-    // Puts the except in a try.
     fn add_except(&mut self, content: Vec<Node>)
         ensures { frame_of self.new ≡ with_half (with_except (elements_of content.items)) (frame_of self.old) }
     {

@@ -108,7 +108,6 @@ impl OpenElements {
     }
 }
 
-// Whether one of the elements is a `vars`.
 fn has_vars(elements: &[OpenElement]) -> bool
     ensures { result ≡ list_any (λ element. is_vars (frame_of element)) elements.now }
 {

@@ -60,7 +60,6 @@ impl Reader {
         }
     }
 
-    // Reads a remove.
     #[tactic(auto, unfolding(crate::specs::Reading::after_remove))]
     fn after_remove(&mut self) -> Result<bool, NoMemory>
         ensures { IfOk result (λ goes_on. some_if goes_on (state_of self.new) ≡ after_remove (state_of self.old)) }
@@ -72,7 +71,6 @@ impl Reader {
         Ok(true)
     }
 
-    // Opens a tag's element.
     #[tactic(auto, unfolding(crate::specs::Reading::entered))]
     fn enter(&mut self, alloc: Global, tag: &Tag) -> Result<bool, NoMemory>
         ensures { IfOk result (λ goes_on. some_if goes_on (state_of self.new) ≡ entered tag.now.name tag.now.attributes (state_of self.old)) }
@@ -159,7 +157,6 @@ fn add_to_page(content: &mut Vec<Node>, child: Child) -> Result<(), NoMemory>
     Ok(())
 }
 
-// The template of a text's tokens.
 fn template_of(alloc: Global, text: &SharedBytes, tokens: &[Token]) -> Result<Template, TreeFault>
     ensures { Gives result (tree_of_tokens text.now tokens.now) }
 {

@@ -95,7 +95,6 @@ fn system_of(agent: &[u8]) -> &'static [u8]
     }
 }
 
-// Whether the word stands in the text.
 fn has(word: &[u8], text: &[u8]) -> bool
     ensures { result ≡ spec.has word.now text.now }
 {

@@ -116,7 +116,7 @@ pub fn substitute(alloc: Global, request: &Request, parts: &[Part]) -> Result<Ve
     Ok(text)
 }
 
-/// The same, where it is no longer than the limit, in bytes; else `None`. Never holds more bytes than the limit.
+/// The same, where it is no longer than the limit, in bytes; else `None`.
 ///
 /// `NoMemory` where a growth is refused; no text is made then.
 ///

@@ -66,7 +66,6 @@ pub(crate) fn owned(alloc: Global, written: Written<'_>) -> Result<Reference, No
     })
 }
 
-// The variable of this name.
 #[tactic(auto, unfolding(crate::specs::Reference::variable_of))]
 fn variable_of(alloc: Global, name: &[u8]) -> Result<Variable, NoMemory>
     ensures { IfOk result (λ v. v ≡ variable_of name.now) }

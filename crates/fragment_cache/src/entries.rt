@@ -115,7 +115,6 @@ impl Entries {
         Ok(Some(stored.answer.share()?.into_arc()))
     }
 
-    // Brings the URL's entry to the front.
     fn promote(&mut self, url: &PageUrl)
         ensures { self.new ≡ record self.old { entries = used url.now self.old.entries } }
     {
@@ -168,7 +167,6 @@ impl Entries {
         Ok(())
     }
 
-    // Takes out the URL's entry.
     fn remove(&mut self, url: &PageUrl)
         ensures { self.new ≡ record self.old { entries = others url.now self.old.entries } }
     {

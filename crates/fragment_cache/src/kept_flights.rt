@@ -75,7 +75,6 @@ pub(crate) fn note_pick_up(flights: &mut BTreeMap<u64, Kept>, number: u64)
     }
 }
 
-// Uses up a pick-up of a flight.
 fn use_pick_up(flights: &mut BTreeMap<u64, Kept>, number: u64)
     requires kept { IsSome (kept_at flights.old.entries number) }
     requires some { 0 < picks_at flights.old.entries number }

@@ -1,5 +1,5 @@
 //! What holds of every shard, and of every list of calls: each is the contract of a function that
-//! does nothing.
+//! does nothing. Our profile.
 
 ghost use Rattle.std.specs.Prelude.{◌≡◌};
 ghost use Rattle.fragment_cache.specs.Law.{CacheLaw};
@@ -14,16 +14,12 @@ use crate::shard::MAX_CAPACITY;
 /// and any other `land` gives back what was handed in; a URL has at most one flight flying, which
 /// every join for it names; flights are led in turn, each with a failed answer of its URL; a
 /// pick-up gives the answer with which the flight of that number landed, at most once for each
-/// join, `Flying` only while it flies, and `Unknown` only while it doesn't. Takes no memory.
-///
-/// Our profile.
+/// join, `Flying` only while it flies, and `Unknown` only while it doesn't.
 pub fn every_run_keeps_the_law()
     ensures { CacheLaw }
 {}
 
-/// The limits of a shard, in figures. Takes no memory.
-///
-/// Our profile.
+/// The limits of a shard, in figures.
 pub fn limits_of_shards()
     ensures capacity { MAX_CAPACITY ≡ 1024 }
     ensures flights { MAX_FLIGHTS ≡ 1024 }

@@ -44,7 +44,6 @@ pub(crate) struct Directive<'a> {
     pub(crate) target: Target<'a>,
 }
 
-// Whether the byte ends a name.
 #[tactic(auto, unfolding(crate::specs::Directive::ends_name))]
 fn ends_name(byte: u8) -> bool
     ensures { result ≡ spec.ends_name byte }
