@@ -17,7 +17,18 @@ const OTHER_EXCEPT: &str =
     "</esi:attempt><esi:except><esi:include src=\"/z\"/></esi:except></esi:try>";
 
 // The answer of `/x`, the page's body, and what is wanted.
-const MANY: [(&str, Repeated, Repeated, Repeated); 9] = [
+const MANY: [(&str, Repeated, Repeated, Repeated); 10] = [
+    (
+        "a source of too many bytes for a URL",
+        ("plain ", "1", 1, ""),
+        (
+            "<esi:include src=\"",
+            "$(X|'0123456789')",
+            900,
+            "\" alt=\"/x\"/>",
+        ),
+        ("200 text/p ", "1", 1, ""),
+    ),
     (
         "a thousand legs",
         ("plain ", "1", 1, ""),
