@@ -1,7 +1,7 @@
 -- Spans that reach past the end of a text.
 use Rattle.std.proofs.Common.{◌≡◌, ◌⊎◌, inl, inr, ℕ, ◌-◌, ◌<◌, ◌≤◌, min, List, [], ◌∷◌, length, take, drop, slice_range, refl, sym, ap, ◌∙◌, arith}
 use Rattle.std.proofs.lemmas.Bool.{cases_lt}
-use Rattle.std.proofs.lemmas.List.{take_all, drop_all, length-drop}
+use Rattle.std.proofs.lemmas.List.{take_all, length-drop}
 
 take_none : (n : ℕ) (xs : List ℕ) → length xs ≤ 0 → take n xs ≡ []
 take_none n xs none = take_all n xs (omega arith) ∙ empty xs none

@@ -1,11 +1,11 @@
 -- The laws of templates and of their reading.
-use Rattle.std.proofs.Common.{◌≡◌, ◌⊎◌, inl, inr, ℕ, false, List, [], ◌∷◌, ◌++◌, length, Option, Some, None, Result, Ok, Err, unwrap_or, refl, sym, ◌∙◌, ap, subst, arith}
+use Rattle.std.proofs.Common.{◌≡◌, ◌⊎◌, inl, inr, ℕ, false, List, [], ◌∷◌, ◌++◌, length, Option, Some, None, Result, Ok, Err, unwrap_or, refl, sym, ◌∙◌, ap, subst, arith, append-nil}
 use Rattle.std.proofs.lemmas.List.{map-append}
 use Rattle.std.proofs.lemmas.Option.{option_and_then_some}
 use Rattle.esi_scanner.specs.declared.token.Token.{Token}
 use Rattle.esi_scanner.specs.Bytes.{◌>>=◌}
 use Rattle.esi_scanner.specs.Scan.{scan_of}
-use Rattle.esi_scanner.specs.Spelling.{Spells, IsFaultAt}
+use Rattle.esi_scanner.specs.Spelling.{IsFaultAt}
 use Rattle.esi_scanner.proofs.Theorems.{scan_of-spells, scan_of-faults}
 use Rattle.esi_tree.specs.Tree.{Element, Elements}
 use Rattle.esi_tree.specs.Shown.{row}
@@ -73,15 +73,25 @@ read-err text (token ∷ tokens) state at e = by_next (λ s h. read-err text tok
     by_next rest None is e' = AtToken [] token tokens state refl (cc) refl is
     by_next rest (Some next) is e' = stops-on text token tokens state next at is (rest next e')
 
-read-again : (text : List ℕ) (tokens : List Token) (state : State) (content : List Element) → steps (items_of text tokens) state ≡ Some (record { frames = []; content = content }) → read_from text tokens state ≡ Ok (row content)
+-- the tokens that a template goes on with are read up to those behind them
+read-on : (text : List ℕ) (front back : List Token) (state final : State) → steps (items_of text front) state ≡ Some final → read_from text (front ++ back) state ≡ read_from text back final
 unfolding read_from
-read-again text [] state content e =
-    let empty : State = record { frames = []; content = content } in
-    let same : state ≡ empty = ap (λ o. unwrap_or o empty) e in
-    ap (λ (s : State). ended s.frames s.content (length text)) same
-read-again text (token ∷ tokens) state content e =
-    option_and_then_some (λ s. steps (items_of text tokens) s) (after (item_of text token) state) (record { frames = []; content = content }) e (λ next first rest.
-    ap (then_read (λ s. read_from text tokens s) token.span.start) first ∙ read-again text tokens next content rest)
+read-on text [] back state final e =
+    let same : state ≡ final = ap (λ o. unwrap_or o final) e in
+    ap (read_from text back) same
+read-on text (token ∷ front) back state final e =
+    option_and_then_some (λ s. steps (items_of text front) s) (after (item_of text token) state) final e (λ next first rest.
+    ap (then_read (λ s. read_from text (front ++ back) s) token.span.start) first ∙ read-on text front back next final rest)
+
+-- where it goes on with all of them, it ends as it stands then
+read-to-end : (text : List ℕ) (tokens : List Token) (state final : State) → steps (items_of text tokens) state ≡ Some final → read_from text tokens state ≡ ended final.frames final.content (length text)
+unfolding read_from
+read-to-end text tokens state final e = ap (λ (ts : List Token). read_from text ts state) (sym (append-nil tokens)) ∙ read-on text tokens [] state final e
+
+-- and where it doesn't go on with a token, its place is told
+read-stuck : (text : List ℕ) (token : Token) (back : List Token) (state : State) → after (item_of text token) state ≡ None → read_from text (token ∷ back) state ≡ Err token.span.start
+unfolding read_from
+read-stuck text token back state none = ap (then_read (λ s. read_from text back s) token.span.start) none
 
 -- what is read is the template
 pub template-from_read : (text : List ℕ) (tokens : List Token) (t : Elements) → tree_of_tokens text tokens ≡ Ok t → IsTemplate t (items_of text tokens)
@@ -102,7 +112,7 @@ unfolding tree_of_tokens
 read-from_template text tokens t is =
     let items = items_of text tokens in
     let final : State = record { frames = []; content = listed t } in
-    read-again text tokens start (listed t) (steps-from_run items start final (template-run t items is.shape) is.shallow) ∙ ap Ok (row-listed t)
+    read-to-end text tokens start final (steps-from_run items start final (template-run t items is.shape) is.shallow) ∙ ap Ok (row-listed t)
 
 -- what has been read begins a template
 begins-from_steps : (items : List Item) (final : State) → steps items start ≡ Some final → Begins items
@@ -165,6 +175,36 @@ place-from_read text tokens at e = by_stop (read-err text tokens start at e)
             let clash : frame ∷ outer ≡ [] = sym is ∙ ap (λ (s : State). s.frames) same in
             absurd (cc)
 
+-- no template goes on with a token behind which none begins
+none-behind : (text : List ℕ) (front : List Token) (token : Token) (before : State) → steps (items_of text front) start ≡ Some before → ¬ Begins (items_of text (front ++ token ∷ [])) → after (item_of text token) before ≡ None
+none-behind text front token before read ends = by_next (after (item_of text token) before) refl
+  where
+    by_next : (next : Option State) → after (item_of text token) before ≡ next → after (item_of text token) before ≡ None
+    by_next None is = is
+    by_next (Some next) is =
+        let on : steps (items_of text (front ++ token ∷ [])) start ≡ Some next =
+        ap (λ us. steps us start) (map-append (item_of text) front (token ∷ [])) ∙ steps-append (items_of text front) (item_of text token ∷ []) start
+        ∙ ap (λ o. o >>= λ s. steps (item_of text token ∷ []) s) read ∙ ap (λ o. o >>= λ s. steps [] s) is in
+        absurd (ends (begins-from_steps (items_of text (front ++ token ∷ [])) next on))
+
+-- tokens that end early leave an element open
+ended-early : (text : List ℕ) (tokens : List Token) (frames : List Frame) (content : List Element) → tree_of_tokens text tokens ≡ ended frames content (length text)
+    → ((t : Elements) → ¬ IsTemplate t (items_of text tokens)) → ended frames content (length text) ≡ Err (length text)
+ended-early text tokens [] content read none = absurd (none (row content) (template-from_read text tokens (row content) read))
+ended-early text tokens (frame ∷ outer) content read none = refl
+
+-- a place is told of a fault
+pub read-from_place : (text : List ℕ) (tokens : List Token) (at : ℕ) → IsFirstBad text tokens at ⊎ EndsEarly text tokens at → tree_of_tokens text tokens ≡ Err at
+unfolding tree_of_tokens
+read-from_place text tokens at (inl bad) =
+    let (before, read) = steps-from_begins (items_of text bad.front) bad.begins in
+    ap (λ (ts : List Token). read_from text ts start) bad.joined ∙ read-on text bad.front (bad.token ∷ bad.back) start before read
+    ∙ read-stuck text bad.token bad.back before (none-behind text bad.front bad.token before read bad.ends) ∙ ap Err (sym bad.place)
+read-from_place text tokens at (inr early) =
+    let (final, read) = steps-from_begins (items_of text tokens) early.begins in
+    let whole = read-to-end text tokens start final read in
+    whole ∙ ended-early text tokens final.frames final.content whole early.none ∙ ap Err (sym early.place)
+
 -- what is read of a text is the template of its tokens
 pub text-from_read : (text : List ℕ) (t : Elements) → tree_of text ≡ Ok t → IsText t text
 unfolding tree_of
@@ -187,6 +227,11 @@ place-from_text text at e = by_scan (scan_of text) refl e
     by_scan : (scanned : Result (List Token) ℕ) → scan_of text ≡ scanned → of_tokens text scanned ≡ Err at → IsFaultAt text at ⊎ IsNoTemplate text at
     by_scan (Ok tokens) is e' = inr (record { tokens = tokens; spelled = (scan_of-spells text tokens).0 is; place = place-from_read text tokens at e' })
     by_scan (Err place) is e' = let same : place ≡ at = cc in inl ((scan_of-faults text at).0 (is ∙ ap Err same))
+
+pub text-from_place : (text : List ℕ) (at : ℕ) → IsFaultAt text at ⊎ IsNoTemplate text at → tree_of text ≡ Err at
+unfolding tree_of
+text-from_place text at (inl fault) = ap (of_tokens text) ((scan_of-faults text at).1 fault)
+text-from_place text at (inr none) = ap (of_tokens text) ((scan_of-spells text none.tokens).1 none.spelled) ∙ read-from_place text none.tokens at none.place
 
 content_of : Option State → List Element
 content_of None = []

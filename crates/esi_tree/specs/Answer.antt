@@ -1,5 +1,5 @@
 -- What a reader of templates answers.
-use Rattle.std.specs.Prelude.{◌≡◌, ℕ, ◌+◌, ◌≤◌, Result, Ok, Err}
+use Rattle.std.specs.Prelude.{◌≡◌, ℕ, Result, Ok, Err}
 use Rattle.esi_tree.specs.declared.tree.Template.{Template}
 use Rattle.esi_tree.specs.declared.fault.TreeFault.{TreeFault}
 use Rattle.esi_tree.specs.declared.fault.TreeFault.TheVariants.{Bad, NoMemory}

@@ -9,11 +9,11 @@ use Rattle.esi_tree.specs.Reading.{tree_of_tokens, tree_of}
 
 -- what is read of tokens is their template, and what is their template is read
 abbrev pub ReadsTemplates : Type 0
-ReadsTemplates = (text : List ℕ) (tokens : List Token) (t : Elements) → (tree_of_tokens text tokens ≡ Ok t) ↔ IsTemplate t (items_of text tokens)
+ReadsTemplates = (text : List ℕ) (tokens : List Token) (tree : Elements) → (tree_of_tokens text tokens ≡ Ok tree) ↔ IsTemplate tree (items_of text tokens)
 
 -- items are the template of one tree at most
 abbrev pub OneTree : Type 0
-OneTree = (t u : Elements) (items : List Item) → IsTemplate t items → IsTemplate u items → t ≡ u
+OneTree = (tree other : Elements) (items : List Item) → IsTemplate tree items → IsTemplate other items → tree ≡ other
 
 -- the first token with which no template begins stands there
 pub record IsFirstBad (text : List ℕ) (tokens : List Token) (at : ℕ) : Type 0 where
@@ -29,21 +29,21 @@ pub record IsFirstBad (text : List ℕ) (tokens : List Token) (at : ℕ) : Type 
 pub record EndsEarly (text : List ℕ) (tokens : List Token) (at : ℕ) : Type 0 where
   pub place : at ≡ length text
   pub begins : Begins (items_of text tokens)
-  pub none : (t : Elements) → ¬ IsTemplate t (items_of text tokens)
+  pub none : (tree : Elements) → ¬ IsTemplate tree (items_of text tokens)
 
 -- a fault is told at the first token with which no template begins, else at the text's end
 abbrev pub TellsThePlace : Type 0
-TellsThePlace = (text : List ℕ) (tokens : List Token) (at : ℕ) → tree_of_tokens text tokens ≡ Err at → IsFirstBad text tokens at ⊎ EndsEarly text tokens at
+TellsThePlace = (text : List ℕ) (tokens : List Token) (at : ℕ) → (tree_of_tokens text tokens ≡ Err at) ↔ (IsFirstBad text tokens at ⊎ EndsEarly text tokens at)
 
 -- a text that tokens spell, which are the template of this tree
-pub record IsText (t : Elements) (text : List ℕ) : Type 0 where
+pub record IsText (tree : Elements) (text : List ℕ) : Type 0 where
   pub tokens : List Token
   pub spelled : Spells text tokens
-  pub is : IsTemplate t (items_of text tokens)
+  pub is : IsTemplate tree (items_of text tokens)
 
 -- what is read of a text is its tree, and what is its tree is read
 abbrev pub ReadsTexts : Type 0
-ReadsTexts = (text : List ℕ) (t : Elements) → (tree_of text ≡ Ok t) ↔ IsText t text
+ReadsTexts = (text : List ℕ) (tree : Elements) → (tree_of text ≡ Ok tree) ↔ IsText tree text
 
 -- a text that tokens spell, which are no template from this place on
 pub record IsNoTemplate (text : List ℕ) (at : ℕ) : Type 0 where
@@ -53,8 +53,8 @@ pub record IsNoTemplate (text : List ℕ) (at : ℕ) : Type 0 where
 
 -- the place of a text's fault: that of its tokens, else that of its template
 abbrev pub TellsThePlaceOfTexts : Type 0
-TellsThePlaceOfTexts = (text : List ℕ) (at : ℕ) → tree_of text ≡ Err at → IsFaultAt text at ⊎ IsNoTemplate text at
+TellsThePlaceOfTexts = (text : List ℕ) (at : ℕ) → (tree_of text ≡ Err at) ↔ (IsFaultAt text at ⊎ IsNoTemplate text at)
 
 -- a text is the template of one tree at most
 abbrev pub TextsAreOne : Type 0
-TextsAreOne = (text : List ℕ) (t u : Elements) → IsText t text → IsText u text → t ≡ u
+TextsAreOne = (text : List ℕ) (tree other : Elements) → IsText tree text → IsText other text → tree ≡ other

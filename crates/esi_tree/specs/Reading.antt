@@ -1,5 +1,5 @@
 -- The tree of a text, read token by token from the left.
-use Rattle.std.specs.Prelude.{ℕ, Bool, true, false, not, nat_lt, List, [], ◌∷◌, ◌++◌, length, Option, Some, None, is_none, is_some, Result, Ok, Err, if◌then◌else◌}
+use Rattle.std.specs.Prelude.{◌≡◌, ℕ, Bool, true, false, not, nat_lt, List, [], ◌∷◌, ◌++◌, length, Option, Some, None, is_none, is_some, Result, Ok, Err, if◌then◌else◌}
 use Rattle.std.specs.List.{list_any}
 use Rattle.esi_scanner.specs.declared.attribute.Attribute.{Attribute}
 use Rattle.esi_scanner.specs.declared.element_name.ElementName.{ElementName}
@@ -327,3 +327,7 @@ of_tokens text (Err at) = Err at
 -- the tree of a text, or the place of the fault; that of the tokens comes first
 unfoldable pub tree_of : List ℕ → Result Elements ℕ
 tree_of text = of_tokens text (scan_of text)
+
+-- some text has this tree
+abbrev pub HasText : Elements → Type 0
+HasText t = ∥ ((text : List ℕ) × (tree_of text ≡ Ok t)) ∥₁

@@ -14,7 +14,7 @@ use Rattle.esi_tree.specs.declared.open_elements.TheConstants.{OPEN_LIMIT}
 use Rattle.esi_tree.specs.Tree.{Elements, depth}
 use Rattle.esi_tree.specs.Shown.{element_of, elements_of, branch_of}
 use Rattle.esi_tree.specs.Reading as reading
-use Rattle.esi_tree.specs.Reading.{Frame, State, ended}
+use Rattle.esi_tree.specs.Reading.{Frame, State, ended, HasText}
 
 -- the parts of a try
 abbrev pub halves_of : code.Halves → reading.Halves
@@ -65,6 +65,6 @@ state_of reader = record { frames = frames_of reader.open; content = map element
 abbrev pub some_if : Bool → State → Option State
 some_if goes_on state = if goes_on then Some state else None
 
--- at the end of a text a reader gives no deeper tree than a template may be
-abbrev pub EndsShallow : State → Type 0
-EndsShallow state = (end : ℕ) (t : Elements) → ended state.frames state.content end ≡ Ok t → depth t ≤ OPEN_LIMIT + 1
+-- at the end of a text a reader gives the tree of a text, and none deeper than a template may be
+abbrev pub EndsWell : State → Type 0
+EndsWell state = (end : ℕ) (t : Elements) → ended state.frames state.content end ≡ Ok t → (depth t ≤ OPEN_LIMIT + 1) × HasText t

@@ -1,11 +1,12 @@
 //! Reads the tree of a text from its tokens, one after another.
-ghost use Rattle.std.specs.Prelude.{◌≡◌, ◌+◌, ◌≤◌, map, IfOk, OnOk};
+ghost use Rattle.std.specs.Prelude.{◌≡◌, ◌+◌, ◌≤◌, map, Ok, IfOk, OnOk};
+ghost use Rattle.esi_scanner.specs.Scan.{scan_of};
 ghost use Rattle.esi_tree.specs.Tree.{depth};
 ghost use Rattle.esi_tree.specs.Shown.{element_of};
 ghost use Rattle.esi_tree.specs.Answer.{tree_in, Gives};
 ghost use Rattle.esi_tree.specs.Reading.{start, grown_page, put, after_text, after_remove, entered, left, after_tag, after, ended, tree_of_tokens, tree_of};
 ghost use Rattle.esi_tree.specs.Items.{item_of};
-ghost use Rattle.esi_tree.specs.State.{shown_child, state_of, some_if, EndsShallow};
+ghost use Rattle.esi_tree.specs.State.{shown_child, state_of, some_if, EndsWell};
 
 use crate::child::Child;
 use crate::fault::TreeFault;
@@ -137,7 +138,7 @@ impl Reader {
 
     // The template at the text's end, which is no place for an open element.
     fn ended(self, end: usize) -> Result<Template, TreeFault>
-        requires { EndsShallow (state_of self) }
+        requires { EndsWell (state_of self) }
         ensures { Gives result (ended (state_of self).frames (state_of self).content end) }
     {
         match self.open.innermost() {
@@ -157,7 +158,9 @@ fn add_to_page(content: &mut Vec<Node>, child: Child) -> Result<(), NoMemory>
     Ok(())
 }
 
+// Reads the template that a text of these tokens is.
 fn template_of(alloc: Global, text: &SharedBytes, tokens: &[Token]) -> Result<Template, TreeFault>
+    requires { scan_of text.now ≡ Ok tokens.now }
     ensures { Gives result (tree_of_tokens text.now tokens.now) }
 {
     let end = text.len();

@@ -402,3 +402,14 @@ fn at_most_32_elements_are_open(rt: HostRuntime) -> Result<(), Fail> {
     }
     Ok(())
 }
+
+#[test]
+fn a_fault_says_what_to_do(rt: HostRuntime) -> Result<(), Fail> {
+    let bad = format!(in rt.alloc(); "{}", TreeFault::Bad(9))?;
+    let wanted =
+        "no template begins with the text up to byte 9 and what stands there: correct it there";
+    assert_eq!(rt; bad.as_str(), wanted);
+    let none = format!(in rt.alloc(); "{}", TreeFault::NoMemory)?;
+    assert_eq!(rt; none.as_str(), "out of memory: try again with more of it");
+    Ok(())
+}

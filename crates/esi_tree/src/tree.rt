@@ -2,6 +2,7 @@
 ghost use Rattle.std.specs.Prelude.{◌≡◌, ◌+◌, ◌≤◌};
 ghost use Rattle.esi_tree.specs.Tree.{depth};
 ghost use Rattle.esi_tree.specs.Shown.{elements_of};
+ghost use Rattle.esi_tree.specs.Reading.{HasText};
 ghost use Rattle.esi_tree.specs.declared.open_elements.TheConstants.{OPEN_LIMIT};
 
 use crate::node::Node;
@@ -13,6 +14,8 @@ pub struct Template {
     nodes: Vec<Node>,
     // As many elements as may be open, and a run of text in the innermost.
     pub ghost shallow: { depth (elements_of nodes.items) ≤ OPEN_LIMIT + 1 },
+    // No template but that of a text.
+    pub ghost written: { HasText (elements_of nodes.items) },
 }
 
 impl Template {
@@ -20,7 +23,8 @@ impl Template {
 
     /// The template of these elements. Takes no memory.
     pub(crate) fn of(nodes: Vec<Node>) -> Template
-        requires { depth (elements_of nodes.items) ≤ OPEN_LIMIT + 1 }
+        requires shallow { depth (elements_of nodes.items) ≤ OPEN_LIMIT + 1 }
+        requires written { HasText (elements_of nodes.items) }
         ensures { tree_in result ≡ elements_of nodes.items }
     {
         Template { nodes }

@@ -1,10 +1,11 @@
 use Rattle.std.proofs.Common.{◌≡◌, ◌≤◌, ℕ, Bool, true, false, List, ◌∷◌, [], length, drop, Option, Some, None, Result, Ok, refl, sym, ◌∙◌, ap, subst, arith}
 use Rattle.esi_scanner.specs.declared.token.Token.{Token}
+use Rattle.esi_scanner.specs.Scan.{scan_of}
 use Rattle.esi_tree.specs.Tree.{Element, Elements}
 use Rattle.esi_tree.specs.Answer.{Gives}
 use Rattle.esi_tree.specs.Items.{item_of}
 use Rattle.esi_tree.specs.State.{state_of, some_if}
-use Rattle.esi_tree.specs.Reading.{Frame, State, after, ended, read_from, tree_of_tokens}
+use Rattle.esi_tree.specs.Reading.{Frame, State, after, ended, read_from, tree_of_tokens, of_tokens, tree_of, HasText}
 use Rattle.esi_tree.proofs.DepthRead.{depth_tokens}
 use Rattle.esi_tree.proofs.ReadingLemmas.{read_from-step, read_from-fault, read_from-end}
 use Rattle.esi_tree.proofs.reader.template_of.Goals as goal
@@ -47,12 +48,19 @@ any-end : (frames : List Frame) (content : List Element) (end other : ℕ) (t : 
 any-end [] content end other t is = is
 any-end (frame ∷ outer) content end other t is = absurd (cc)
 
+-- what is read of the tokens of a text is its tree
+written : (text : List ℕ) (tokens : List Token) (t : Elements) → scan_of text ≡ Ok tokens → tree_of_tokens text tokens ≡ Ok t → HasText t
+unfolding tree_of
+written text tokens t scanned read = ∣ (text, ap (of_tokens text) scanned ∙ read) ∣₁
+
 pub ended-requires : goal.ended-requires
 ended-requires c =
     let text = c.args.text.now in
     let tokens = c.args.tokens.now in
     let state = state_of c.loop-token.reader in
-    λ end t is. depth_tokens text tokens t (sym (whole text tokens c.loop-token.token-index state (omega arith) c.loop-token.invariant) ∙ any-end state.frames state.content end (length text) t is)
+    λ end t is.
+    let read = sym (whole text tokens c.loop-token.token-index state (omega arith) c.loop-token.invariant) ∙ any-end state.frames state.content end (length text) t is in
+    (depth_tokens text tokens t read, written text tokens t c.requires read)
 
 pub returns : goal.returns
 returns c =

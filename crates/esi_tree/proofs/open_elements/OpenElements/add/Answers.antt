@@ -1,4 +1,4 @@
-use Rattle.std.proofs.Common.{◌≡◌, ◌<◌, List, [], ◌∷◌, length, refl, sym, ◌∙◌, ap, arith}
+use Rattle.std.proofs.Common.{◌≡◌, [], ◌∷◌, refl, sym, ◌∙◌, ap, arith}
 use Rattle.esi_tree.specs.State.{frame_of, frames_of, shown_child, grown_innermost}
 use Rattle.esi_tree.proofs.StackLemmas.{topped, none-left}
 use Rattle.esi_tree.proofs.open_elements.OpenElements.add.Goals as goal
