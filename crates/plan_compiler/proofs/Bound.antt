@@ -7,7 +7,7 @@ use Rattle.esi_expr.specs.Truth.{holds}
 use Rattle.esi_meaning.specs.Run.{Run, followed}
 use Rattle.esi_meaning.specs.Run as meaning
 use Rattle.plan_compiler.specs.Plan.{Step, Text, Values, Test, Jump, Try, EndTry, Leg, Fail}
-use Rattle.plan_compiler.specs.Machine.{Handler, Next, nearer, outer, failing, resumed, act, flow, flow_within, frame_run}
+use Rattle.plan_compiler.specs.Machine.{Handler, Next, nearer, outer, failing, resumed, act, flow, flow_within}
 use Rattle.plan_compiler.specs.Laws.{FramesAreShort}
 
 abbrev run_of : List meaning.Leg → Option (List ℕ) → Run

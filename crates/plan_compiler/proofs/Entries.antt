@@ -1,13 +1,12 @@
 -- The first entry of a URL is the inline that counts for it.
 use Rattle.std.proofs.Common.{◌≡◌, ℕ, ◌-◌, Bool, true, false, cond, List, [], ◌∷◌, length, map, take, drop, find, Option, Some, None, refl, sym, ◌∙◌, ap}
 use Rattle.std.specs.Option.{option_map}
-use Rattle.esi_tree.specs.Tree.{Elements}
-use Rattle.esi_meaning.specs.Inlines.{names, inline_for, NamedBody, inlines}
+use Rattle.esi_meaning.specs.Inlines.{names, NamedBody, inlines}
 use Rattle.esi_meaning.proofs.InlineLemmas.{first_inline_counts}
 use Rattle.plan_compiler.specs.declared.inline.Inline.{Inline}
 use Rattle.plan_compiler.specs.Plan.{Step}
 use Rattle.plan_compiler.specs.Code.{code_of}
-use Rattle.plan_compiler.specs.Bodies.{Body, IsSingle, body_in, body_of, inline_at, places_of, entries}
+use Rattle.plan_compiler.specs.Bodies.{Body, body_in, body_of, inline_at, places_of, entries}
 use Rattle.plan_compiler.specs.Urls.{entry_for}
 use Rattle.plan_compiler.specs.Laws.{FirstEntryCounts}
 use Rattle.plan_compiler.proofs.Bodies.{bodies_stand}

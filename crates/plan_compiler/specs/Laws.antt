@@ -19,15 +19,15 @@ use Rattle.plan_compiler.specs.Code.{code_of}
 
 -- The steps of a tree try the legs of its meaning and come to its text, whatever a leg comes to.
 abbrev pub PlanMeansTheTree : Type 0
-PlanMeansTheTree = (r : Request) (leg : List Part → Run) (t : Elements) → frame_run r leg (code_of t) ≡ elements_run r leg t
+PlanMeansTheTree = (request : Request) (leg : List Part → Run) (tree : Elements) → frame_run request leg (code_of tree) ≡ elements_run request leg tree
 
 -- The walk over the steps of a tree finds the sources that the tree has fetched ahead, in their order.
 abbrev pub PlanFetchesAhead : Type 0
-PlanFetchesAhead = (r : Request) (t : Elements) → plan_sources r (code_of t) ≡ ahead_sources r t
+PlanFetchesAhead = (request : Request) (tree : Elements) → plan_sources request (code_of tree) ≡ ahead_sources request tree
 
 -- In the tree of a text no choose has two otherwises.
 abbrev pub TemplatesAreSingle : Type 0
-TemplatesAreSingle = (text : List ℕ) (t : Elements) → tree_of text ≡ Ok t → IsSingle t
+TemplatesAreSingle = (text : List ℕ) (tree : Elements) → tree_of text ≡ Ok tree → IsSingle tree
 
 -- how many steps a step may skip
 abbrev pub skip_of : Step → ℕ
@@ -42,16 +42,18 @@ skip_of Fail = 0
 
 -- No step of a tree jumps past the end of its plan.
 abbrev pub JumpsStay : Type 0
-JumpsStay = (t : Elements) (i : ℕ) (s : Step) → slice_get (code_of t) i ≡ Some s → i + 1 + skip_of s ≤ length (code_of t)
+JumpsStay = (tree : Elements) (i : ℕ) (step : Step) → slice_get (code_of tree) i ≡ Some step → i + 1 + skip_of step ≤ length (code_of tree)
 
 -- One frame takes at most as many steps as its plan is long: where that many are allowed it is never stopped, whatever
 -- stopping would come to.
 abbrev pub FramesAreShort : Type 0
 FramesAreShort =
-    (stopped : Run) (r : Request) (leg : List Part → Run) (steps : List Step) → flow_within stopped (length steps) r leg 0 steps [] [] ≡ frame_run r leg steps
+    (stopped : Run) (request : Request) (leg : List Part → Run) (steps : List Step)
+    → flow_within stopped (length steps) request leg 0 steps [] [] ≡ frame_run request leg steps
 
 -- The first entry, in text order, whose name stands for a URL has the steps of the inline that counts for the URL.
 abbrev pub FirstEntryCounts : Type 0
 FirstEntryCounts =
-    (u w : List ℕ) (t : Elements) → IsSingle t
-    → option_map code_of (inline_for u w t) ≡ option_map (λ (i : Inline). take (i.end - i.first) (drop i.first (code_of t))) (entry_for u w t)
+    (template url : List ℕ) (tree : Elements) → IsSingle tree
+    → option_map code_of (inline_for template url tree)
+    ≡ option_map (λ (entry : Inline). take (entry.end - entry.first) (drop entry.first (code_of tree))) (entry_for template url tree)

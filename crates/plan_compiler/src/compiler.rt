@@ -13,7 +13,7 @@ ghost use Rattle.esi_meaning.specs.Meaning.{elements_run};
 ghost use Rattle.esi_meaning.specs.Run.{Run};
 ghost use Rattle.plan_compiler.specs.Ahead.{plan_sources};
 ghost use Rattle.plan_compiler.specs.Machine.{frame_run};
-ghost use Rattle.plan_compiler.specs.Bodies.{IsSingle, entries, body_in, body_of, places_in, places_of, places_among, branch_places, kept_behind};
+ghost use Rattle.plan_compiler.specs.Bodies.{entries, body_in, body_of, places_in, places_of, places_among, branch_places, kept_behind};
 ghost use Rattle.plan_compiler.specs.Code.{else_code, dropped_code, branch_code, include_code, code_in, code_of, chosen_code};
 ghost use Rattle.plan_compiler.specs.Shown.{later_of, later_places, steps_in, inlines_in};
 
@@ -36,7 +36,7 @@ pub fn compile(alloc: Global, template: &Template) -> Result<Plan, NoMemory>
     ensures means { IfOk result (λ plan. (r : Request) (leg : List Part → Run) → frame_run r leg (steps_in plan) ≡ elements_run r leg (tree_in template.now)) }
     ensures ahead { IfOk result (λ plan. (r : Request) → plan_sources r (steps_in plan) ≡ ahead_sources r (tree_in template.now)) }
     ensures entries { IfOk result (λ plan. inlines_in plan ≡ entries (tree_in template.now)) }
-    ensures inlines { IfOk result (λ plan. IsSingle (tree_in template.now) → map (body_in (steps_in plan)) (inlines_in plan) ≡ map body_of (inlines (tree_in template.now))) }
+    ensures inlines { IfOk result (λ plan. map (body_in (steps_in plan)) (inlines_in plan) ≡ map body_of (inlines (tree_in template.now))) }
 {
     let mut later = LaterSteps::new(alloc);
     let mut inlines = LaterInlines::new(alloc);

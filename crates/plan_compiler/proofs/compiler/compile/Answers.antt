@@ -6,6 +6,7 @@ use Rattle.plan_compiler.specs.Ahead.{plan_sources}
 use Rattle.plan_compiler.specs.Machine.{frame_run}
 use Rattle.plan_compiler.proofs.Flow.{plan_means_the_tree}
 use Rattle.plan_compiler.proofs.Sources.{plan_fetches_ahead}
+use Rattle.plan_compiler.proofs.Single.{single_of_text}
 use Rattle.plan_compiler.proofs.Bodies.{entries_made, entries_stand, steps_made}
 use Rattle.plan_compiler.proofs.compiler.compile.Goals as goal
 
@@ -13,6 +14,7 @@ pub returns-clause-inlines : goal.returns-clause-inlines
 returns-clause-inlines c =
     entries_stand (tree_in c.args.template.now) (elements_of c.nodes.result.now) _ _ _ _ _ _ _ c.nodes.ensures.tree c.new-later.ensures c.new-inlines.ensures
     c.in_ok-put_elements.ensures.steps c.in_ok-put_elements.ensures.inlines c.len.ensures c.into_steps.ensures c.in_ok-inlines.ensures
+    (single_of_text (tree_in c.args.template.now) c.args.template.now.written)
 
 pub returns-clause-entries : goal.returns-clause-entries
 returns-clause-entries c =

@@ -10,14 +10,12 @@ use Rattle.plan_compiler.specs.Bodies as bodies
 use Rattle.plan_compiler.specs.Code.{code_of}
 use Rattle.plan_compiler.specs.Prepared.{IsPlanOf}
 use Rattle.plan_compiler.specs.Shown.{steps_in, inlines_in}
-use Rattle.plan_compiler.proofs.Single.{templates_are_single}
 use Rattle.plan_compiler.proofs.prepared.form_of.Goals as goal
 
 planned : (text body : List ℕ) (t : Elements) (plan : Plan) → body ≡ text → tree_of body ≡ Ok t → steps_in plan ≡ code_of t → inlines_in plan ≡ bodies.entries t
-    → (bodies.IsSingle t → map (bodies.body_in (steps_in plan)) (inlines_in plan) ≡ map bodies.body_of (inlines t)) → IsPlanOf text plan
+    → map (bodies.body_in (steps_in plan)) (inlines_in plan) ≡ map bodies.body_of (inlines t) → IsPlanOf text plan
 planned text body t plan same read steps entry inline =
-    let e : tree_of text ≡ Ok t = ap tree_of (sym same) ∙ read in
-    record { t = t; read = e; steps_are = steps; entries_are = entry; inlines_are = inline (templates_are_single text t e) }
+    record { t = t; read = ap tree_of (sym same) ∙ read; steps_are = steps; entries_are = entry; inlines_are = inline }
 
 pub returns-in-Ok : goal.returns-in-Ok
 returns-in-Ok c =
