@@ -1,0 +1,11 @@
+pub mod Entries
+pub mod Growth
+pub mod Flows
+pub mod Stacks
+pub mod Keeps
+pub mod Stands
+pub mod Ends
+pub mod Progress
+pub mod Ending
+pub mod Stopping
+pub mod Told

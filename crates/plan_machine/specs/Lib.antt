@@ -1,0 +1,6 @@
+pub mod Machine
+pub mod Rests
+pub mod Progress
+pub mod Laws
+pub mod Told
+pub mod Headline
