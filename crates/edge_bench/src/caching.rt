@@ -1,8 +1,9 @@
 //! The cache: the calls of a shard beside `lru` alone, and flights beside fewer flights.
 
+use crate::inputs;
 use crate::inputs::{or_io_error, url};
 use crate::timing::{Least, nanoseconds_each, ratio};
-use edge_types::{Answer, Control, Octets, PageUrl, SharedAnswer, SharedBytes};
+use edge_types::{Answer, Control, PageUrl, SharedAnswer, SharedBytes};
 use fragment_cache::{Begun, Flight, MAX_CAPACITY, MAX_FLIGHTS, Picked, Shard};
 use lru::LruCache;
 use std::alloc::Global;
@@ -54,12 +55,8 @@ fn answer(alloc: Global, number: usize) -> io::Result<Arc<Answer>> {
     };
     let text = format!(in alloc; "http://a.test/fragments/{number}")?;
     let url = url(alloc, text.as_bytes())?;
-    let content_type = Octets::empty(alloc);
     let body = or_io_error(SharedBytes::of(text.into_bytes()))?;
-    match Answer::got(url, 200, content_type, control, body) {
-        Some(answer) => Ok(Arc::new(alloc, answer)?),
-        None => Err(io::Error::from(io::ErrorKind::InvalidInput)),
-    }
+    inputs::answer(alloc, url, control, body)
 }
 
 // What stores answers by their URLs.
@@ -92,6 +89,13 @@ impl Store for LruCache<PageUrl, SharedAnswer> {
     }
 }
 
+// The times of a store, and how many hits there were in the last turn.
+#[derive(Clone, Copy)]
+struct Turns {
+    least: Least,
+    hits: usize,
+}
+
 // Prints the times of a shard and of `lru` on the same answers in the same order, in which each
 // of so many is one that isn't stored.
 fn beside_lru(
@@ -100,24 +104,51 @@ fn beside_lru(
     answers: &[Arc<Answer>],
     every: usize,
 ) -> io::Result<()> {
-    let asked = asked(rt.alloc(), every)?;
-    let mut shard = Least::new();
-    let mut lru = Least::new();
-    let mut hits = (0, 0);
-    for _ in 0..TURNS {
-        let store = or_io_error(Shard::new(rt.alloc(), MAX_CAPACITY))?;
-        hits.0 = turn(rt, &mut shard, store, answers, asked.as_slice())?;
-        let store = LruCache::new(rt.alloc(), capacity())?;
-        hits.1 = turn(rt, &mut lru, store, answers, asked.as_slice())?;
-    }
+    let (shard, lru) = measured(rt, answers, every)?;
     println!(rt;
         "caching, {name}: {STEPS} steps, shard {} us ({} hits), lru {} us ({} hits): {:.2} times",
-        shard.get().as_micros(),
-        hits.0,
-        lru.get().as_micros(),
-        hits.1,
-        ratio(shard.get(), lru.get())
+        shard.least.get().as_micros(),
+        shard.hits,
+        lru.least.get().as_micros(),
+        lru.hits,
+        ratio(shard.least.get(), lru.least.get())
     )
+}
+
+fn measured(rt: &HostRuntime, answers: &[Arc<Answer>], every: usize) -> io::Result<(Turns, Turns)> {
+    let asked = asked(rt.alloc(), every)?;
+    let mut shard = Turns {
+        least: Least::new(),
+        hits: 0,
+    };
+    let mut lru = shard;
+    for _ in 0..TURNS {
+        shard_turn(rt, &mut shard, answers, asked.as_slice())?;
+        lru_turn(rt, &mut lru, answers, asked.as_slice())?;
+    }
+    Ok((shard, lru))
+}
+
+fn shard_turn(
+    rt: &HostRuntime,
+    turns: &mut Turns,
+    answers: &[Arc<Answer>],
+    asked: &[usize],
+) -> io::Result<()> {
+    let store = or_io_error(Shard::new(rt.alloc(), MAX_CAPACITY))?;
+    turns.hits = turn(rt, &mut turns.least, store, answers, asked)?;
+    Ok(())
+}
+
+fn lru_turn(
+    rt: &HostRuntime,
+    turns: &mut Turns,
+    answers: &[Arc<Answer>],
+    asked: &[usize],
+) -> io::Result<()> {
+    let store: LruCache<PageUrl, SharedAnswer> = LruCache::new(rt.alloc(), capacity())?;
+    turns.hits = turn(rt, &mut turns.least, store, answers, asked)?;
+    Ok(())
 }
 
 // Fills the store, and times how long it takes to ask for the answers; the hits are counted.
@@ -183,10 +214,26 @@ fn capacity() -> NonZeroUsize {
 }
 
 // How long the steps take in which so many flights at a time leave, are joined, land and are picked
-// up; the quickest of several turns. A turn has the same number of steps for any such number.
+// up. A turn has the same number of steps for any such number.
 fn flights(rt: &HostRuntime, answers: &[Arc<Answer>], count: usize) -> io::Result<Duration> {
     let answers = answers.get(..count).unwrap_or(answers);
     let rounds = MAX_FLIGHTS.checked_div(count).unwrap_or(1);
+    let (took, picked) = flown(rt, answers, rounds)?;
+    let steps = rounds.wrapping_mul(count).wrapping_mul(4);
+    println!(rt;
+        "caching, {count} flights: {steps} steps in {} us, {:.0} a second ({picked} picked up)",
+        took.as_micros(),
+        1e9 / nanoseconds_each(took, steps)
+    )?;
+    Ok(took)
+}
+
+// The quickest of several turns, and how many pick-ups all of them had.
+fn flown(
+    rt: &HostRuntime,
+    answers: &[Arc<Answer>],
+    rounds: usize,
+) -> io::Result<(Duration, usize)> {
     let mut shard = or_io_error(Shard::new(rt.alloc(), MAX_CAPACITY))?;
     let mut least = Least::new();
     let mut picked: usize = 0;
@@ -197,13 +244,7 @@ fn flights(rt: &HostRuntime, answers: &[Arc<Answer>], count: usize) -> io::Resul
         })?;
         picked = picked.wrapping_add(turn?);
     }
-    let steps = rounds.wrapping_mul(count).wrapping_mul(4);
-    println!(rt;
-        "caching, {count} flights: {steps} steps in {} us, {:.0} a second ({picked} picked up)",
-        least.get().as_micros(),
-        1e9 / nanoseconds_each(least.get(), steps)
-    )?;
-    Ok(least.get())
+    Ok((least.get(), picked))
 }
 
 // So many rounds, each when what was stored in the one before has expired.

@@ -13,33 +13,40 @@ const LARGE: usize = 262_144;
 // How many times each value is read.
 const TURNS: usize = 40;
 
+// What the values are made of.
+const UNITS: [(&str, &str); 9] = [
+    ("quotes", "\""),
+    ("commas", ","),
+    ("semicolons", ";"),
+    ("blanks", " "),
+    ("letters", "a"),
+    ("digits", "max-age=11111111111111111111111111111111"),
+    ("words", "content=\"ESI/1.0 a b c\","),
+    (
+        "directives",
+        "max-age=60, no-store;other, content=\"ESI/1.0\",",
+    ),
+    ("open quote", "x\", "),
+];
+
 /// Prints for each unit the times of both lengths, and their ratio: 4 is linear, 16 quadratic.
 pub fn run(rt: &HostRuntime) -> io::Result<()> {
-    for (name, unit) in [
-        ("quotes", "\""),
-        ("commas", ","),
-        ("semicolons", ";"),
-        ("blanks", " "),
-        ("letters", "a"),
-        ("digits", "max-age=11111111111111111111111111111111"),
-        ("words", "content=\"ESI/1.0 a b c\","),
-        (
-            "directives",
-            "max-age=60, no-store;other, content=\"ESI/1.0\",",
-        ),
-        ("open quote", "x\", "),
-    ] {
-        let short = read(rt, unit, SMALL)?;
-        let long = read(rt, unit, LARGE)?;
-        println!(rt;
-            "headers {name}: {} ns, {} ns, {:.2} times, {:.2} ns a byte",
-            short.as_nanos(),
-            long.as_nanos(),
-            ratio(long, short),
-            nanoseconds_each(long, LARGE)
-        )?;
+    for (name, unit) in UNITS {
+        told(rt, name, unit)?;
     }
     Ok(())
+}
+
+fn told(rt: &HostRuntime, name: &str, unit: &str) -> io::Result<()> {
+    let short = read(rt, unit, SMALL)?;
+    let long = read(rt, unit, LARGE)?;
+    println!(rt;
+        "headers {name}: {} ns, {} ns, {:.2} times, {:.2} ns a byte",
+        short.as_nanos(),
+        long.as_nanos(),
+        ratio(long, short),
+        nanoseconds_each(long, LARGE)
+    )
 }
 
 // The least time in which a value of this unit and length is read.

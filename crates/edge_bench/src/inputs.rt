@@ -1,9 +1,10 @@
 //! Texts of a chosen length, and URLs.
 
-use edge_types::{NoMemory, PageUrl};
+use edge_types::{Answer, Control, NoMemory, Octets, PageUrl, SharedBytes};
 use std::alloc::{AllocError, Global};
 use std::fmt::Write;
 use std::io;
+use std::sync::Arc;
 
 /// A choose of two branches, which asks for a cookie.
 pub const CHOOSE: &str =
@@ -60,10 +61,31 @@ pub fn url(alloc: Global, text: &[u8]) -> io::Result<PageUrl> {
     }
 }
 
+/// The answer of a URL with this body, which is within the limits.
+pub fn answer(
+    alloc: Global,
+    url: PageUrl,
+    control: Control,
+    body: SharedBytes,
+) -> io::Result<Arc<Answer>> {
+    match Answer::got(url, 200, Octets::empty(alloc), control, body) {
+        Some(answer) => Ok(Arc::new(alloc, answer)?),
+        None => Err(io::Error::from(io::ErrorKind::InvalidInput)),
+    }
+}
+
 /// Want of memory as an error of input and output, as which a benchmark ends.
 pub fn or_io_error<T>(made: Result<T, NoMemory>) -> io::Result<T> {
     match made {
         Ok(value) => Ok(value),
         Err(NoMemory) => Err(io::Error::from(io::ErrorKind::OutOfMemory)),
+    }
+}
+
+/// A text that can't be read as an error of input and output; what was read is dropped.
+pub fn or_input_error<T: Drop, E: Drop>(read: Result<T, E>) -> io::Result<()> {
+    match read {
+        Ok(_) => Ok(()),
+        Err(_) => Err(io::Error::from(io::ErrorKind::InvalidInput)),
     }
 }

@@ -4,23 +4,28 @@
 
 use std::{env, io};
 
+mod boards;
 mod caching;
 mod headers;
 mod inputs;
 mod pages;
+mod plans;
 mod references;
 mod scanning;
 mod tables;
 mod templates;
 mod timing;
 
-const NAMES: [&str; 7] = [
+const NAMES: [&str; 10] = [
     "tables",
     "headers",
     "scanning",
     "references",
     "caching",
     "templates",
+    "plans",
+    "held-plans",
+    "boards",
     "pages",
 ];
 
@@ -58,6 +63,9 @@ fn run(rt: &HostRuntime, name: &str) -> io::Result<()> {
         "references" => references::run(rt),
         "caching" => caching::run(rt),
         "templates" => templates::run(rt),
+        "plans" => plans::run(rt),
+        "held-plans" => plans::hold(rt),
+        "boards" => boards::run(rt),
         "pages" => pages::run(rt),
         _ => Ok(()),
     }

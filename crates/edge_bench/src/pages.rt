@@ -1,6 +1,7 @@
 //! Whole pages as cases, beside reading and writing the same bytes.
+ghost use Rattle.esi_meaning.specs.Meaning.{AreLevels};
 
-use crate::inputs::CHOOSE;
+use crate::inputs::{CHOOSE, or_input_error};
 use crate::timing::{Least, ratio};
 use edge_case::run_case;
 use esi_meaning::are_levels;
@@ -10,6 +11,14 @@ use std::io;
 use std::io::{Read, Write};
 
 const TURNS: u32 = 15;
+
+// The times of one page, and how much was printed.
+#[derive(Clone, Copy)]
+struct Times {
+    copying: Least,
+    running: Least,
+    printed: usize,
+}
 
 /// Prints how long pages take from case text to printed form.
 pub fn run(rt: &HostRuntime) -> io::Result<()> {
@@ -23,36 +32,59 @@ pub fn run(rt: &HostRuntime) -> io::Result<()> {
     told(rt, "the limit of legs at five levels", limit.as_bytes(), 5)
 }
 
-// The quickest of several turns of each.
+// Prints how long a page takes.
 fn told(rt: &HostRuntime, name: &str, case: &[u8], levels: u8) -> io::Result<()> {
     if !are_levels(levels) {
         return Ok(());
     }
-    let mut copying = Least::new();
-    let mut running = Least::new();
-    let mut printed = 0;
-    for _ in 0..TURNS {
-        let mut text = Vec::new(rt.alloc());
-        let mut copy = Vec::new(rt.alloc());
-        copying.time(rt, || copied(case, &mut text, &mut copy))??;
-        let mut reader = case;
-        let mut out = Vec::new(rt.alloc());
-        let ended = running.time(rt, || run_case(rt.alloc(), &mut reader, &mut out, levels))?;
-        printed = out.len();
-        if ended.is_err() {
-            println!(rt; "pages, {name}: no case")?;
-        }
-    }
+    let times = measured(rt, case, levels)?;
     println!(rt;
-        "pages, {name}: {} us, {printed} bytes printed; {:.0} times reading and writing {} bytes",
-        running.get().as_micros(),
-        ratio(running.get(), copying.get()),
+        "pages, {name}: {} us, {} bytes printed; {:.0} times reading and writing {} bytes",
+        times.running.get().as_micros(),
+        times.printed,
+        ratio(times.running.get(), times.copying.get()),
         case.len()
     )
 }
 
+// The quickest of several turns of each.
+fn measured(rt: &HostRuntime, case: &[u8], levels: u8) -> io::Result<Times>
+    requires { AreLevels levels }
+{
+    let mut times = Times {
+        copying: Least::new(),
+        running: Least::new(),
+        printed: 0,
+    };
+    for _ in 0..TURNS {
+        copied(rt, case, &mut times)?;
+        assembled(rt, case, levels, &mut times)?;
+    }
+    Ok(times)
+}
+
+fn copied(rt: &HostRuntime, case: &[u8], times: &mut Times) -> io::Result<()> {
+    let mut text = Vec::new(rt.alloc());
+    let mut copy = Vec::new(rt.alloc());
+    times
+        .copying
+        .time(rt, || copy_of(case, &mut text, &mut copy))?
+}
+
+fn assembled(rt: &HostRuntime, case: &[u8], levels: u8, times: &mut Times) -> io::Result<()>
+    requires { AreLevels levels }
+{
+    let mut reader = case;
+    let mut out = Vec::new(rt.alloc());
+    let ended = times
+        .running
+        .time(rt, || run_case(rt.alloc(), &mut reader, &mut out, levels))?;
+    times.printed = out.len();
+    or_input_error(ended)
+}
+
 // Reads the bytes, and writes what was read.
-fn copied(bytes: &[u8], text: &mut Vec<u8>, copy: &mut Vec<u8>) -> io::Result<()> {
+fn copy_of(bytes: &[u8], text: &mut Vec<u8>, copy: &mut Vec<u8>) -> io::Result<()> {
     let mut reader = bytes;
     reader.read_to_end(text)?;
     copy.write_all(text.as_slice())

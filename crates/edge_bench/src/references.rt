@@ -13,24 +13,58 @@ const LEN: usize = 262_144;
 /// How often each step is run; the quickest run counts.
 const TURNS: u32 = 200;
 
+// What each opener of a reference is.
+const OPENERS: [&str; 5] = ["$(", "$(A{", "$(A|'", "$(A|", "$"];
+
+// The times that others are compared with: of a copy, and of reading plain text.
+#[derive(Clone, Copy)]
+struct Base {
+    copy: Duration,
+    plain: Duration,
+}
+
+// The times of one text, and how much was read and written.
+#[derive(Clone, Copy)]
+struct Times {
+    reading: Least,
+    writing: Least,
+    count: usize,
+}
+
 /// Prints how long reading and substituting take, and the ratios to copying and to plain text.
 pub fn run(rt: &HostRuntime) -> io::Result<()> {
     let request = or_io_error(request(rt.alloc()))?;
+    let base = plain_told(rt, &request)?;
+    for unit in OPENERS {
+        openers_told(rt, &request, unit, base)?;
+    }
+    page_told(rt, &request, base)
+}
+
+// Plain text, with which the others are compared.
+fn plain_told(rt: &HostRuntime, request: &Request) -> io::Result<Base> {
     let plain = repeated(rt.alloc(), b"x", LEN)?;
     let copy = copied(rt, plain.as_slice())?;
     println!(rt; "references: copy of {LEN} bytes: {} ns", copy.as_nanos())?;
-    let base = told(rt, &request, "plain text", plain.as_slice(), copy, copy)?;
-    for unit in ["$(", "$(A{", "$(A|'", "$(A|", "$"] {
-        let mut text = repeated(rt.alloc(), unit.as_bytes(), LEN)?;
-        told(rt, &request, unit, text.as_slice(), copy, base)?;
-        text.pop();
-        text.push(b')')?;
-        let name = "  the same, then `)`";
-        told(rt, &request, name, text.as_slice(), copy, base)?;
-    }
+    let base = Base { copy, plain: copy };
+    let plain = told(rt, request, "plain text", plain.as_slice(), base)?;
+    Ok(Base { copy, plain })
+}
+
+// Nothing but openers; and the same, where the last byte may end them all.
+fn openers_told(rt: &HostRuntime, request: &Request, unit: &str, base: Base) -> io::Result<()> {
+    let mut text = repeated(rt.alloc(), unit.as_bytes(), LEN)?;
+    told(rt, request, unit, text.as_slice(), base)?;
+    text.pop();
+    text.push(b')')?;
+    told(rt, request, "  the same, then `)`", text.as_slice(), base)?;
+    Ok(())
+}
+
+fn page_told(rt: &HostRuntime, request: &Request, base: Base) -> io::Result<()> {
     let page = page(rt.alloc())?;
     let name = "page with 2,000 references";
-    told(rt, &request, name, page.as_bytes(), copy, base)?;
+    told(rt, request, name, page.as_bytes(), base)?;
     Ok(())
 }
 
@@ -40,30 +74,49 @@ fn told(
     request: &Request,
     name: &str,
     text: &[u8],
-    copy: Duration,
-    plain: Duration,
+    base: Base,
 ) -> io::Result<Duration> {
-    let text = or_io_error(SharedBytes::copy_of(rt.alloc(), text))?;
-    let mut reading = Least::new();
-    let mut writing = Least::new();
-    let mut count = 0;
-    for _ in 0..TURNS {
-        let found = or_io_error(reading.time(rt, || parts(rt.alloc(), &text))?)?;
-        let out = or_io_error(writing.time(
-            rt,
-            || substitute(rt.alloc(), request, found.as_slice()),
-        )?)?;
-        count = found.len().wrapping_add(out.len());
-    }
+    let times = measured(rt, request, text)?;
     println!(rt;
-        "references, {name}: parts {} ns = {:.1} copies = {:.2} plain; substitute {} ns = {:.1} copies ({count})",
-        reading.get().as_nanos(),
-        ratio(reading.get(), copy),
-        ratio(reading.get(), plain),
-        writing.get().as_nanos(),
-        ratio(writing.get(), copy),
+        "references, {name}: parts {} ns = {:.1} copies = {:.2} plain; substitute {} ns = {:.1} copies ({})",
+        times.reading.get().as_nanos(),
+        ratio(times.reading.get(), base.copy),
+        ratio(times.reading.get(), base.plain),
+        times.writing.get().as_nanos(),
+        ratio(times.writing.get(), base.copy),
+        times.count
     )?;
-    Ok(reading.get())
+    Ok(times.reading.get())
+}
+
+// The quickest of several turns.
+fn measured(rt: &HostRuntime, request: &Request, text: &[u8]) -> io::Result<Times> {
+    let text = or_io_error(SharedBytes::copy_of(rt.alloc(), text))?;
+    let mut times = Times {
+        reading: Least::new(),
+        writing: Least::new(),
+        count: 0,
+    };
+    for _ in 0..TURNS {
+        turn(rt, request, &text, &mut times)?;
+    }
+    Ok(times)
+}
+
+fn turn(
+    rt: &HostRuntime,
+    request: &Request,
+    text: &SharedBytes,
+    times: &mut Times,
+) -> io::Result<()> {
+    let found = or_io_error(times.reading.time(rt, || parts(rt.alloc(), text))?)?;
+    let out = or_io_error(
+        times
+            .writing
+            .time(rt, || substitute(rt.alloc(), request, found.as_slice()))?,
+    )?;
+    times.count = found.len().wrapping_add(out.len());
+    Ok(())
 }
 
 // How long it takes to copy the bytes.

@@ -49,29 +49,36 @@ impl Text {
     }
 }
 
+const TEXTS: [(&str, Text); 7] = [
+    ("plain text", Text::Repeated("", PLAIN)),
+    ("page of 200 includes", Text::Includes),
+    (
+        "page of other tags",
+        Text::Repeated("", "<p class=\"a\">Words</p> - and more\n"),
+    ),
+    ("nothing but <", Text::Repeated("", "<")),
+    ("- in an open block", Text::Repeated("<!--esi ", "-")),
+    ("40,000 attributes", Text::Attributes),
+    (
+        "40,000 attributes, the last as the first",
+        Text::AttributesTwice,
+    ),
+];
+
 /// Prints the measurements.
 pub fn run(rt: &HostRuntime) -> io::Result<()> {
     beside_memchr(rt)?;
-    for (name, text) in [
-        ("plain text", Text::Repeated("", PLAIN)),
-        ("page of 200 includes", Text::Includes),
-        (
-            "page of other tags",
-            Text::Repeated("", "<p class=\"a\">Words</p> - and more\n"),
-        ),
-        ("nothing but <", Text::Repeated("", "<")),
-        ("- in an open block", Text::Repeated("<!--esi ", "-")),
-        ("40,000 attributes", Text::Attributes),
-        (
-            "40,000 attributes, the last as the first",
-            Text::AttributesTwice,
-        ),
-    ] {
-        let text_once = text.made(rt.alloc(), 1)?;
-        let text_four_times = text.made(rt.alloc(), 4)?;
-        told(rt, name, text_once.as_slice(), text_four_times.as_slice())?;
+    for (name, text) in TEXTS {
+        both_told(rt, name, text)?;
     }
     Ok(())
+}
+
+// A text, and one of its kind that is four times as long.
+fn both_told(rt: &HostRuntime, name: &str, text: Text) -> io::Result<()> {
+    let once = text.made(rt.alloc(), 1)?;
+    let four_times = text.made(rt.alloc(), 4)?;
+    told(rt, name, once.as_slice(), four_times.as_slice())
 }
 
 // Prints how long a text takes, and one of its kind that is four times as long.

@@ -1,11 +1,12 @@
 //! Templates, beside the scan alone of the same text.
 
-use crate::inputs::{CHOOSE, or_io_error, page_of_includes};
+use crate::inputs::{CHOOSE, or_input_error, or_io_error, page_of_includes};
 use crate::timing::{Least, ratio};
 use edge_types::SharedBytes;
 use esi_scanner::scan;
 use esi_tree::template;
 use std::io;
+use std::time::Duration;
 
 const PAGE: usize = 262_144;
 
@@ -26,21 +27,34 @@ pub fn run(rt: &HostRuntime) -> io::Result<()> {
     told(rt, "10,000 chooses of two branches", branches.as_bytes())
 }
 
-// The quickest of several turns of each.
+// Prints how long a template and the scan alone take.
 fn told(rt: &HostRuntime, name: &str, text: &[u8]) -> io::Result<()> {
-    let shared = or_io_error(SharedBytes::copy_of(rt.alloc(), text))?;
-    let mut scanning = Least::new();
-    let mut reading = Least::new();
-    for _ in 0..TURNS {
-        drop(scanning.time(rt, || scan(rt.alloc(), text))?);
-        if reading.time(rt, || template(rt.alloc(), &shared))?.is_err() {
-            println!(rt; "templates, {name}: no template")?;
-        }
-    }
+    let (reading, scanning) = measured(rt, text)?;
     println!(rt;
         "templates, {name}: {} bytes in {} us = {:.2} times the scan",
         text.len(),
-        reading.get().as_micros(),
-        ratio(reading.get(), scanning.get())
+        reading.as_micros(),
+        ratio(reading, scanning)
     )
+}
+
+// The quickest of several turns of each.
+fn measured(rt: &HostRuntime, text: &[u8]) -> io::Result<(Duration, Duration)> {
+    let shared = or_io_error(SharedBytes::copy_of(rt.alloc(), text))?;
+    let mut reading = Least::new();
+    let mut scanning = Least::new();
+    for _ in 0..TURNS {
+        scanned(rt, text, &mut scanning)?;
+        read(rt, &shared, &mut reading)?;
+    }
+    Ok((reading.get(), scanning.get()))
+}
+
+fn scanned(rt: &HostRuntime, text: &[u8], least: &mut Least) -> io::Result<()> {
+    or_input_error(least.time(rt, || scan(rt.alloc(), text))?)
+}
+
+/// Reads the template that a text is, and notes the time.
+pub fn read(rt: &HostRuntime, text: &SharedBytes, least: &mut Least) -> io::Result<()> {
+    or_input_error(least.time(rt, || template(rt.alloc(), text))?)
 }

@@ -4,7 +4,7 @@ use std::io;
 use std::time::{Duration, Instant};
 
 /// The least of the times that some work took.
-#[derive(Drop)]
+#[derive(Clone, Copy)]
 pub struct Least {
     time: Duration,
 }

@@ -1,0 +1,100 @@
+//! Boards: a slot of many costs no more than one of few.
+
+use crate::inputs::{or_io_error, url};
+use crate::timing::{Least, nanoseconds_each};
+use answer_board::{Board, Receipt};
+use edge_types::Answer;
+use plan_compiler::Prepared;
+use std::alloc::Global;
+use std::io;
+use std::sync::Arc;
+
+// As many slots as a page of the most legs may have, each with its alternate, and a tenth of them.
+const MANY: usize = 1257;
+
+const FEW: usize = 126;
+// How many boards of few slots have about as many as one of many.
+const ROUNDS: usize = 10;
+
+const TURNS: u32 = 40;
+
+/// Prints how long a slot takes to be opened, claimed and filled, on a board of many slots beside
+/// one of few.
+pub fn run(rt: &HostRuntime) -> io::Result<()> {
+    let answers = answers(rt.alloc(), MANY)?;
+    let many = told(rt, answers.as_slice(), 1)?;
+    let few = told(rt, answers.get(..FEW).unwrap_or(&[]), ROUNDS)?;
+    println!(rt;
+        "boards: a slot of {MANY} takes {:.2} times as long as one of {FEW}",
+        many / few
+    )
+}
+
+// Failed answers of so many URLs, made ready.
+fn answers(alloc: Global, count: usize) -> io::Result<Vec<Prepared>> {
+    let mut answers = Vec::with_capacity(alloc, count)?;
+    for i in 0..count {
+        answers.push(failed(alloc, i)?)?;
+    }
+    Ok(answers)
+}
+
+fn failed(alloc: Global, number: usize) -> io::Result<Prepared> {
+    let text = format!(in alloc; "http://a.test/fragments/{number}")?;
+    let answer = Answer::failed(url(alloc, text.as_bytes())?);
+    or_io_error(Prepared::of(alloc, Arc::new(alloc, answer)?))
+}
+
+// Prints and answers the nanoseconds of a slot, in the quickest of several turns of so many boards.
+fn told(rt: &HostRuntime, answers: &[Prepared], rounds: usize) -> io::Result<f64> {
+    let mut least = Least::new();
+    for _ in 0..TURNS {
+        least.time(rt, || boards(rt.alloc(), answers, rounds))??;
+    }
+    let each = nanoseconds_each(least.get(), answers.len().wrapping_mul(rounds));
+    println!(rt; "boards, {} slots: {each:.0} ns a slot", answers.len())?;
+    Ok(each)
+}
+
+fn boards(alloc: Global, answers: &[Prepared], rounds: usize) -> io::Result<()> {
+    for _ in 0..rounds {
+        board(alloc, answers)?;
+    }
+    Ok(())
+}
+
+// A board on which each answer has a slot; all are claimed and filled, and the board is dropped.
+fn board(alloc: Global, answers: &[Prepared]) -> io::Result<()> {
+    let mut board = Board::new(alloc);
+    for answer in answers.iter() {
+        or_io_error(board.open(answer.url(), 1))?;
+    }
+    for answer in answers.iter() {
+        land(&mut board, or_io_error(answer.share())?)?;
+    }
+    Ok(())
+}
+
+// Claims the next slot, which has the URL of this answer, and fills it.
+fn land(board: &mut Board, answer: Prepared) -> io::Result<()> {
+    let Some(ticket) = board.claim() else {
+        return Err(io::Error::from(io::ErrorKind::InvalidInput));
+    };
+    match ticket.answered(answer) {
+        Ok(receipt) => fill(board, receipt),
+        Err((ticket, _)) => {
+            ticket.give_up();
+            Err(io::Error::from(io::ErrorKind::InvalidInput))
+        }
+    }
+}
+
+fn fill(board: &mut Board, receipt: Receipt) -> io::Result<()> {
+    match board.fill(receipt) {
+        Ok(_) => Ok(()),
+        Err((_, receipt)) => {
+            receipt.give_up();
+            Err(io::Error::from(io::ErrorKind::InvalidInput))
+        }
+    }
+}
