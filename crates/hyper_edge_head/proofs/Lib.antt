@@ -1,1 +1,3 @@
+pub mod FrameLemmas
 pub mod HeadLemmas
+pub mod SentLemmas

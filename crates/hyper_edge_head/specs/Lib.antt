@@ -1,2 +1,4 @@
 pub mod Head
+pub mod Frames
+pub mod Sent
 pub mod Laws

@@ -1,15 +1,19 @@
-//! What a page's request asks over HTTP: the heads of requests are read. Nothing here waits, and no
-//! socket is seen.
+//! What a page's request asks, and what comes of it, over HTTP: the heads of requests are read, and
+//! outcomes are told as responses. Nothing here waits, and no socket is seen.
 //!
 //! Source: RFC 9110, "HTTP Semantics", and RFC 9112, "HTTP/1.1".
 #![tactic(auto)]
 
+mod body;
 mod field;
 mod head;
 pub mod laws;
+mod response;
 
+pub use body::EdgeBody;
 pub use field::Field;
 pub use head::{HeadFault, answer_head};
+pub use response::{refusal_of, response_of};
 
 #[cfg(test)]
 mod tests;

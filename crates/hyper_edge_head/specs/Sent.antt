@@ -1,0 +1,73 @@
+-- What a client is sent.
+use Rattle.std.specs.Prelude.{◌≡◌, ◌⊎◌, ℕ, ◌≤◌, Bool, ◌||◌, ◌==◌, List, [], ◌∷◌, codes, if◌then◌else◌}
+use Rattle.http.specs.declared.response.Response.{Response}
+use Rattle.http.specs.Response.{head_of, body_of}
+use Rattle.http_header.specs.FieldValue.{FieldValue, plain_value, IsFieldValue}
+use Rattle.http_header.specs.HeaderMap.{Entry, Entries}
+use Rattle.edge_types.specs.declared.outcome.Outcome.{Outcome}
+use Rattle.edge_types.specs.declared.outcome.Outcome.TheVariants.{Page, Fault}
+
+-- a response: its status, its fields, and the frames of its body
+pub record Sent : Type 0 where
+  pub status : ℕ
+  pub fields : Entries FieldValue
+  pub frames : List (List ℕ)
+
+-- what is sent of a response
+abbrev pub sent : Response (List (List ℕ)) → Sent
+sent response = record { status = (head_of response).status; fields = (head_of response).headers; frames = body_of response }
+
+-- a field that has one line
+abbrev pub field : List ℕ → List ℕ → Entry FieldValue
+field name value = (name, plain_value value ∷ [])
+
+-- the field of a content type; none for an empty one
+abbrev pub type_field : List ℕ → Entries FieldValue
+type_field [] = []
+type_field (byte ∷ bytes) = field (codes "content-type") (byte ∷ bytes) ∷ []
+
+-- an answer of the edge's own: a plain text, and fields besides
+abbrev pub own : ℕ → List ℕ → Entries FieldValue → Sent
+own status text besides = record { status = status; fields = field (codes "content-type") (codes "text/plain") ∷ besides; frames = text ∷ [] }
+
+-- the page could not be assembled (RFC 9110, section 15.6.3)
+abbrev pub unassembled : Sent
+unassembled = own 502 (codes "The page could not be assembled.\n") []
+
+-- the statuses of refusals
+abbrev pub IsRefusal : ℕ → Type 0
+IsRefusal status = (status ≡ 400) ⊎ ((status ≡ 405) ⊎ (status ≡ 503))
+
+-- what a refusal sends: 405 says which method is served (RFC 9110, sections 15.5.1, 15.5.6, 15.6.4)
+abbrev pub refusal : ℕ → Sent
+refusal status =
+    if status == 400 then own 400 (codes "The request can't be read.\n") [] else (
+    if status == 405 then own 405 (codes "Only GET is served.\n") (field (codes "allow") (codes "GET") ∷ []) else
+    own 503 (codes "The edge has no room for the page.\n") [])
+
+-- a status under which no body is sent (RFC 9110, sections 15.3.5 and 15.4.5)
+abbrev pub is_bodiless : ℕ → Bool
+is_bodiless status = status == 204 || status == 304
+
+-- a page: its status, its type, and a frame for each piece of its body
+abbrev pub page : ℕ → List ℕ → List (List ℕ) → Sent
+page status content_type pieces = record {
+  status = status;
+  fields = type_field content_type;
+  frames = if is_bodiless status then [] else pieces;
+}
+
+-- HTTP carries the status as a final one, and the type as a field's value (RFC 9110, sections 15
+-- and 5.5): so it is of each answer that the edge takes in
+pub record IsSendable (status : ℕ) (content_type : List ℕ) : Type 0 where
+  pub status_from : 200 ≤ status
+  pub status_to : status ≤ 599
+  pub type_value : IsFieldValue content_type
+
+-- a response tells of an outcome: of a page as it is, and of a fault that there is no page. What
+-- HTTP can't carry counts as a fault
+abbrev pub Tells : Outcome → Sent → Type 0
+Tells (Page status content_type pieces) response =
+    (IsSendable status content_type × (response ≡ page status content_type pieces))
+    ⊎ (¬ (IsSendable status content_type) × (response ≡ unassembled))
+Tells (Fault fault) response = response ≡ unassembled
