@@ -29,6 +29,3 @@ pub use shared_answer::SharedAnswer;
 pub use shared_bytes::SharedBytes;
 pub use table::{InsertFault, Table};
 pub use white_space::is_ws;
-
-#[cfg(test)]
-mod tests;

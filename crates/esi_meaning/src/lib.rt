@@ -9,8 +9,6 @@ mod leg_url;
 mod limits;
 mod page;
 mod progress;
-#[cfg(test)]
-mod tests;
 
 pub use limits::{MAX_LEGS, MAX_LEVELS, MIN_LEVELS, are_levels};
 pub use page::plain_page;

@@ -25,6 +25,3 @@ pub use fault::ScanFault;
 pub use scanner::scan;
 pub use tag::Tag;
 pub use token::{Kind, Span, Token};
-
-#[cfg(test)]
-mod tests;

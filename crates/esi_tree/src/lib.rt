@@ -15,8 +15,6 @@ mod open_elements;
 pub mod parts;
 pub mod reader;
 mod tag;
-#[cfg(test)]
-mod tests;
 pub mod tree;
 
 pub use fault::TreeFault;

@@ -10,8 +10,6 @@ pub mod laws;
 pub mod part;
 mod query;
 pub mod reference;
-#[cfg(test)]
-mod tests;
 pub mod values;
 mod written;
 

@@ -14,6 +14,3 @@ pub use body::EdgeBody;
 pub use field::Field;
 pub use head::{HeadFault, answer_head};
 pub use response::{refusal_of, response_of};
-
-#[cfg(test)]
-mod tests;

@@ -10,8 +10,6 @@ pub mod laws;
 pub mod plan;
 pub mod prepared;
 pub mod step;
-#[cfg(test)]
-mod tests;
 
 pub use compiler::compile;
 pub use inline::Inline;

@@ -17,6 +17,3 @@ pub use parameter::MAX_SECONDS;
 pub use surrogate_capability::capability;
 pub use surrogate_control::control;
 pub use token::is_token;
-
-#[cfg(test)]
-mod tests;

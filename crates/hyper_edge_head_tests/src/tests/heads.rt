@@ -1,6 +1,6 @@
 // Heads of requests.
-use crate::{Field, HeadFault, answer_head};
 use edge_types::{PageUrl, Request};
+use hyper_edge_head::{Field, HeadFault, answer_head};
 use std::alloc::Global;
 use std::process::Abort;
 

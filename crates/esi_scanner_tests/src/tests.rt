@@ -1,4 +1,6 @@
-use super::*;
+use esi_scanner::{
+    Attribute, AttributeName, Attributes, Kind, KnownAttribute, ScanFault, Span, Tag, Token, scan,
+};
 use std::alloc::{AllocError, Global};
 use std::fmt::Write;
 use std::str;

@@ -1,7 +1,7 @@
 // Worked rows of the profile and of the specification.
-use crate::{capability, control, is_token};
 use edge_types::Control;
 use std::test::Fail;
+use surrogate_headers::{capability, control, is_token};
 
 const DEVICE: &[u8] = b"edge1";
 

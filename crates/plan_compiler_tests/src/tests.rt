@@ -1,7 +1,7 @@
-use crate::{Form, Plan, Prepared, Step, compile};
 use edge_types::{Answer, Control, NoMemory, Octets, PageUrl, SharedBytes};
 use esi_tree::{TreeFault, template};
 use esi_vars::Part;
+use plan_compiler::{Form, Plan, Prepared, Step, compile};
 use std::alloc::Global;
 use std::fmt::Write;
 use std::str;

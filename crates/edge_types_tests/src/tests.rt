@@ -1,5 +1,5 @@
 // Worked examples: expected values come from the URL Standard and from the edge's own rules.
-use crate::{
+use edge_types::{
     Answer, Control, InsertFault, NoMemory, Octets, PageBody, PageFault, PageUrl, Reply, Request,
     SharedAnswer, SharedBytes, Table, around, is_ws, query_of,
 };

@@ -1,11 +1,11 @@
 // Responses, and the frames of their bodies.
-use crate::{EdgeBody, refusal_of, response_of};
 use bytes::Bytes;
 use edge_types::{NoMemory, Octets, Outcome, PageBody, PageFault, SharedBytes};
 use futures::task::{Context, Poll};
 use futures::{Future, FutureExt};
 use http::Response;
 use http_body::{Body, Frame};
+use hyper_edge_head::{EdgeBody, refusal_of, response_of};
 use std::alloc::{AllocError, AllocGlobal, Global};
 use std::process::Abort;
 use std::random::RandomSource;

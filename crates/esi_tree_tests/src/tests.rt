@@ -1,5 +1,5 @@
-use crate::{Branch, Node, Parts, Template, TreeFault, template as read_template};
 use edge_types::{NoMemory, SharedBytes};
+use esi_tree::{Branch, Node, Parts, Template, TreeFault, template as read_template};
 use esi_vars::{Part, Reference, Variable};
 use std::alloc::{AllocError, Global};
 use std::test::Fail;

@@ -1,14 +1,16 @@
 // A case has a line for each answer: its path, `failed` or a status with `esi` or `plain`, and the
 // body. An answer's content type is `text` and its path. The page is at `/p`. What is told is the
 // status, the content type and the body, or the fault.
-use super::*;
 use edge_types::{
     Answer, Control, NoMemory, Octets, Outcome, PageFault, PageUrl, Request, SharedBytes, Table,
 };
+use esi_meaning::{are_levels, plain_page};
 use std::alloc::Global;
 use std::fmt::Write;
+use std::process::Abort;
 use std::str;
 use std::sync::Arc;
+use std::test::Fail;
 
 mod elements;
 mod inlines;
@@ -131,4 +133,21 @@ fn told_of(
     };
     let outcome = plain_page(alloc, &page, &request(alloc, fields)?, &table, levels)?;
     Ok(Some(told(alloc, &outcome)?))
+}
+
+// Checks cases, with an empty line between two: a case's name, its answers, and behind `=> ` what its page comes to.
+fn cases_hold(
+    rt: &impl Abort,
+    alloc: Global,
+    fields: Fields,
+    levels: u8,
+    cases: &str,
+) -> Result<(), Fail> {
+    for text in cases.split("\n\n") {
+        let (name, rest) = text.split_once('\n').ok_or("a case's name")?;
+        let (case, wanted) = rest.split_once("\n=> ").ok_or("what is wanted")?;
+        let found = told_of(alloc, case, fields, levels)?.ok_or("a case")?;
+        assert_eq!(rt; found.as_str(), wanted, "{name}");
+    }
+    Ok(())
 }

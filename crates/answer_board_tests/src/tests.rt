@@ -1,4 +1,4 @@
-use crate::{Board, FillFault, Receipt, Ticket};
+use answer_board::{Board, FillFault, Receipt, Ticket};
 use edge_types::{Answer, NoMemory, PageUrl};
 use plan_compiler::Prepared;
 use std::alloc::Global;

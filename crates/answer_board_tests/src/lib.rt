@@ -1,0 +1,5 @@
+//! The tests of `answer_board`.
+#![tactic(auto)]
+
+#[cfg(test)]
+mod tests;

@@ -1,0 +1,5 @@
+//! The tests of `edge_types`.
+#![tactic(auto)]
+
+#[cfg(test)]
+mod tests;

@@ -1,0 +1,5 @@
+//! The tests of `esi_meaning`.
+#![tactic(auto)]
+
+#[cfg(test)]
+mod tests;

@@ -1,0 +1,5 @@
+//! The tests of `esi_scanner`.
+#![tactic(auto)]
+
+#[cfg(test)]
+mod tests;

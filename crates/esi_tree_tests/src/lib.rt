@@ -1,0 +1,5 @@
+//! The tests of `esi_tree`.
+#![tactic(auto)]
+
+#[cfg(test)]
+mod tests;

@@ -1,0 +1,5 @@
+//! The tests of `plan_compiler`.
+#![tactic(auto)]
+
+#[cfg(test)]
+mod tests;

@@ -1,0 +1,5 @@
+//! The tests of `surrogate_headers`.
+#![tactic(auto)]
+
+#[cfg(test)]
+mod tests;
