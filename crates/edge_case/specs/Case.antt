@@ -1,11 +1,12 @@
 -- What a case text says: a page's URL, a reader's request and the answers of origins.
-use Rattle.std.specs.Prelude.{◌≡◌, ℕ, ◌≤◌, List, [], ◌∷◌, length, codes, unwrap_or, Option, Some, None}
+use Rattle.std.specs.Prelude.{◌≡◌, ℕ, ◌≤◌, List, [], ◌∷◌, length, unwrap_or, Option, Some, None}
 use Rattle.edge_types.specs.declared.request.Request.{Request}
 use Rattle.edge_types.specs.Asked.{asked}
 use Rattle.edge_types.specs.Answered.{Answered, IsAcceptable, failed, got}
 use Rattle.edge_types.specs.Query.{query_of}
 use Rattle.edge_types.specs.Table.{IsTable}
 use Rattle.surrogate_headers.specs.Control.{control_of}
+use Rattle.surrogate_headers.specs.Token.{own_device}
 use Rattle.edge_case.specs.declared.case_text.Case.{Case}
 use Rattle.edge_case.specs.declared.case_text.TheConstants.{MAX_CASE}
 use Rattle.edge_case.specs.Document.{Heading, Entry, Failed, Got, Document, IsDocument, spelling}
@@ -27,7 +28,7 @@ request_of h = record {
 
 -- the device for which controls are read
 abbrev pub device : List ℕ
-device = codes "edge1"
+device = own_device
 
 -- what was got, within the limits of the edge, at a URL
 pub record IsGot (status : ℕ) (u : List ℕ) (content_type control : Option (List ℕ)) (body : List ℕ) (answer : Answered) : Type 0 where

@@ -9,10 +9,7 @@ use crate::entry::{Entry, Got, entry_at};
 use edge_types::{Answer, InsertFault, NoMemory, Octets, PageUrl, SharedBytes, Table};
 use std::alloc::Global;
 use std::sync::Arc;
-use surrogate_headers::control;
-
-// The device for which the controls of a case text are read.
-const DEVICE: &[u8] = b"edge1";
+use surrogate_headers::{control, own_device};
 
 // The line after the answers.
 const END: &[u8] = b"end\n";
@@ -31,7 +28,7 @@ impl Got<'_> {
             return Ok(None);
         }
         let content_type = Octets::copy_of(alloc, lent_or_empty(self.content_type))?;
-        let control = control(lent_or_empty(self.control), DEVICE);
+        let control = control(lent_or_empty(self.control), own_device());
         let body = SharedBytes::copy_of(alloc, self.body)?;
         Ok(Answer::got(url, self.status as u16, content_type, control, body))
     }

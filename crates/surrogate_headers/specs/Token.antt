@@ -14,3 +14,7 @@ is_token text = nat_lt 0 (length text) && list_all is_token_byte text
 -- what a device says it can do: its token, and the two capabilities in quotes
 abbrev pub capability_of : List ℕ → List ℕ
 capability_of device = device ++ codes "=\"Surrogate/1.0 ESI/1.0\""
+
+-- the token of this edge
+abbrev pub own_device : List ℕ
+own_device = codes "edge1"

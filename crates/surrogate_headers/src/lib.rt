@@ -11,9 +11,11 @@ mod parameter;
 mod parts;
 mod surrogate_capability;
 mod surrogate_control;
+mod this_edge;
 mod token;
 
 pub use parameter::MAX_SECONDS;
 pub use surrogate_capability::capability;
 pub use surrogate_control::control;
+pub use this_edge::{own_capability, own_device};
 pub use token::is_token;

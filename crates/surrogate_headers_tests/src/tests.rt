@@ -1,7 +1,7 @@
 // Worked rows of the profile and of the specification.
 use edge_types::Control;
 use std::test::Fail;
-use surrogate_headers::{capability, control, is_token};
+use surrogate_headers::{capability, control, is_token, own_capability, own_device};
 
 const DEVICE: &[u8] = b"edge1";
 
@@ -130,5 +130,9 @@ fn names_of_devices(rt: HostRuntime) -> Result<(), Fail> {
         value.as_slice(),
         b"edge1=\"Surrogate/1.0 ESI/1.0\"".as_slice()
     );
+    let (name, line) = own_capability();
+    assert_eq!(rt; name, "surrogate-capability");
+    assert_eq!(rt; line.as_bytes(), value.as_slice());
+    assert_eq!(rt; own_device(), DEVICE);
     Ok(())
 }
