@@ -1,44 +1,75 @@
 use edge_types::{Answer, Control, NoMemory, Octets, PageUrl, SharedBytes};
 use esi_tree::{TreeFault, template};
 use esi_vars::Part;
-use plan_compiler::{Form, Plan, Prepared, Step, compile};
+use plan_compiler::{Form, Inline, Plan, Prepared, Step, compile};
 use std::alloc::Global;
 use std::fmt::Write;
 use std::str;
 use std::sync::Arc;
 use std::test::Fail;
 
+// No plan of these tests has more steps, or more inlines.
+const MOST: usize = 30;
+
 // The steps in one line, a blank behind each: a text as it is, `$` for values, `?n`, `+n`, `tryn` and
 // `endn` for a test, a jump, a try and its end, with what they skip, a leg's text in braces; and
 // behind them the inlines, as `name first..end`.
-fn told(alloc: Global, plan: &Plan, most: usize) -> Result<String, NoMemory> {
+fn told(alloc: Global, plan: &Plan) -> Result<String, NoMemory> {
     let mut line = String::new(alloc);
-    for i in 0..most {
-        if let Some(step) = plan.step(i) {
-            push_step(&mut line, step)?;
-        }
-    }
-    for i in 0..most {
-        if let Some(inline) = plan.inline(i) {
-            let name = str::from_utf8(inline.name.as_bytes()).unwrap_or("?");
-            write!(line, "; {name} {}..{}", inline.first, inline.end)?;
-        }
-    }
+    push_steps(&mut line, plan)?;
+    push_inlines(&mut line, plan)?;
     Ok(line)
+}
+
+fn push_steps(line: &mut String, plan: &Plan) -> Result<(), NoMemory> {
+    for i in 0..MOST {
+        if let Some(step) = plan.step(i) {
+            push_step(line, step)?;
+        }
+    }
+    Ok(())
+}
+
+fn push_inlines(line: &mut String, plan: &Plan) -> Result<(), NoMemory> {
+    for i in 0..MOST {
+        if let Some(inline) = plan.inline(i) {
+            push_inline(line, inline)?;
+        }
+    }
+    Ok(())
+}
+
+fn push_inline(line: &mut String, inline: &Inline) -> Result<(), NoMemory> {
+    let name = text_of(inline.name.as_bytes());
+    write!(line, "; {name} {}..{}", inline.first, inline.end)?;
+    Ok(())
+}
+
+fn text_of<'a>(bytes: &'a [u8]) -> &'a str {
+    str::from_utf8(bytes).unwrap_or("?")
 }
 
 fn push_step(line: &mut String, step: &Step) -> Result<(), NoMemory> {
     match step {
-        Step::Text(text) => line.push_str(str::from_utf8(text.as_bytes()).unwrap_or("?"))?,
-        Step::Values(_) => line.push_str("$")?,
-        Step::Test { skip, .. } => write!(line, "?{skip}")?,
-        Step::Jump { skip } => write!(line, "+{skip}")?,
-        Step::Try { skip } => write!(line, "try{skip}")?,
-        Step::EndTry { skip } => write!(line, "end{skip}")?,
-        Step::Leg(source) => push_leg(line, source.as_slice())?,
-        Step::Fail => line.push_str("fail")?,
+        Step::Text(text) => push_word(line, text_of(text.as_bytes())),
+        Step::Values(_) => push_word(line, "$"),
+        Step::Test { skip, .. } => push_skip(line, "?", *skip),
+        Step::Jump { skip } => push_skip(line, "+", *skip),
+        Step::Try { skip } => push_skip(line, "try", *skip),
+        Step::EndTry { skip } => push_skip(line, "end", *skip),
+        Step::Leg(source) => push_leg(line, source.as_slice()),
+        Step::Fail => push_word(line, "fail"),
     }
+}
+
+fn push_word(line: &mut String, word: &str) -> Result<(), NoMemory> {
+    line.push_str(word)?;
     line.push_str(" ")?;
+    Ok(())
+}
+
+fn push_skip(line: &mut String, name: &str, skip: usize) -> Result<(), NoMemory> {
+    write!(line, "{name}{skip} ")?;
     Ok(())
 }
 
@@ -46,20 +77,26 @@ fn push_leg(line: &mut String, source: &[Part]) -> Result<(), NoMemory> {
     line.push_str("{")?;
     for part in source {
         match part {
-            Part::Text(bytes) => line.push_str(str::from_utf8(bytes.as_bytes()).unwrap_or("?"))?,
+            Part::Text(bytes) => line.push_str(text_of(bytes.as_bytes()))?,
             Part::Reference(_) => line.push_str("$")?,
         }
     }
-    line.push_str("}")?;
+    line.push_str("} ")?;
     Ok(())
 }
 
-fn told_of(alloc: Global, text: &str) -> Result<Option<String>, NoMemory> {
+// The plan of a text; none where it is no template.
+fn planned(alloc: Global, text: &str) -> Result<Option<Plan>, NoMemory> {
     match template(alloc, &SharedBytes::copy_of(alloc, text.as_bytes())?) {
-        Ok(template) => Ok(Some(told(alloc, &compile(alloc, &template)?, 30)?)),
+        Ok(template) => Ok(Some(compile(alloc, &template)?)),
         Err(TreeFault::Bad(_)) => Ok(None),
         Err(TreeFault::NoMemory) => Err(NoMemory),
     }
+}
+
+fn told_of(alloc: Global, text: &str) -> Result<String, Fail> {
+    let plan = planned(alloc, text)?.ok_or("a template")?;
+    Ok(told(alloc, &plan)?)
 }
 
 // What a template's steps are, by hand.
@@ -147,12 +184,26 @@ const PLANS: [(&str, &str); 24] = [
     ),
 ];
 
+// Notes a row that isn't told as it is wanted.
+fn note(wrong: &mut String, row: &str, told: &str, wanted: &str) -> Result<(), NoMemory> {
+    if told != wanted {
+        write!(wrong, "{row}: {told}, not {wanted}\n")?;
+    }
+    Ok(())
+}
+
+fn wrong_plans(alloc: Global) -> Result<String, Fail> {
+    let mut wrong = String::new(alloc);
+    for (text, wanted) in PLANS.iter() {
+        let line = told_of(alloc, text)?;
+        note(&mut wrong, text, line.as_str(), wanted)?;
+    }
+    Ok(wrong)
+}
+
 #[test]
 fn plans_are_made(rt: HostRuntime) -> Result<(), Fail> {
-    for (text, wanted) in PLANS {
-        let line = told_of(rt.alloc(), text)?.ok_or("a template")?;
-        assert_eq!(rt; line.as_str(), wanted, "{text}");
-    }
+    assert_eq!(rt; wrong_plans(rt.alloc())?.as_str(), "");
     Ok(())
 }
 
@@ -160,91 +211,144 @@ fn url(alloc: Global, text: &str) -> Result<PageUrl, Fail> {
     Ok(PageUrl::parse(alloc, text.as_bytes())?.ok_or("a URL")?)
 }
 
-// An answer of this URL, which is processed where `esi` says so.
-fn prepared(alloc: Global, at: &str, esi: bool, body: &str) -> Result<Prepared, Fail> {
+const PAGE: &str = "http://a.test/p";
+
+// The answer of the page's URL, which is processed where `esi` says so, made ready.
+fn prepared(alloc: Global, esi: bool, body: &str) -> Result<Prepared, Fail> {
+    let answer = answer(alloc, esi, body)?.ok_or("an answer")?;
+    Ok(Prepared::of(alloc, Arc::new(alloc, answer)?)?)
+}
+
+fn answer(alloc: Global, esi: bool, body: &str) -> Result<Option<Answer>, Fail> {
     let control = Control {
         esi,
         ..Control::default()
     };
-    let answer = Answer::got(
-        url(alloc, at)?,
-        200,
-        Octets::empty(alloc),
-        control,
-        SharedBytes::copy_of(alloc, body.as_bytes())?,
-    );
-    let answer = Arc::new(alloc, answer.ok_or("an answer")?)?;
-    Ok(Prepared::of(alloc, answer)?)
+    let url = url(alloc, PAGE)?;
+    let body = SharedBytes::copy_of(alloc, body.as_bytes())?;
+    Ok(Answer::got(url, 200, Octets::empty(alloc), control, body))
 }
 
 // `plain`, the plan's line, or `bad` with its place.
 fn form_told(alloc: Global, prepared: &Prepared) -> Result<String, NoMemory> {
-    let mut line = String::new(alloc);
     match prepared.form() {
-        Form::Plain => line.push_str("plain")?,
-        Form::Planned(plan) => line.push_str(told(alloc, plan, 30)?.as_str())?,
-        Form::BadAt(place) => write!(line, "bad {place}")?,
+        Form::Plain => word(alloc, "plain"),
+        Form::Planned(plan) => told(alloc, plan),
+        Form::BadAt(place) => Ok(format!(in alloc; "bad {place}")?),
     }
-    Ok(line)
+}
+
+fn word(alloc: Global, text: &str) -> Result<String, NoMemory> {
+    let mut word = String::new(alloc);
+    word.push_str(text)?;
+    Ok(word)
+}
+
+// Whether a body is processed, and what it is then.
+const FORMS: [(bool, &str, &str); 4] = [
+    (true, "A<esi:include src=\"/x\"/>B", "A {/x} B "),
+    (false, "1", "plain"),
+    (false, "<esi:try>", "plain"),
+    (true, "<esi:try>", "bad 9"),
+];
+
+// What a second owner of an answer that was made ready is told as.
+fn second_told(alloc: Global, esi: bool, body: &str) -> Result<String, Fail> {
+    let second = prepared(alloc, esi, body)?.share()?;
+    Ok(form_told(alloc, &second)?)
+}
+
+fn wrong_forms(alloc: Global) -> Result<String, Fail> {
+    let mut wrong = String::new(alloc);
+    for (esi, body, wanted) in FORMS.iter() {
+        let line = second_told(alloc, *esi, body)?;
+        note(&mut wrong, body, line.as_str(), wanted)?;
+    }
+    Ok(wrong)
 }
 
 #[test]
 fn an_answer_is_plain_planned_or_bad(rt: HostRuntime) -> Result<(), Fail> {
-    let rows = [
-        (true, "A<esi:include src=\"/x\"/>B", "A {/x} B "),
-        (false, "1", "plain"),
-        (false, "<esi:try>", "plain"),
-        (true, "<esi:try>", "bad 9"),
-    ];
-    for (esi, body, wanted) in rows {
-        let prepared = prepared(rt.alloc(), "http://a.test/p", esi, body)?;
-        let second = prepared.share()?;
-        let line = form_told(rt.alloc(), &second)?;
-        assert_eq!(rt; line.as_str(), wanted, "{body}");
-        assert!(rt;
-            second.url().as_bytes() == b"http://a.test/p".as_slice(),
-            "{body}"
-        );
-        assert!(rt; second.answer().body() == body.as_bytes(), "{body}");
-    }
+    assert_eq!(rt; wrong_forms(rt.alloc())?.as_str(), "");
     Ok(())
 }
+
+fn wrong_owners(alloc: Global) -> Result<String, Fail> {
+    let mut wrong = String::new(alloc);
+    for (esi, body, _) in FORMS.iter() {
+        let second = prepared(alloc, *esi, body)?.share()?;
+        note(&mut wrong, body, text_of(second.url().as_bytes()), PAGE)?;
+        note(&mut wrong, body, text_of(second.answer().body()), body)?;
+    }
+    Ok(wrong)
+}
+
+#[test]
+fn a_second_owner_is_the_same_answer(rt: HostRuntime) -> Result<(), Fail> {
+    assert_eq!(rt; wrong_owners(rt.alloc())?.as_str(), "");
+    Ok(())
+}
+
+const INLINES: &str =
+    "0<esi:inline name='http://u:p@a.test/'>1</esi:inline><esi:inline name='/i'>2</esi:inline><esi:inline name='i'>3</esi:inline><esi:inline name='/j'>4</esi:inline>";
 
 // The URL of an inline, `-` for none.
 fn url_told<'a>(prepared: &'a Prepared, i: usize) -> &'a str {
     match prepared.inline_url(i) {
-        Some(url) => str::from_utf8(url.as_bytes()).unwrap_or("?"),
+        Some(url) => text_of(url.as_bytes()),
         None => "-",
     }
 }
 
+const URLS: [&str; 5] = [
+    "-",
+    "http://a.test/i",
+    "http://a.test/i",
+    "http://a.test/j",
+    "-",
+];
+
+fn wrong_urls(alloc: Global) -> Result<String, Fail> {
+    let prepared = prepared(alloc, true, INLINES)?;
+    let mut wrong = String::new(alloc);
+    for (i, wanted) in URLS.iter().enumerate() {
+        note(&mut wrong, wanted, url_told(&prepared, i), wanted)?;
+    }
+    Ok(wrong)
+}
+
+#[test]
+fn each_inline_has_its_url(rt: HostRuntime) -> Result<(), Fail> {
+    assert_eq!(rt; wrong_urls(rt.alloc())?.as_str(), "");
+    Ok(())
+}
+
+// The first step of the inline that a URL names, and the one behind its last.
+const FOUND: [(&str, &str); 3] = [
+    ("http://a.test/i", "2..3"),
+    ("http://a.test/j", "4..5"),
+    ("http://a.test/p", "none"),
+];
+
+fn found(alloc: Global, prepared: &Prepared, text: &str) -> Result<String, Fail> {
+    match prepared.inline_for(&url(alloc, text)?) {
+        Some(inline) => Ok(format!(in alloc; "{}..{}", inline.first, inline.end)?),
+        None => Ok(word(alloc, "none")?),
+    }
+}
+
+fn wrong_inlines(alloc: Global) -> Result<String, Fail> {
+    let prepared = prepared(alloc, true, INLINES)?;
+    let mut wrong = String::new(alloc);
+    for (text, wanted) in FOUND.iter() {
+        let line = found(alloc, &prepared, text)?;
+        note(&mut wrong, text, line.as_str(), wanted)?;
+    }
+    Ok(wrong)
+}
+
 #[test]
 fn the_first_inline_of_a_url_is_found(rt: HostRuntime) -> Result<(), Fail> {
-    let body =
-        "0<esi:inline name='http://u:p@a.test/'>1</esi:inline><esi:inline name='/i'>2</esi:inline><esi:inline name='i'>3</esi:inline><esi:inline name='/j'>4</esi:inline>";
-    let prepared = prepared(rt.alloc(), "http://a.test/p", true, body)?;
-    let urls = [
-        "-",
-        "http://a.test/i",
-        "http://a.test/i",
-        "http://a.test/j",
-        "-",
-    ];
-    for (i, wanted) in urls.iter().enumerate() {
-        assert_eq!(rt; url_told(&prepared, i), *wanted, "{i}");
-    }
-    let rows = [
-        ("http://a.test/i", Some((2, 3))),
-        ("http://a.test/j", Some((4, 5))),
-        ("http://a.test/p", None),
-    ];
-    for (text, wanted) in rows {
-        let found = prepared.inline_for(&url(rt.alloc(), text)?);
-        assert_eq!(rt;
-            found.map(|inline| (inline.first, inline.end)),
-            wanted,
-            "{text}"
-        );
-    }
+    assert_eq!(rt; wrong_inlines(rt.alloc())?.as_str(), "");
     Ok(())
 }
