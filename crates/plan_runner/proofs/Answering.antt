@@ -1,0 +1,33 @@
+-- What a leg's answer comes to, as the code finds it.
+use Rattle.std.proofs.Common.{◌≡◌, ℕ, zero, ◌-◌, ◌+◌, Bool, true, false, List, [], ◌∷◌, length, Option, Some, None, Ok, Err, refl, sym, ◌∙◌, ap}
+use Rattle.edge_types.specs.declared.request.Request.{Request}
+use Rattle.edge_types.specs.Answered.{Answered, processed, body_of}
+use Rattle.esi_tree.specs.Reading.{tree_of}
+use Rattle.plan_compiler.specs.declared.plan.Plan.{Plan}
+use Rattle.plan_compiler.specs.Code.{code_of}
+use Rattle.plan_compiler.specs.Prepared.{IsPlanOf}
+use Rattle.plan_compiler.specs.Shown.{steps_in}
+use Rattle.answer_board.specs.Board.{State, answer_at}
+use Rattle.plan_runner.specs.declared.frames.Frame as code_frame
+use Rattle.plan_machine.specs.Machine.{Frame, Machine, Next, Went, goes, unwound, plain_leg}
+use Rattle.plan_runner.specs.Shown.{shown_frame, IsPlaced}
+use Rattle.plan_runner.specs.Targets.{acted, found_at}
+
+module _ (r : Request) (log : List Answered) (b : State) (legs : ℕ) (out : List (List ℕ)) (f : Frame) (fs : List Frame) (i : ℕ) (new : Machine) where
+  pub none_acts : answer_at b.slots i ≡ None → new ≡ unwound legs out (f ∷ fs) → acted r log legs out f fs (found_at (answer_at b.slots i)) ≡ Went new
+  none_acts e is = rw (e, is) refl
+
+  pub plain_acts : (a : Answered) → answer_at b.slots i ≡ Some a → processed a.reply ≡ false → new ≡ plain_leg r log legs out (f ∷ fs) a.reply → acted r log legs out f fs (found_at (answer_at b.slots i)) ≡ Went new
+  plain_acts a e plain is = rw (e, plain, is) refl
+
+  pub bad_acts : (a : Answered) (at : ℕ) → answer_at b.slots i ≡ Some a → (processed a.reply ≡ true) × (tree_of (body_of a.reply) ≡ Err at) → new ≡ unwound legs out (f ∷ fs) → acted r log legs out f fs (found_at (answer_at b.slots i)) ≡ Went new
+  bad_acts a at e bad is = rw (e, bad.0, bad.1, is) refl
+
+  pub planned_acts : (a : Answered) (plan : Plan) (g : code_frame.Frame) → answer_at b.slots i ≡ Some a → processed a.reply ≡ true → IsPlanOf (body_of a.reply) plan → g.slot ≡ i → g.at ≡ zero → g.end ≡ length (steps_in plan) → g.level ≡ f.level - 1 → g.handlers ≡ []
+      → new ≡ goes legs out (shown_frame b g ∷ f ∷ fs) → acted r log legs out f fs (found_at (answer_at b.slots i)) ≡ Went new
+  planned_acts a plan g e template p slot at end level handlers is =
+      let far : g.end ≡ length (code_of p.t) = end ∙ ap length p.steps_are in
+      rw (is, slot, e, template, p.read, at, far, level, handlers) refl
+
+pub planned_placed : (b : State) (i : ℕ) (a : Answered) (plan : Plan) (g : code_frame.Frame) → answer_at b.slots i ≡ Some a → processed a.reply ≡ true → IsPlanOf (body_of a.reply) plan → g.slot ≡ i → IsPlaced b g
+planned_placed b i a plan g e template p slot = record { answer = a; tree = p.t; there = rw slot e; is_processed = template; is_tree = p.read }

@@ -1,0 +1,11 @@
+pub mod Placing
+pub mod Targets
+pub mod Legs
+pub mod Stepping
+pub mod Answering
+pub mod Advancing
+pub mod Courses
+pub mod Walks
+pub mod Done
+pub mod Keeping
+pub mod States

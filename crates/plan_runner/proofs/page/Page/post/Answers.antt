@@ -1,0 +1,22 @@
+use Rattle.plan_runner.proofs.Keeping.{kept_more, kept_opened, under, takes_done, takes_underway}
+use Rattle.plan_runner.proofs.page.Page.post.Goals as goal
+
+pub invariant_of-self-in-Done : goal.invariant_of-self-in-Done
+invariant_of-self-in-Done c = kept_more c.self.inside c.fill.new.self c.args.receipt.answer c.in-Ok.ensures.keeps c.in-Ok.ensures.log c.in-Ok.ensures.sound c.self.invariant
+
+pub returns-in-Done : goal.returns-in-Done
+returns-in-Done c =
+    record { ok = takes_done c.self.inside c.args.self.now c.args.receipt c.fill.new.self c.in-Done.field-0 c.self.view_is c.in-Done.is c.in-Ok.ensures.ok.1 c.in-Ok.ensures.ok.2; refused = tt }
+
+pub invariant_of-self-in-Ok-open_ahead : goal.invariant_of-self-in-Ok-open_ahead
+invariant_of-self-in-Ok-open_ahead c =
+    kept_opened c.self.inside c.fill.new.self c.open_ahead.new.board c.args.receipt.answer c.in-Ok-open_ahead.room c.in-Ok.ensures.keeps c.in-Ok.ensures.log c.in-Ok-open_ahead.ensures.keeps c.in-Ok-open_ahead.ensures.log c.in-Ok-open_ahead.ensures.sound c.self.invariant
+
+pub returns-in-Ok-open_ahead : goal.returns-in-Ok-open_ahead
+returns-in-Ok-open_ahead c =
+    record {
+      ok =
+          takes_underway c.self.inside c.args.self.now c.args.receipt c.fill.new.self c.open_ahead.new.board c.in-Ok.number c.in-Ok-open_ahead.room c.self.view_is
+          (under c.self.inside.stage c.in_default.not-Broken c.in_default-stage.not-Done) c.in-Ok.ensures.ok.0 c.in-Ok.ensures.ok.1 c.in-Ok.ensures.ok.2 c.in-Ok-open_ahead.ensures.opens;
+      refused = tt;
+    }

@@ -1,0 +1,11 @@
+pub mod Shown
+pub mod Reached
+pub mod Resumed
+pub mod Targets
+pub mod Plain
+pub mod Running
+pub mod Ahead
+pub mod Walk
+pub mod Page
+pub mod Calls
+pub mod Kept

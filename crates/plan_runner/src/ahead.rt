@@ -1,0 +1,175 @@
+//! Slots that are opened ahead: for what a template that has come in may ask.
+ghost use Rattle.std.specs.Prelude.{◌≡◌, Some, filter_map, IfOk, slice_get};
+ghost use Rattle.edge_types.specs.Answered.{Answered};
+ghost use Rattle.esi_meaning.specs.Ahead.{ahead_of};
+ghost use Rattle.answer_board.specs.Board.{Slot, KeepsFilled, answer_in, log_of};
+ghost use Rattle.answer_board.specs.Sound.{IsBoard};
+ghost use Rattle.plan_compiler.specs.declared.prepared.Form.TheVariants as form;
+ghost use Rattle.plan_compiler.specs.Prepared.{IsForm};
+ghost use Rattle.plan_compiler.specs.Shown.{step_of};
+ghost use Rattle.plan_runner.specs.Ahead.{opened, opened_by};
+ghost use Rattle.plan_runner.specs.Walk.{asked_by, asked_in, sources_at, passed_by, with_asked};
+
+use crate::leg_url::leg_url;
+use answer_board::Board;
+use edge_types::{NoMemory, PageUrl, Request};
+use esi_tree::Parts;
+use plan_compiler::{Form, Plan, Prepared, Step};
+use std::alloc::Global;
+
+// What slots are opened with: the template, and their depth.
+#[derive(Clone, Copy)]
+struct Opening<'a> {
+    alloc: Global,
+    request: &'a Request,
+    template: &'a Prepared,
+    depth: u8,
+}
+
+// Opens slots for the URLs that the answer in this slot may ask, as many as there is room for, and
+// answers the room that is left. Where memory runs out, some of them may be open.
+pub(crate) fn open_ahead(
+    alloc: Global,
+    request: &Request,
+    levels: u8,
+    board: &mut Board,
+    number: usize,
+    room: u16,
+) -> Result<u16, NoMemory>
+    requires sound { IsBoard board.old }
+    ensures opens { (s : Slot) (answer : Answered) → slice_get board.old.slots number ≡ Some s → answer_in s.standing ≡ Some answer
+        → IfOk result (λ left. record { board = board.new; room = left } ≡ opened_by request.now levels s.depth answer (record { board = board.old; room = room })) }
+    ensures keeps { KeepsFilled board.old board.new }
+    ensures log { log_of board.new ≡ log_of board.old }
+    ensures sound { IsBoard board.new }
+{
+    let depth = match board.depth(number) {
+        Some(depth) if depth < levels => depth + 1,
+        Some(_) | None => return Ok(room),
+    };
+    if room == 0 {
+        return Ok(room);
+    }
+    let Some(prepared) = board.prepared(number) else {
+        return Ok(room);
+    };
+    let template = prepared.share()?;
+    let opening = Opening {
+        alloc,
+        request,
+        template: &template,
+        depth,
+    };
+    open_all(&opening, board, room)
+}
+
+// Opens what the template may ask, where it is one.
+fn open_all(opening: &Opening<'_>, board: &mut Board, room: u16) -> Result<u16, NoMemory>
+    requires sound { IsBoard board.old }
+    ensures opens { IfOk result (λ left. record { board = board.new; room = left } ≡ opened opening.now.depth (ahead_of opening.now.request.now opening.now.template.now) (record { board = board.old; room = room })) }
+    ensures keeps { KeepsFilled board.old board.new }
+    ensures log { log_of board.new ≡ log_of board.old }
+    ensures sound { IsBoard board.new }
+{
+    match opening.template.form() {
+        Form::Planned(plan) => walk(opening, plan, board, room),
+        Form::Plain => Ok(room),
+        Form::BadAt(_) => Ok(room),
+    }
+}
+
+// The steps of the plan in their order: each test is decided, and both ways of each try are entered.
+fn walk(opening: &Opening<'_>, plan: &Plan, board: &mut Board, room: u16) -> Result<u16, NoMemory>
+    requires sound { IsBoard board.old }
+    requires plan { IsForm opening.now.template.now (form.Planned plan.now) }
+    ensures opens { IfOk result (λ left. record { board = board.new; room = left } ≡ opened opening.now.depth (ahead_of opening.now.request.now opening.now.template.now) (record { board = board.old; room = room })) }
+    ensures keeps { KeepsFilled board.old board.new }
+    ensures log { log_of board.new ≡ log_of board.old }
+    ensures sound { IsBoard board.new }
+{
+    let _ = plan.len();
+    let mut left = room;
+    let mut at: usize = 0;
+    while left > 0 {
+        let Some(step) = plan.step(at) else {
+            return Ok(left);
+        };
+        left = visit(opening, step, board, left)?;
+        at += 1 + passed(opening.request, step);
+    }
+    Ok(left)
+}
+
+// How many steps the walk passes behind this one.
+fn passed(request: &Request, step: &Step) -> usize
+    ensures { result ≡ passed_by request.now (step_of step.now) }
+{
+    match step {
+        Step::Test { test, skip } => { if test.holds(request) { 0 } else { *skip } }
+        Step::Jump { skip } => *skip,
+        _ => 0,
+    }
+}
+
+// Opens a slot for what this step may ask, and answers the room that is left.
+fn visit(opening: &Opening<'_>, step: &Step, board: &mut Board, room: u16) -> Result<u16, NoMemory>
+    requires sound { IsBoard board.old }
+    ensures opens { IfOk result (λ left. record { board = board.new; room = left } ≡
+        opened opening.now.depth (filter_map (asked_by opening.now.request.now opening.now.template.now) (sources_at (step_of step.now))) (record { board = board.old; room = room })) }
+    ensures keeps { KeepsFilled board.old board.new }
+    ensures log { log_of board.new ≡ log_of board.old }
+    ensures sound { IsBoard board.new }
+{
+    match step {
+        Step::Leg(source) => open_leg(opening, source, board, room),
+        _ => Ok(room),
+    }
+}
+
+// Opens a slot for the URL of a leg, unless it has one or an inline of the template names it.
+fn open_leg(
+    opening: &Opening<'_>,
+    source: &Parts,
+    board: &mut Board,
+    room: u16,
+) -> Result<u16, NoMemory>
+    requires sound { IsBoard board.old }
+    ensures opens { IfOk result (λ left. record { board = board.new; room = left } ≡ with_asked opening.now.depth (asked_by opening.now.request.now opening.now.template.now source.now) (record { board = board.old; room = room })) }
+    ensures keeps { KeepsFilled board.old board.new }
+    ensures log { log_of board.new ≡ log_of board.old }
+    ensures sound { IsBoard board.new }
+{
+    let template = opening.template;
+    match leg_url(
+        opening.alloc,
+        opening.request,
+        template.url(),
+        source.as_slice(),
+    )? {
+        Some(url) => match template.inline_for(&url) {
+            Some(_) => Ok(room),
+            None => open_new(opening, &url, board, room),
+        },
+        None => Ok(room),
+    }
+}
+
+// Opens a slot for this URL, where it has none and there is room.
+fn open_new(
+    opening: &Opening<'_>,
+    url: &PageUrl,
+    board: &mut Board,
+    room: u16,
+) -> Result<u16, NoMemory>
+    requires sound { IsBoard board.old }
+    ensures opens { IfOk result (λ left. record { board = board.new; room = left } ≡ with_asked opening.now.depth (Some url.now) (record { board = board.old; room = room })) }
+    ensures keeps { KeepsFilled board.old board.new }
+    ensures log { log_of board.new ≡ log_of board.old }
+    ensures sound { IsBoard board.new }
+{
+    if room == 0 || board.number(url).is_some() {
+        return Ok(room);
+    }
+    board.open(url, opening.depth)?;
+    Ok(room - 1)
+}

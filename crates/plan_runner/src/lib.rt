@@ -1,0 +1,19 @@
+//! Pages that any scheduler may drive, in any order of answers. `Page` is the one type;
+//! `specs/Page.antt` and `Calls.antt` say what clauses see of it and what each call does.
+#![tactic(auto)]
+
+mod advance;
+mod ahead;
+mod course;
+mod frames;
+mod handlers;
+mod leg;
+mod leg_url;
+mod machine;
+mod outcome;
+mod page;
+mod step;
+#[cfg(test)]
+mod tests;
+
+pub use page::{MAX_AHEAD, Page, PageError, PostFault, State};

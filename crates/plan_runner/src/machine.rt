@@ -1,0 +1,111 @@
+//! How far a page has come.
+ghost use Rattle.std.specs.Prelude.{◌≡◌, ◌∷◌, [], OnOk, IfOk};
+ghost use Rattle.answer_board.specs.Board.{State};
+ghost use Rattle.edge_types.specs.Pieces.{with_piece};
+ghost use Rattle.plan_machine.specs.Machine.{settled, goes, unwound};
+ghost use Rattle.plan_runner.specs.Shown.{shown_frame, shown_frames, shown_machine, first_frame, IsPlaced, ArePlaced};
+
+use crate::frames::{Frame, Frames};
+use crate::handlers::Handlers;
+use edge_types::{NoMemory, PageBody, SharedBytes};
+use std::alloc::Global;
+
+#[derive(Drop)]
+pub(crate) struct Machine {
+    pub(crate) frames: Frames,
+    pub(crate) out: PageBody,
+    // How many legs were tried.
+    pub(crate) legs: u16,
+    pub(crate) failed: bool,
+}
+
+// A machine of no page.
+pub(crate) fn idle(alloc: Global) -> Machine
+    ensures frames { result.frames ≡ [] }
+{
+    Machine {
+        frames: Frames::new(alloc),
+        out: PageBody::new(alloc),
+        legs: 0,
+        failed: false,
+    }
+}
+
+// A machine before its first step, on the plan of the answer in this slot.
+pub(crate) fn started(
+    alloc: Global,
+    slot: usize,
+    end: usize,
+    level: u8,
+) -> Result<Machine, NoMemory>
+    ensures shown { IfOk result (λ m. (board : State) → shown_machine board m ≡ goes 0 [] (shown_frame board (first_frame slot end level) ∷ [])) }
+    ensures placed { IfOk result (λ m. (board : State) → IsPlaced board (first_frame slot end level) → ArePlaced board m.frames) }
+{
+    let mut machine = Machine {
+        frames: Frames::new(alloc),
+        out: PageBody::new(alloc),
+        legs: 0,
+        failed: false,
+    };
+    let frame = Frame {
+        slot,
+        at: 0,
+        end,
+        level,
+        handlers: Handlers::new(alloc),
+    };
+    go_on(&mut machine, frame)?;
+    Ok(machine)
+}
+
+// Leaves the frames that have come to their end.
+fn settle(frames: &mut Frames) -> Result<(), NoMemory>
+    ensures shown { OnOk result ((board : State) → shown_frames board frames.new ≡ settled (shown_frames board frames.old)) }
+    ensures placed { OnOk result ((board : State) → ArePlaced board frames.old → ArePlaced board frames.new) }
+{
+    while let Some(top) = frames.pop() {
+        if top.at < top.end {
+            frames.push(top)?;
+            return Ok(());
+        }
+    }
+    Ok(())
+}
+
+// On with this frame before the others.
+pub(crate) fn go_on(machine: &mut Machine, frame: Frame) -> Result<(), NoMemory>
+    ensures shown { OnOk result ((board : State) → shown_machine board machine.new ≡ goes machine.old.legs machine.old.out (shown_frame board frame ∷ shown_frames board machine.old.frames)) }
+    ensures placed { OnOk result ((board : State) → IsPlaced board frame → ArePlaced board machine.old.frames → ArePlaced board machine.new.frames) }
+{
+    machine.frames.push(frame)?;
+    machine.failed = false;
+    settle(&mut machine.frames)?;
+    Ok(())
+}
+
+// On at the innermost handler, with the output cut back to its mark.
+pub(crate) fn unwind(machine: &mut Machine) -> Result<(), NoMemory>
+    ensures shown { OnOk result ((board : State) → shown_machine board machine.new ≡ unwound machine.old.legs machine.old.out (shown_frames board machine.old.frames)) }
+    ensures placed { OnOk result ((board : State) → ArePlaced board machine.old.frames → ArePlaced board machine.new.frames) }
+{
+    while let Some(mut frame) = machine.frames.pop() {
+        if let Some(handler) = frame.handlers.pop() {
+            frame.at = frame.at.max(handler.to);
+            machine.out.cut(handler.mark);
+            go_on(machine, frame)?;
+            return Ok(());
+        }
+    }
+    machine.failed = true;
+    Ok(())
+}
+
+// Gives this text out, and goes on with the frame.
+pub(crate) fn give(machine: &mut Machine, frame: Frame, text: SharedBytes) -> Result<(), NoMemory>
+    ensures shown { OnOk result ((board : State) → shown_machine board machine.new ≡ goes machine.old.legs (with_piece machine.old.out text) (shown_frame board frame ∷ shown_frames board machine.old.frames)) }
+    ensures placed { OnOk result ((board : State) → IsPlaced board frame → ArePlaced board machine.old.frames → ArePlaced board machine.new.frames) }
+{
+    machine.out.push(text)?;
+    go_on(machine, frame)?;
+    Ok(())
+}

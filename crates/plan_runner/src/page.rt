@@ -1,0 +1,363 @@
+//! Pages. Clauses see a page's URL, request and levels, its board, the room that is left for slots
+//! ahead, the count of steps, and how far it is.
+ghost use Rattle.std.specs.Prelude.{◌≡◌, ◌≤◌, length, List, ◌++◌, ◌∷◌, [], Some, None, IfOk, IfErr, OnOk, OnErr, option_and_then, option_map, slice_get};
+ghost use Rattle.std.specs.Arc.{arc_value};
+ghost use Rattle.std.specs.Option.{option_copied};
+ghost use Rattle.edge_types.specs.Answered.{Answered};
+ghost use Rattle.edge_types.specs.Outcome.{Shown, shown};
+ghost use Rattle.edge_types.specs.Table.{Agrees};
+ghost use Rattle.esi_meaning.specs.Meaning.{AreLevels};
+ghost use Rattle.esi_meaning.specs.State.{Done, state, waits_at};
+ghost use Rattle.answer_board.specs.Sound.{IsBoard};
+ghost use Rattle.answer_board.specs.Board.{answer_at, log_of};
+ghost use Rattle.plan_machine.specs.Headline.{IsTrueOver};
+ghost use Rattle.plan_runner.specs.Page.{Underway, Finished, Broken, accepted, ClaimsOf};
+ghost use Rattle.plan_runner.specs.Calls.{TakesIn, Refuses, Errs, told_state, standing_after, Moves, only_board};
+ghost use Rattle.plan_runner.specs.Kept.{standing_of, IsStage};
+ghost use Rattle.plan_runner.specs.Running.{IsDone, Comes};
+
+use crate::advance::Progress;
+use crate::ahead::open_ahead;
+use crate::course::{Came, begin_and_go_on, go_on};
+use crate::leg::Setting;
+use crate::machine::idle;
+use crate::outcome::SharedOutcome;
+use answer_board::{Board, FillFault, Receipt, Ticket};
+use edge_types::{Answer, NoMemory, Outcome, PageUrl, Request};
+use std::alloc::Global;
+use std::marker::Model;
+use std::mem;
+use std::sync::Arc;
+
+/// The most slots that the posts of a page may open ahead.
+///
+/// Our profile.
+pub const MAX_AHEAD: u16 = 256;
+
+/// Where a page stands.
+#[derive(Drop)]
+pub enum State {
+    /// It waits for the answer of this URL.
+    Waiting(PageUrl),
+    /// It has its outcome.
+    Done(Arc<Outcome>),
+}
+
+/// Why a page doesn't tell where it stands.
+#[derive(Clone, Copy, Debug, Drop, PartialEq, Eq)]
+pub enum PageError {
+    /// A growth was refused: a page that wasn't done is broken.
+    NoMemory,
+    /// A growth was refused earlier, before the page was done.
+    Broken,
+}
+
+/// Why a page doesn't take a receipt, or is broken by it.
+#[must_use]
+pub enum PostFault {
+    /// There is no slot of that number with that URL.
+    Stranger(Receipt),
+    /// Nobody has claimed the slot.
+    NotClaimed(Receipt),
+    /// The slot has its answer.
+    Filled(Receipt),
+    /// A growth was refused: the answer is in, and the page is broken.
+    NoMemory,
+    /// A growth was refused earlier, before the page was done.
+    Broken(Receipt),
+}
+
+// How far a page is.
+#[derive(Drop)]
+pub(crate) enum Stage {
+    // Its own answer has not been looked at.
+    Unread,
+    // Its own answer is a template, whose plan is run.
+    Running,
+    // It has its outcome.
+    Done(SharedOutcome),
+    // A growth was refused.
+    Broken,
+}
+
+/// A page that is assembled from answers, which may come in any order.
+///
+/// ```text
+///  accept --> underway --advance--> done, for good
+///                |
+///                +--a growth refused in post or advance--> broken, for good
+/// ```
+#[derive(Drop)]
+pub struct Page {
+    alloc: Global,
+    url: PageUrl,
+    request: Request,
+    levels: u8,
+    board: Board,
+    // How many slots posts may still open ahead.
+    room: u16,
+    progress: Progress,
+    stage: Stage,
+}
+
+impl Model for Page {
+    ghost use Rattle.plan_runner.specs.Page as page;
+    ghost use Rattle.plan_runner.specs.Kept.{seen, IsKept};
+
+    ghost Value = { page.Page };
+
+    ghost view = { seen };
+
+    ghost invariant = { IsKept };
+}
+
+impl Page {
+    /// A page of which no answer is in: one slot, for the page's own URL, at depth 0.
+    ///
+    /// `ahead` is how many slots posts may open ahead, at most `MAX_AHEAD`. `NoMemory` where a growth
+    /// is refused; nothing is left then.
+    ///
+    /// Our profile.
+    pub fn accept(
+        alloc: Global,
+        url: PageUrl,
+        request: Request,
+        ahead: u16,
+        levels: u8,
+    ) -> Result<Page, NoMemory>
+        requires ahead { ahead ≤ MAX_AHEAD }
+        requires levels { AreLevels levels }
+        ensures { IfOk result (λ page. page ≡ accepted url request ahead levels) }
+    {
+        let mut board = Board::new(alloc);
+        board.open(&url, 0)?;
+        Ok(Page {
+            alloc,
+            url,
+            request,
+            levels,
+            board,
+            room: ahead,
+            progress: Progress {
+                machine: idle(alloc),
+                steps: 0,
+            },
+            stage: Stage::Unread,
+        })
+    }
+
+    /// Lends the page's URL. Takes no memory.
+    pub fn url(&self) -> &PageUrl
+        ensures { result.now ≡ self.now.url }
+    {
+        &self.url
+    }
+
+    /// Lends what the reader's request says. Takes no memory.
+    pub fn request(&self) -> &Request
+        ensures { result.now ≡ self.now.request }
+    {
+        &self.request
+    }
+
+    /// How many levels are under the page. Takes no memory.
+    pub fn levels(&self) -> u8
+        ensures value { result ≡ self.now.levels }
+        ensures limits { AreLevels result }
+    {
+        self.levels
+    }
+
+    /// How many slots there are, also on a page that is done or broken. Takes no memory.
+    pub fn slots(&self) -> usize
+        ensures { result ≡ length self.now.board.slots }
+    {
+        self.board.len()
+    }
+
+    /// How many steps of plans were made, at most `u64::MAX`. A step that stops at a URL counts once,
+    /// when it goes on; on a page that is done the step that met one leg too many counts. A page
+    /// without a plan makes none. Takes no memory.
+    ///
+    /// Our profile.
+    pub fn steps(&self) -> u64
+        ensures value { result ≡ self.now.steps }
+        ensures done { (outcome : Shown) → self.now.standing ≡ Finished outcome → IsDone self.now.request self.now.levels self.now.url self.now.board result outcome }
+    {
+        self.progress.steps
+    }
+
+    /// Lends the answer of this number, from 0, in order of posting; none past the last. Takes no
+    /// memory.
+    ///
+    /// Our profile.
+    pub fn logged(&self, i: usize) -> Option<&Arc<Answer>>
+        ensures { option_map arc_value (option_copied result) ≡ option_and_then (answer_at self.now.board.slots) (slice_get self.now.board.filled i) }
+    {
+        match self.board.filled().get(i) {
+            Some(number) => match self.board.prepared(*number) {
+                Some(prepared) => Some(prepared.answer()),
+                None => None,
+            },
+            None => None,
+        }
+    }
+
+    /// Claims the first unclaimed slot, and gives its ticket; none where each is claimed, and none
+    /// once the page is done or broken. Takes no memory.
+    ///
+    /// Our profile.
+    pub fn claim(&mut self) -> Option<Ticket>
+        ensures claims { ClaimsOf self.old.standing self.old.board result self.new.board }
+        ensures rest { self.new ≡ only_board self.old self.new.board }
+    {
+        match self.stage {
+            Stage::Unread | Stage::Running => self.board.claim(),
+            Stage::Done(_) | Stage::Broken => None,
+        }
+    }
+
+    /// Takes an answer in. While the page isn't done, opens slots ahead: for each leg of the posted
+    /// template, in text order, whose URL has no slot, one level deeper, while the page has levels
+    /// left there and there is room. On a page that is done it opens none and takes no memory.
+    ///
+    /// `Broken` on a broken page, else `Stranger`, `NotClaimed` or `Filled` as the board says, each of
+    /// which hands the receipt back and changes nothing; else `NoMemory` where a growth is refused,
+    /// after which the answer is in and the page is broken.
+    ///
+    /// Our profile.
+    pub fn post(&mut self, receipt: Receipt) -> Result<(), PostFault>
+        ensures ok { OnOk result (TakesIn self.old receipt self.new) }
+        ensures refused { IfErr result (λ fault. Refuses fault self.old receipt self.new) }
+    {
+        if let Stage::Broken = self.stage {
+            return Err(PostFault::Broken(receipt));
+        }
+        let number = match self.board.fill(receipt) {
+            Ok(number) => number,
+            Err((FillFault::Stranger, receipt)) => return Err(PostFault::Stranger(receipt)),
+            Err((FillFault::NotClaimed, receipt)) => return Err(PostFault::NotClaimed(receipt)),
+            Err((FillFault::Filled, receipt)) => return Err(PostFault::Filled(receipt)),
+        };
+        if let Stage::Done(_) = self.stage {
+            return Ok(());
+        }
+        match open_ahead(
+            self.alloc,
+            &self.request,
+            self.levels,
+            &mut self.board,
+            number,
+            self.room,
+        ) {
+            Ok(room) => {
+                self.room = room;
+                Ok(())
+            }
+            Err(NoMemory) => {
+                self.stage = Stage::Broken;
+                Err(PostFault::NoMemory)
+            }
+        }
+    }
+
+    /// Goes on to where the page waits or is done, and tells it. A URL that is waited for and has no
+    /// slot gets one.
+    ///
+    /// `Broken` on a broken page; `NoMemory` where a growth is refused, after which a page that wasn't
+    /// done is broken. A page that is done stays so, with the same outcome.
+    ///
+    /// Source: ESI Language Specification 1.0, "ESI Language"; the order of answers and the limits are
+    /// our profile.
+    pub fn advance(&mut self) -> Result<State, PageError>
+        ensures told { IfOk result (λ s. state self.new.request (log_of self.new.board) self.new.levels self.new.url ≡ told_state s) }
+        ensures over_every_table { IfOk result (λ s. (table : List Answered) → Agrees (log_of self.new.board) table
+            → IsTrueOver (log_of self.new.board) table self.new.request self.new.levels self.new.url (told_state s)) }
+        ensures standing { IfOk result (λ s. self.new.standing ≡ standing_after s) }
+        ensures done { (outcome : Shown) → self.old.standing ≡ Finished outcome → self.new ≡ self.old }
+        ensures errs { IfErr result (λ e. Errs e self.old self.new) }
+        ensures log { log_of self.new.board ≡ log_of self.old.board }
+        ensures moves { IfOk result (λ s. Moves s self.old.levels (waits_at self.old.request (log_of self.old.board) self.old.levels self.old.url) self.old.board self.new.board) }
+    {
+        match &self.stage {
+            Stage::Broken => Err(PageError::Broken),
+            Stage::Done(outcome) => known(outcome),
+            _ => match self.proceed() {
+                Ok(state) => Ok(state),
+                Err(NoMemory) => Err(PageError::NoMemory),
+            },
+        }
+    }
+
+    // On from where it stands; it is broken where a growth is refused.
+    fn proceed(&mut self) -> Result<State, NoMemory>
+        requires underway { self.old.standing ≡ Underway }
+        ensures told { IfOk result (λ s. state self.new.request (log_of self.new.board) self.new.levels self.new.url ≡ told_state s) }
+        ensures standing { IfOk result (λ s. self.new.standing ≡ standing_after s) }
+        ensures broken { OnErr result (self.new.standing ≡ Broken) }
+        ensures log { log_of self.new.board ≡ log_of self.old.board }
+        ensures sound { IsBoard self.new.board }
+        ensures same { (self.new.url ≡ self.old.url) × (self.new.request ≡ self.old.request) × (self.new.levels ≡ self.old.levels) × (self.new.room ≡ self.old.room) }
+        ensures moves { IfOk result (λ s. Moves s self.old.levels (waits_at self.old.request (log_of self.old.board) self.old.levels self.old.url) self.old.board self.new.board) }
+    {
+        // Broken until all growths are made.
+        let stage = mem::replace(&mut self.stage, Stage::Broken);
+        let setting = Setting {
+            alloc: self.alloc,
+            request: &self.request,
+            board: &self.board,
+        };
+        match run(&setting, &self.url, self.levels, &mut self.progress, &stage)? {
+            Came::Unread => {
+                let url = self.url.share()?;
+                self.stage = Stage::Unread;
+                Ok(State::Waiting(url))
+            }
+            Came::Waits(level, url) => {
+                self.board
+                    .open(&url, self.levels.saturating_sub(level) + 1)?;
+                self.stage = Stage::Running;
+                Ok(State::Waiting(url))
+            }
+            Came::Done(outcome) => {
+                let outcome = SharedOutcome::new(self.alloc, outcome)?;
+                let told = outcome.share()?;
+                self.progress.machine = idle(self.alloc);
+                self.stage = Stage::Done(outcome);
+                Ok(State::Done(told))
+            }
+        }
+    }
+}
+
+// Tells an outcome once more.
+fn known(outcome: &SharedOutcome) -> Result<State, PageError>
+    ensures told { IfOk result (λ s. told_state s ≡ Done outcome.now) }
+    ensures standing { IfOk result (λ s. standing_after s ≡ Finished outcome.now) }
+    ensures err { IfErr result (λ e. e ≡ PageError.NoMemory) }
+{
+    match outcome.share() {
+        Ok(outcome) => Ok(State::Done(outcome)),
+        Err(NoMemory) => Err(PageError::NoMemory),
+    }
+}
+
+// On from how far the page is.
+fn run(
+    setting: &Setting<'_>,
+    url: &PageUrl,
+    levels: u8,
+    progress: &mut Progress,
+    stage: &Stage,
+) -> Result<Came, NoMemory>
+    requires stage { IsStage setting.now.request.now levels url.now setting.now.board.now progress.old stage.now }
+    requires underway { standing_of stage.now ≡ Underway }
+    ensures { IfOk result (λ came. Comes setting.now.request.now levels url.now setting.now.board.now progress.new came) }
+{
+    match stage {
+        Stage::Unread => begin_and_go_on(setting, url, levels, progress),
+        Stage::Running => go_on(setting, url, levels, progress),
+        Stage::Done(_) => unreachable!(),
+        Stage::Broken => unreachable!(),
+    }
+}

@@ -1,0 +1,264 @@
+//! One step of a page.
+ghost use Rattle.std.specs.Prelude.{◌≡◌, ◌∷◌, ◌+◌, ◌≤◌, OnOk, IfOk, length};
+ghost use Rattle.std.specs.Arc.{arc_value};
+ghost use Rattle.answer_board.specs.Board.{State, answer_at, log_of};
+ghost use Rattle.edge_types.specs.declared.request.Request.{Request};
+ghost use Rattle.edge_types.specs.Pieces.{with_piece};
+ghost use Rattle.plan_compiler.specs.Bodies.{entries};
+ghost use Rattle.plan_compiler.specs.Laws.{skip_of};
+ghost use Rattle.plan_compiler.specs.Plan as spec;
+ghost use Rattle.plan_compiler.specs.Shown.{step_of};
+ghost use Rattle.plan_compiler.specs.Urls.{entries_of};
+ghost use Rattle.plan_machine.specs.Machine.{Went, goes, unwound, moved, handled, without_first, plain_leg, doing};
+ghost use Rattle.plan_runner.specs.Reached.{with_frame, Reaches};
+ghost use Rattle.plan_runner.specs.Shown.{shown_frame, shown_frames, shown_machine, IsPlaced, ArePlaced};
+ghost use Rattle.plan_runner.specs.Targets.{acted, found_at};
+
+use crate::frames::Frame;
+use crate::handlers::Handlers;
+use crate::leg::{Setting, Target, find_target};
+use crate::machine::{Machine, give, go_on, unwind};
+use edge_types::{Answer, NoMemory, PageUrl, SharedBytes};
+use esi_meaning::MAX_LEGS;
+use esi_tree::Parts;
+use esi_vars::substitute;
+use plan_compiler::{Form, Prepared, Step};
+use plan_machine::Handler;
+use std::sync::Arc;
+
+// How a step ends.
+#[derive(Drop)]
+pub(crate) enum Reached {
+    // It was made.
+    Went,
+    // It asks, at this level, a URL whose answer isn't there.
+    Waits(u8, PageUrl),
+    // It is a leg more than a page may try.
+    TooMany,
+    // There is none.
+    End,
+}
+
+// One step of the frame, which stands on this template. Where the step isn't made, the frame is put
+// back as it was.
+pub(crate) fn run(
+    machine: &mut Machine,
+    setting: &Setting<'_>,
+    template: &Prepared,
+    frame: Frame,
+    step: &Step,
+) -> Result<Reached, NoMemory>
+    requires short { frame.at + 1 + skip_of (step_of step.now) ≤ usize.MAX }
+    requires url { template.now.url ≡ (shown_frame setting.now.board.now frame).url }
+    requires inlines { entries_of template.now ≡ entries (shown_frame setting.now.board.now frame).tree }
+    ensures reached { IfOk result (λ reached. Reaches
+        (doing setting.now.request.now (log_of setting.now.board.now) machine.old.legs machine.old.out (moved (shown_frame setting.now.board.now frame) (frame.at + 1)) (shown_frames setting.now.board.now machine.old.frames) (step_of step.now))
+        (with_frame setting.now.board.now frame machine.old) (shown_machine setting.now.board.now machine.new) reached) }
+    ensures placed { OnOk result (IsPlaced setting.now.board.now frame → ArePlaced setting.now.board.now machine.old.frames → ArePlaced setting.now.board.now machine.new.frames) }
+{
+    match step {
+        Step::Text(text) => {
+            let text = text.share()?;
+            give_next(machine, frame, text)?;
+        }
+        Step::Values(parts) => {
+            let text = substitute(setting.alloc, setting.request, parts.as_slice())?;
+            let text = SharedBytes::of(text)?;
+            give_next(machine, frame, text)?;
+        }
+        Step::Test { test, skip: by } => {
+            let by = if test.holds(setting.request) { 0 } else { *by };
+            skip(machine, frame, by)?;
+        }
+        Step::Jump { skip: by } => skip(machine, frame, *by)?,
+        Step::Try { skip: by } => guard(machine, frame, *by)?,
+        Step::EndTry { skip: by } => unguard(machine, frame, *by)?,
+        Step::Leg(source) => return leg(machine, setting, template, frame, source),
+        Step::Fail => fail(machine, frame)?,
+    }
+    Ok(Reached::Went)
+}
+
+// On behind so many steps.
+fn skip(machine: &mut Machine, mut frame: Frame, by: usize) -> Result<(), NoMemory>
+    requires { frame.at + 1 + by ≤ usize.MAX }
+    ensures shown { OnOk result ((board : State) → shown_machine board machine.new ≡ goes machine.old.legs machine.old.out (moved (shown_frame board frame) (frame.at + 1 + by) ∷ shown_frames board machine.old.frames)) }
+    ensures placed { OnOk result ((board : State) → IsPlaced board frame → ArePlaced board machine.old.frames → ArePlaced board machine.new.frames) }
+{
+    frame.at += 1 + by;
+    go_on(machine, frame)?;
+    Ok(())
+}
+
+// Puts a handler on.
+fn guard(machine: &mut Machine, mut frame: Frame, by: usize) -> Result<(), NoMemory>
+    requires { frame.at + 1 + by ≤ usize.MAX }
+    ensures shown { OnOk result ((board : State) → shown_machine board machine.new ≡ goes machine.old.legs machine.old.out
+        (handled (shown_frame board frame) (frame.at + 1) (record { to = frame.at + 1 + by; mark = length machine.old.out } ∷ frame.handlers) ∷ shown_frames board machine.old.frames)) }
+    ensures placed { OnOk result ((board : State) → IsPlaced board frame → ArePlaced board machine.old.frames → ArePlaced board machine.new.frames) }
+{
+    frame.at += 1;
+    frame.handlers.push(Handler {
+        to: frame.at + by,
+        mark: machine.out.mark(),
+    })?;
+    go_on(machine, frame)?;
+    Ok(())
+}
+
+// Takes a handler off.
+fn unguard(machine: &mut Machine, mut frame: Frame, by: usize) -> Result<(), NoMemory>
+    requires { frame.at + 1 + by ≤ usize.MAX }
+    ensures shown { OnOk result ((board : State) → shown_machine board machine.new ≡ goes machine.old.legs machine.old.out
+        (handled (shown_frame board frame) (frame.at + 1 + by) (without_first frame.handlers) ∷ shown_frames board machine.old.frames)) }
+    ensures placed { OnOk result ((board : State) → IsPlaced board frame → ArePlaced board machine.old.frames → ArePlaced board machine.new.frames) }
+{
+    frame.at += 1 + by;
+    match frame.handlers.pop() {
+        Some(_) | None => {}
+    }
+    go_on(machine, frame)?;
+    Ok(())
+}
+
+// A failure in this frame.
+fn fail(machine: &mut Machine, mut frame: Frame) -> Result<(), NoMemory>
+    requires { frame.at + 1 ≤ usize.MAX }
+    ensures shown { OnOk result ((board : State) → shown_machine board machine.new ≡ unwound machine.old.legs machine.old.out (moved (shown_frame board frame) (frame.at + 1) ∷ shown_frames board machine.old.frames)) }
+    ensures placed { OnOk result ((board : State) → IsPlaced board frame → ArePlaced board machine.old.frames → ArePlaced board machine.new.frames) }
+{
+    frame.at += 1;
+    machine.frames.push(frame)?;
+    unwind(machine)?;
+    Ok(())
+}
+
+// A frame within this one.
+fn open(machine: &mut Machine, mut frame: Frame, inner: Frame) -> Result<(), NoMemory>
+    requires { frame.at + 1 ≤ usize.MAX }
+    ensures shown { OnOk result ((board : State) → shown_machine board machine.new ≡ goes machine.old.legs machine.old.out (shown_frame board inner ∷ moved (shown_frame board frame) (frame.at + 1) ∷ shown_frames board machine.old.frames)) }
+    ensures placed { OnOk result ((board : State) → IsPlaced board inner → IsPlaced board frame → ArePlaced board machine.old.frames → ArePlaced board machine.new.frames) }
+{
+    frame.at += 1;
+    machine.frames.push(frame)?;
+    go_on(machine, inner)?;
+    Ok(())
+}
+
+// Gives this text out, and goes on behind the step.
+fn give_next(machine: &mut Machine, mut frame: Frame, text: SharedBytes) -> Result<(), NoMemory>
+    requires { frame.at + 1 ≤ usize.MAX }
+    ensures shown { OnOk result ((board : State) → shown_machine board machine.new ≡ goes machine.old.legs (with_piece machine.old.out text) (moved (shown_frame board frame) (frame.at + 1) ∷ shown_frames board machine.old.frames)) }
+    ensures placed { OnOk result ((board : State) → IsPlaced board frame → ArePlaced board machine.old.frames → ArePlaced board machine.new.frames) }
+{
+    frame.at += 1;
+    give(machine, frame, text)?;
+    Ok(())
+}
+
+// An answer that isn't processed: its body as it stands, where the fetch succeeded.
+fn give_plain(machine: &mut Machine, frame: Frame, answer: &Arc<Answer>) -> Result<(), NoMemory>
+    requires { frame.at + 1 ≤ usize.MAX }
+    ensures shown { OnOk result ((board : State) (r : Request) → shown_machine board machine.new ≡ plain_leg r (log_of board) machine.old.legs machine.old.out (moved (shown_frame board frame) (frame.at + 1) ∷ shown_frames board machine.old.frames) (arc_value answer.now).reply) }
+    ensures placed { OnOk result ((board : State) → IsPlaced board frame → ArePlaced board machine.old.frames → ArePlaced board machine.new.frames) }
+{
+    if !answer.succeeded() {
+        fail(machine, frame)?;
+        return Ok(());
+    }
+    let body = answer.share_body()?;
+    give_next(machine, frame, body)?;
+    Ok(())
+}
+
+// What the answer in the slot of this number comes to.
+fn enter(
+    machine: &mut Machine,
+    setting: &Setting<'_>,
+    frame: Frame,
+    number: usize,
+) -> Result<(), NoMemory>
+    requires { frame.at + 1 ≤ usize.MAX }
+    ensures shown { OnOk result (acted setting.now.request.now (log_of setting.now.board.now) machine.old.legs machine.old.out
+        (moved (shown_frame setting.now.board.now frame) (frame.at + 1)) (shown_frames setting.now.board.now machine.old.frames) (found_at (answer_at setting.now.board.now.slots number))
+        ≡ Went (shown_machine setting.now.board.now machine.new)) }
+    ensures placed { OnOk result (IsPlaced setting.now.board.now frame → ArePlaced setting.now.board.now machine.old.frames → ArePlaced setting.now.board.now machine.new.frames) }
+{
+    let Some(prepared) = setting.board.prepared(number) else {
+        fail(machine, frame)?;
+        return Ok(());
+    };
+    match prepared.form() {
+        Form::Plain => {
+            give_plain(machine, frame, prepared.answer())?;
+            Ok(())
+        }
+        Form::BadAt(_) => {
+            fail(machine, frame)?;
+            Ok(())
+        }
+        Form::Planned(plan) => {
+            let inner = Frame {
+                slot: number,
+                at: 0,
+                end: plan.len(),
+                level: frame.level.saturating_sub(1),
+                handlers: Handlers::new(setting.alloc),
+            };
+            open(machine, frame, inner)?;
+            Ok(())
+        }
+    }
+}
+
+// A leg.
+#[tactic(auto, using(crate::proofs::Legs::leg_many))]
+fn leg(
+    machine: &mut Machine,
+    setting: &Setting<'_>,
+    template: &Prepared,
+    frame: Frame,
+    source: &Parts,
+) -> Result<Reached, NoMemory>
+    requires short { frame.at + 1 ≤ usize.MAX }
+    requires url { template.now.url ≡ (shown_frame setting.now.board.now frame).url }
+    requires inlines { entries_of template.now ≡ entries (shown_frame setting.now.board.now frame).tree }
+    ensures reached { IfOk result (λ reached. Reaches
+        (doing setting.now.request.now (log_of setting.now.board.now) machine.old.legs machine.old.out (moved (shown_frame setting.now.board.now frame) (frame.at + 1)) (shown_frames setting.now.board.now machine.old.frames) (spec.Leg source.now))
+        (with_frame setting.now.board.now frame machine.old) (shown_machine setting.now.board.now machine.new) reached) }
+    ensures placed { OnOk result (IsPlaced setting.now.board.now frame → ArePlaced setting.now.board.now machine.old.frames → ArePlaced setting.now.board.now machine.new.frames) }
+{
+    if machine.legs >= MAX_LEGS {
+        machine.frames.push(frame)?;
+        return Ok(Reached::TooMany);
+    }
+    match find_target(setting, template, frame.level, source)? {
+        Target::Missing(url) => {
+            let level = frame.level;
+            machine.frames.push(frame)?;
+            Ok(Reached::Waits(level, url))
+        }
+        Target::Nowhere => {
+            machine.legs += 1;
+            fail(machine, frame)?;
+            Ok(Reached::Went)
+        }
+        Target::Inside(from, to) => {
+            machine.legs += 1;
+            let inner = Frame {
+                slot: frame.slot,
+                at: from,
+                end: to,
+                level: frame.level.saturating_sub(1),
+                handlers: Handlers::new(setting.alloc),
+            };
+            open(machine, frame, inner)?;
+            Ok(Reached::Went)
+        }
+        Target::Found(number) => {
+            machine.legs += 1;
+            enter(machine, setting, frame, number)?;
+            Ok(Reached::Went)
+        }
+    }
+}
