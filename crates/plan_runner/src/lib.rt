@@ -13,7 +13,5 @@ mod machine;
 mod outcome;
 mod page;
 mod step;
-#[cfg(test)]
-mod tests;
 
 pub use page::{MAX_AHEAD, Page, PageError, PostFault, State};
