@@ -49,40 +49,55 @@ fn answer(
     Ok(Arc::new(alloc, got.expect(rt, "an answer"))?)
 }
 
-#[test]
-fn urls_are_parsed_and_resolved(rt: HostRuntime) -> Result<(), Fail> {
-    let alloc = rt.alloc();
-    let parsed: [(&str, Option<&str>); 9] = [
-        ("http://A.test:80/a/../p#f", Some("http://a.test/p")),
-        ("http://a.test", Some("http://a.test/")),
-        (" http://a.test/p\n", Some("http://a.test/p")),
-        ("http://@a.test/", Some("http://a.test/")),
-        ("http://:@a.test/", Some("http://a.test/")),
-        ("http://:p@a.test/", None),
-        ("http://u@a.test/", None),
-        ("https://a.test/", None),
-        ("/p", None),
-    ];
-    for (text, want) in parsed {
-        let found = PageUrl::parse(alloc, text.as_bytes())?;
-        let bytes = found.as_ref().map(|u| u.as_bytes());
-        assert_eq!(rt; bytes, want.map(|w| w.as_bytes()), "parse {text:?}");
-    }
-    let base = url(&rt, alloc, "http://a.test/d/p")?;
-    let resolved: [(&str, Option<&str>); 6] = [
-        ("x?y", Some("http://a.test/d/x?y")),
-        ("", Some("http://a.test/d/p")),
-        ("//b.test/q", Some("http://b.test/q")),
-        ("/x#f", Some("http://a.test/x")),
-        ("https://b.test/", None),
-        ("http://u:p@b.test/", None),
-    ];
-    for (text, want) in resolved {
-        let found = base.resolve(alloc, text.as_bytes())?;
-        let bytes = found.as_ref().map(|u| u.as_bytes());
-        assert_eq!(rt; bytes, want.map(|w| w.as_bytes()), "resolve {text:?}");
+// Rows of a text and, behind ` => `, its URL, or nothing where it has none.
+fn rows_hold(
+    rt: &impl Abort,
+    alloc: Global,
+    base: Option<&PageUrl>,
+    rows: &str,
+) -> Result<(), NoMemory> {
+    for row in rows.lines() {
+        let (text, wanted) = row.split_once(" =>").unwrap_or((row, " no arrow"));
+        let found = match base {
+            Some(base) => base.resolve(alloc, text.as_bytes())?,
+            None => PageUrl::parse(alloc, text.as_bytes())?,
+        };
+        let bytes = found.as_ref().map_or(b"".as_slice(), |it| it.as_bytes());
+        assert_eq!(rt; bytes, wanted.trim_start().as_bytes(), "{text}");
     }
     Ok(())
+}
+
+const PARSED: &str = "\
+http://A.test:80/a/../p#f => http://a.test/p
+http://a.test => http://a.test/
+ http://a.test/p\t => http://a.test/p
+http://@a.test/ => http://a.test/
+http://:@a.test/ => http://a.test/
+http://:p@a.test/ =>
+http://u@a.test/ =>
+https://a.test/ =>
+/p =>
+";
+
+#[test]
+fn urls_are_parsed(rt: HostRuntime) -> Result<(), Fail> {
+    Ok(rows_hold(&rt, rt.alloc(), None, PARSED)?)
+}
+
+const RESOLVED: &str = "\
+x?y => http://a.test/d/x?y
+ => http://a.test/d/p
+//b.test/q => http://b.test/q
+/x#f => http://a.test/x
+https://b.test/ =>
+http://u:p@b.test/ =>
+";
+
+#[test]
+fn urls_are_resolved(rt: HostRuntime) -> Result<(), Fail> {
+    let base = url(&rt, rt.alloc(), "http://a.test/d/p")?;
+    Ok(rows_hold(&rt, rt.alloc(), Some(&base), RESOLVED)?)
 }
 
 // The text with this byte after it, up to this length.
@@ -195,27 +210,41 @@ fn answers_have_limits(rt: HostRuntime) -> Result<(), Fail> {
     Ok(())
 }
 
+// What an answer tells, in words.
+fn told(answer: &Answer) -> (bool, bool, &[u8], &[u8]) {
+    (
+        answer.succeeded(),
+        answer.processed(),
+        answer.url().as_bytes(),
+        answer.body(),
+    )
+}
+
 #[test]
 fn answers_tell_what_came(rt: HostRuntime) -> Result<(), Fail> {
-    let alloc = rt.alloc();
-    let plain = Control::default();
-    let esi = Control { esi: true, ..plain };
-    for (status, control, succeeded, processed) in [
-        (200, plain, true, false),
-        (299, esi, true, true),
-        (300, esi, false, false),
-        (404, plain, false, false),
+    for (status, esi, succeeded, processed) in [
+        (200, false, true, false),
+        (299, true, true, true),
+        (300, true, false, false),
+        (404, false, false, false),
     ] {
-        let found = answer(&rt, alloc, "http://a.test/x", status, control, "1")?;
-        assert_eq!(rt; found.succeeded(), succeeded, "{status}");
-        assert_eq!(rt; found.processed(), processed, "{status}");
-        assert_eq!(rt; found.url().as_bytes(), b"http://a.test/x".as_slice());
-        assert_eq!(rt; found.body(), b"1".as_slice());
-        assert_eq!(rt; found.share_body()?.as_bytes(), b"1".as_slice());
+        let control = Control {
+            esi,
+            ..Control::default()
+        };
+        let found = answer(&rt, rt.alloc(), "http://a.test/x", status, control, "1")?;
+        let (at, body) = (b"http://a.test/x".as_slice(), b"1".as_slice());
+        assert_eq!(rt; told(&found), (succeeded, processed, at, body), "{status}");
     }
-    let failed = Answer::failed(url(&rt, alloc, "http://a.test/x")?);
-    assert!(rt; !failed.succeeded() && !failed.processed());
-    assert!(rt; matches!(failed.reply(), Reply::Failed) && failed.body().is_empty());
+    Ok(())
+}
+
+#[test]
+fn failed_answers_have_no_body(rt: HostRuntime) -> Result<(), Fail> {
+    let failed = Answer::failed(url(&rt, rt.alloc(), "http://a.test/x")?);
+    let (at, body) = (b"http://a.test/x".as_slice(), b"".as_slice());
+    assert_eq!(rt; told(&failed), (false, false, at, body));
+    assert!(rt; matches!(failed.reply(), Reply::Failed));
     assert!(rt; failed.share_body()?.is_empty());
     Ok(())
 }
@@ -224,28 +253,54 @@ fn answers_tell_what_came(rt: HostRuntime) -> Result<(), Fail> {
 fn a_table_takes_each_url_once(rt: HostRuntime) -> Result<(), Fail> {
     let alloc = rt.alloc();
     let mut table = Table::new(alloc);
-    for (at, want) in [
-        ("http://a.test/2", None),
-        ("http://a.test/1", None),
-        ("http://A.test/2#f", Some(InsertFault::Twice)),
-        ("http://a.test/3", None),
+    for (at, wanted) in [
+        ("http://a.test/2", true),
+        ("http://a.test/1", true),
+        ("http://A.test/2#f", false),
+        ("http://a.test/3", true),
     ] {
-        let fault = match table.insert(answer(&rt, alloc, at, 200, Control::default(), at)?) {
-            Ok(()) => None,
-            Err((fault, _back)) => Some(fault),
-        };
-        assert_eq!(rt; fault, want, "{at}");
+        assert_eq!(rt; is_taken(&rt, alloc, &mut table, at)?, wanted, "{at}");
     }
-    for (at, want) in [
-        ("http://a.test/1", Some("http://a.test/1")),
-        ("http://a.test/2", Some("http://a.test/2")),
-        ("http://a.test/4", None),
-    ] {
-        let asked = url(&rt, alloc, at)?;
-        let body = table.get(&asked).map(|a| a.body());
-        assert_eq!(rt; body, want.map(|w| w.as_bytes()), "{at}");
+    let first = body_at(&rt, alloc, &table, "http://a.test/1")?;
+    assert_eq!(rt; first, Some(b"http://a.test/1".as_slice()));
+    assert_eq!(rt; body_at(&rt, alloc, &table, "http://a.test/4")?, None);
+    Ok(())
+}
+
+#[test]
+fn an_answer_of_a_known_url_is_given_back(rt: HostRuntime) -> Result<(), Fail> {
+    let mut table = Table::new(rt.alloc());
+    assert!(rt; is_taken(&rt, rt.alloc(), &mut table, "http://a.test/2")?);
+    let again = answer(
+        &rt,
+        rt.alloc(),
+        "http://a.test/2",
+        404,
+        Control::default(),
+        "",
+    )?;
+    match table.insert(again) {
+        Ok(()) => panic!(rt; "a URL twice"),
+        Err((fault, _back)) => assert_eq!(rt; fault, InsertFault::Twice),
     }
     Ok(())
+}
+
+// Whether a table takes an answer of this URL, which is its body too.
+fn is_taken(rt: &impl Abort, alloc: Global, table: &mut Table, at: &str) -> Result<bool, NoMemory> {
+    let given = answer(rt, alloc, at, 200, Control::default(), at)?;
+    Ok(table.insert(given).is_ok())
+}
+
+// The body of the answer that a table has for this URL.
+fn body_at<'a>(
+    rt: &impl Abort,
+    alloc: Global,
+    table: &'a Table,
+    at: &str,
+) -> Result<Option<&'a [u8]>, NoMemory> {
+    let asked = url(rt, alloc, at)?;
+    Ok(table.get(&asked).map(|it| it.body()))
 }
 
 #[test]
@@ -258,58 +313,62 @@ fn urls_of_one_fingerprint_keep_apart(rt: HostRuntime) -> Result<(), Fail> {
         "http://a.test/000000000000038444PdcYU2Hd33333333",
     ];
     for at in urls {
-        let asked = url(&rt, alloc, at)?;
-        assert!(rt; table.get(&asked).is_none(), "{at}");
-        assert!(rt;
-            table
-                .insert(answer(&rt, alloc, at, 200, Control::default(), at)?)
-                .is_ok()
-        );
+        assert_eq!(rt; body_at(&rt, alloc, &table, at)?, None, "{at}");
+        assert!(rt; is_taken(&rt, alloc, &mut table, at)?, "{at}");
     }
     for at in urls {
-        let asked = url(&rt, alloc, at)?;
-        let body = table.get(&asked).map(|a| a.body());
-        assert_eq!(rt; body, Some(at.as_bytes()), "{at}");
-        assert!(rt;
-            table
-                .insert(answer(&rt, alloc, at, 200, Control::default(), at)?)
-                .is_err(),
-            "{at}"
-        );
+        assert_eq!(rt; body_at(&rt, alloc, &table, at)?, Some(at.as_bytes()));
+        assert!(rt; !is_taken(&rt, alloc, &mut table, at)?, "{at}");
     }
     Ok(())
 }
 
+// The pieces of a body, with a bar behind each.
+fn pieces(alloc: Global, body: &PageBody) -> Result<Vec<u8>, NoMemory> {
+    let mut line = Vec::new(alloc);
+    for i in 0..body.mark() {
+        line.extend_from_slice(body.piece(i).unwrap_or(&[]))?;
+        line.push(b'|')?;
+    }
+    Ok(line)
+}
+
+// Puts one word of a text into a body, and an empty part behind it.
+fn push_word(
+    rt: &impl Abort,
+    body: &mut PageBody,
+    text: &SharedBytes,
+    from: usize,
+    to: usize,
+) -> Result<(), NoMemory> {
+    body.push(part(rt, text, from, to)?)?;
+    body.push(part(rt, text, to, to)?)
+}
+
 #[test]
 fn a_body_is_cut_back_to_its_mark(rt: HostRuntime) -> Result<(), Fail> {
-    let alloc = rt.alloc();
-    let text = shared(alloc, "a fragment here")?;
-    let mut body = PageBody::new(alloc);
+    let text = shared(rt.alloc(), "A fragment here")?;
+    let mut body = PageBody::new(rt.alloc());
     assert!(rt; body.is_empty());
-    body.push(shared(alloc, "A")?)?;
-    body.push(SharedBytes::new())?;
-    body.push(part(&rt, &text, 2, 10)?)?;
-    body.push(part(&rt, &text, 10, 10)?)?;
+    push_word(&rt, &mut body, &text, 0, 1)?;
+    push_word(&rt, &mut body, &text, 2, 10)?;
     let mark = body.mark();
-    body.push(shared(alloc, "lost")?)?;
-    body.push(text)?;
+    push_word(&rt, &mut body, &text, 11, 15)?;
     body.cut(mark);
-    body.push(shared(alloc, "B")?)?;
+    push_word(&rt, &mut body, &text, 5, 6)?;
+    let found = pieces(rt.alloc(), &body)?;
+    assert_eq!(rt; found.as_slice(), b"A|fragment|g|".as_slice());
     assert_eq!(rt; body.len(), 10);
-    for (i, want) in [
-        (0, Some("A")),
-        (1, Some("fragment")),
-        (2, Some("B")),
-        (3, None),
-    ] {
-        let want = want.map(|w| w.as_bytes());
-        assert_eq!(rt; body.piece(i), want, "piece {i}");
-        let second = body.shared_piece(i)?;
-        assert_eq!(rt;
-            second.as_ref().map(|p| p.as_bytes()),
-            want,
-            "piece {i}, shared"
-        );
+    Ok(())
+}
+
+#[test]
+fn pieces_are_shared_by_number(rt: HostRuntime) -> Result<(), Fail> {
+    let mut body = PageBody::new(rt.alloc());
+    body.push(shared(rt.alloc(), "one")?)?;
+    for (number, wanted) in [(0, Some(b"one".as_slice())), (1, None)] {
+        let piece = body.shared_piece(number)?;
+        assert_eq!(rt; piece.as_ref().map(|it| it.as_bytes()), wanted);
     }
     Ok(())
 }
@@ -345,38 +404,61 @@ fn halves_stand_round_the_first_mark(rt: HostRuntime) -> Result<(), Fail> {
     Ok(())
 }
 
-#[test]
-fn copies_and_second_owners_are_equal(rt: HostRuntime) -> Result<(), Fail> {
-    let alloc = rt.alloc();
-    let request = Request {
+fn request(alloc: Global) -> Result<Request, NoMemory> {
+    Ok(Request {
         host: octets(alloc, "a.test")?,
         cookie: octets(alloc, "a=1")?,
         referer: octets(alloc, "http://b.test/")?,
         user_agent: octets(alloc, "Mozilla/4.0")?,
         accept_language: octets(alloc, "en")?,
         query: octets(alloc, "q=1")?,
-    };
-    let copy = request.copy(alloc)?;
-    for (found, want) in [
-        (&copy.host, "a.test"),
-        (&copy.cookie, "a=1"),
-        (&copy.referer, "http://b.test/"),
-        (&copy.user_agent, "Mozilla/4.0"),
-        (&copy.accept_language, "en"),
-        (&copy.query, "q=1"),
+    })
+}
+
+// The fields in one line, with a bar behind each.
+fn fields(alloc: Global, request: &Request) -> Result<Vec<u8>, NoMemory> {
+    let mut line = Vec::new(alloc);
+    for field in [
+        &request.host,
+        &request.cookie,
+        &request.referer,
+        &request.user_agent,
+        &request.accept_language,
+        &request.query,
     ] {
-        assert_eq!(rt; found.as_bytes(), want.as_bytes());
+        line.extend_from_slice(field.as_bytes())?;
+        line.push(b'|')?;
     }
-    let empty = Request::empty(alloc);
-    assert!(rt; empty.host.as_bytes().is_empty() && empty.query.as_bytes().is_empty());
-    let owner = SharedAnswer::of(answer(
+    Ok(line)
+}
+
+#[test]
+fn requests_are_copied(rt: HostRuntime) -> Result<(), Fail> {
+    let copy = request(rt.alloc())?.copy(rt.alloc())?;
+    let found = fields(rt.alloc(), &copy)?;
+    let wanted = "a.test|a=1|http://b.test/|Mozilla/4.0|en|q=1|";
+    assert_eq!(rt; found.as_slice(), wanted.as_bytes());
+    Ok(())
+}
+
+#[test]
+fn an_empty_request_has_no_fields(rt: HostRuntime) -> Result<(), Fail> {
+    let found = fields(rt.alloc(), &Request::empty(rt.alloc()))?;
+    assert_eq!(rt; found.as_slice(), b"||||||".as_slice());
+    Ok(())
+}
+
+#[test]
+fn second_owners_have_the_same_answer(rt: HostRuntime) -> Result<(), Fail> {
+    let given = answer(
         &rt,
-        alloc,
+        rt.alloc(),
         "http://a.test/x",
         204,
         Control::default(),
         "",
-    )?);
+    )?;
+    let owner = SharedAnswer::of(given);
     let second = owner.share()?;
     let want = b"http://a.test/x".as_slice();
     assert_eq!(rt; second.get().url().as_bytes(), want);

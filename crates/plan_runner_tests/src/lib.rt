@@ -1,0 +1,5 @@
+//! The tests of `plan_runner`.
+#![tactic(auto)]
+
+#[cfg(test)]
+mod tests;
