@@ -35,7 +35,7 @@ pub enum Operand {
 }
 
 /// A test: conjunctions with bars between them.
-#[cycle(test)]
+#[cycle(expression)]
 #[derive(Drop)]
 pub struct Expr {
     /// The first conjunction.
@@ -54,7 +54,7 @@ impl Expr {
 }
 
 /// Negations with `&` between them.
-#[cycle(test)]
+#[cycle(expression)]
 #[derive(Drop)]
 pub struct Conjunction {
     /// The first negation.
@@ -73,7 +73,7 @@ impl Conjunction {
 }
 
 /// A part of a test that `&` and the bar don't cut.
-#[cycle(test)]
+#[cycle(expression)]
 #[derive(Drop)]
 pub enum Negation {
     /// `!`

@@ -7,8 +7,6 @@ pub mod laws;
 mod number;
 mod part;
 pub mod reading;
-#[cfg(test)]
-mod tests;
 pub mod truth;
 
 pub use expr::{Comparison, Conjunction, Expr, Negation, Operand};
