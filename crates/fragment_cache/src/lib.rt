@@ -13,6 +13,3 @@ mod times;
 pub use flights::{Flight, MAX_FLIGHTS, Picked};
 pub use kept::MAX_PICKS;
 pub use shard::{Begun, MAX_CAPACITY, Shard};
-
-#[cfg(test)]
-mod tests;

@@ -1,5 +1,0 @@
-//! The tests of `edge_types`.
-#![tactic(auto)]
-
-#[cfg(test)]
-mod tests;

@@ -1,5 +1,0 @@
-//! The tests of `esi_expr`.
-#![tactic(auto)]
-
-#[cfg(test)]
-mod tests;

@@ -1,5 +1,0 @@
-//! The tests of `esi_scanner`.
-#![tactic(auto)]
-
-#[cfg(test)]
-mod tests;

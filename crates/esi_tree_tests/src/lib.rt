@@ -1,5 +1,0 @@
-//! The tests of `esi_tree`.
-#![tactic(auto)]
-
-#[cfg(test)]
-mod tests;

@@ -1,0 +1,5 @@
+//! The tests of `fragment_cache`.
+#![tactic(auto)]
+
+#[cfg(test)]
+mod tests;

@@ -1,0 +1,404 @@
+//! Tables of calls on a new shard and what each answers.
+ghost use Rattle.std.specs.Prelude.{◌≤◌};
+
+use edge_types::{Answer, Control, Octets, PageUrl, SharedBytes};
+use fragment_cache::{Begun, Flight, Picked, Shard};
+use std::alloc::Global;
+use std::process::Abort;
+use std::sync::Arc;
+use std::test::Fail;
+
+const A: &str = "http://a.test/a";
+
+const B: &str = "http://a.test/b";
+
+const C: &str = "http://a.test/c";
+
+// What an origin told: a body of one byte under a status and a control.
+#[derive(Clone, Copy, Debug, Drop, PartialEq, Eq)]
+struct Told {
+    status: u16,
+    no_store: bool,
+    max_age: Option<u32>,
+    extension: u32,
+    body: u8,
+}
+
+const fn answered(status: u16, max_age: u32, extension: u32, body: u8) -> Told {
+    Told {
+        status,
+        no_store: false,
+        max_age: Some(max_age),
+        extension,
+        body,
+    }
+}
+
+#[derive(Clone, Copy, Debug, Drop, PartialEq, Eq)]
+enum Call {
+    Begin(&'static str, u64),
+    // The flight of this number lands with what was told, or with the failed answer.
+    Land(u64, Option<Told>, u64),
+    Pick(u64),
+}
+
+// What a call answered, with the body of an answer; none where nothing could be had.
+#[derive(Clone, Copy, Debug, Drop, PartialEq, Eq)]
+enum Says {
+    Hit(Option<u8>),
+    Join(u64),
+    Lead(u64),
+    Bypass,
+    Gives(Option<u8>),
+    Here(Option<u8>),
+    Flying,
+    Unknown,
+    // No leader holds a flight of this number.
+    NoFlight,
+}
+
+fn url(alloc: Global, text: &str) -> Result<PageUrl, Fail> {
+    match PageUrl::parse(alloc, text.as_bytes())? {
+        Some(url) => Ok(url),
+        None => Err("no URL")?,
+    }
+}
+
+fn answer(alloc: Global, url: PageUrl, told: Told) -> Result<Arc<Answer>, Fail> {
+    let control = Control {
+        no_store: told.no_store,
+        max_age: told.max_age,
+        extension: told.extension,
+        ..Control::default()
+    };
+    let content_type = Octets::empty(alloc);
+    let body = SharedBytes::of([told.body].to_vec(alloc)?)?;
+    match Answer::got(url, told.status, content_type, control, body) {
+        Some(answer) => Ok(Arc::new(alloc, answer)?),
+        None => Err("no answer")?,
+    }
+}
+
+fn body(answer: &Answer) -> Option<u8> {
+    answer.body().first().copied()
+}
+
+// A flight that a leader holds, by its number, with its ready made failed answer.
+#[derive(Drop)]
+struct Held {
+    number: u64,
+    flight: Flight,
+    ready: Arc<Answer>,
+}
+
+// A shard, what its leaders hold, and how many of them there were: a flight is told by how many left
+// before it, which is what a join answers.
+#[derive(Drop)]
+struct Desk {
+    shard: Shard,
+    held: Vec<Held>,
+    led: u64,
+}
+
+impl Desk {
+    fn call(&mut self, rt: &impl Abort, alloc: Global, call: Call) -> Result<Says, Fail> {
+        match call {
+            Call::Begin(text, now) => {
+                let url = url(alloc, text)?;
+                self.begin(&url, now)
+            }
+            Call::Land(number, told, now) => self.land(rt, alloc, number, told, now),
+            Call::Pick(number) => Ok(match self.shard.pick(number) {
+                Picked::Here(answer) => Says::Here(body(&answer)),
+                Picked::Flying => Says::Flying,
+                Picked::Unknown => Says::Unknown,
+            }),
+        }
+    }
+
+    fn begin(&mut self, url: &PageUrl, now: u64) -> Result<Says, Fail> {
+        match self.shard.begin(url, now) {
+            Begun::Hit(answer) => Ok(Says::Hit(body(&answer))),
+            Begun::Join(number) => Ok(Says::Join(number)),
+            Begun::Lead(flight, ready) => {
+                let number = self.led;
+                self.held.push(Held {
+                    number,
+                    flight,
+                    ready,
+                })?;
+                self.led = number.wrapping_add(1);
+                Ok(Says::Lead(number))
+            }
+            Begun::Bypass => Ok(Says::Bypass),
+        }
+    }
+
+    fn land(
+        &mut self,
+        rt: &impl Abort,
+        alloc: Global,
+        number: u64,
+        told: Option<Told>,
+        now: u64,
+    ) -> Result<Says, Fail> {
+        let Some(at) = self.held.iter().position(|held| held.number == number) else {
+            return Ok(Says::NoFlight);
+        };
+        let Held { flight, ready, .. } = self.held.swap_remove(at);
+        let answer = match told {
+            Some(told) => answer(alloc, flight.url().share()?, told)?,
+            None => ready,
+        };
+        assert!(rt; *answer.url() == *flight.url());
+        Ok(Says::Gives(body(&self.shard.land(flight, answer, now))))
+    }
+}
+
+fn new_desk(alloc: Global, capacity: usize) -> Result<Desk, Fail>
+    requires from { 1 ≤ capacity }
+    requires to { capacity ≤ 1024 }
+{
+    Ok(Desk {
+        shard: Shard::new(alloc, capacity)?,
+        held: Vec::new(alloc),
+        led: 0,
+    })
+}
+
+// Makes the calls of the rows, and compares what each answers.
+fn play(
+    rt: &impl Abort,
+    alloc: Global,
+    name: &str,
+    capacity: usize,
+    rows: &[(Call, Says)],
+) -> Result<(), Fail>
+    requires from { 1 ≤ capacity }
+    requires to { capacity ≤ 1024 }
+{
+    let mut desk = new_desk(alloc, capacity)?;
+    for (at, (call, says)) in rows.iter().enumerate() {
+        let answered = desk.call(rt, alloc, *call)?;
+        assert_eq!(rt; answered, *says, "{name}, call {at}: {call:?}");
+    }
+    Ok(())
+}
+
+use Call::{Begin, Land, Pick};
+use Says::{Flying, Gives, Here, Hit, Join, Lead, Unknown};
+
+#[test]
+fn one_fetch_serves_all(rt: HostRuntime) -> Result<(), Fail> {
+    let fresh = Some(answered(200, 10, 0, 1));
+    let worked = [
+        (Begin(A, 100), Lead(0)),
+        (Begin(A, 100), Join(0)),
+        (Pick(0), Flying),
+        (Land(0, fresh, 100), Gives(Some(1))),
+        (Pick(0), Here(Some(1))),
+        (Pick(0), Unknown),
+        (Begin(A, 109), Hit(Some(1))),
+        (Begin(A, 110), Lead(1)),
+    ];
+    let failed = [
+        (Begin(A, 5), Lead(0)),
+        (Begin(A, 5), Join(0)),
+        (Land(0, None, 5), Gives(None)),
+        (Pick(0), Here(None)),
+    ];
+    // Each join has its pick-up, and numbers go on.
+    let shared = [
+        (Begin(A, 5), Lead(0)),
+        (Begin(B, 5), Lead(1)),
+        (Begin(A, 5), Join(0)),
+        (Begin(A, 5), Join(0)),
+        (Begin(B, 5), Join(1)),
+        (Land(0, Some(answered(404, 10, 0, 4)), 5), Gives(Some(4))),
+        (Pick(0), Here(Some(4))),
+        (Pick(1), Flying),
+        (Begin(A, 5), Lead(2)),
+        (Pick(0), Here(Some(4))),
+        (Pick(0), Unknown),
+    ];
+    let alloc = rt.alloc();
+    play(&rt, alloc, "worked example", 2, &worked)?;
+    play(&rt, alloc, "a failed answer", 2, &failed)?;
+    play(&rt, alloc, "several joins", 2, &shared)?;
+    play(&rt, alloc, "no flight", 1, &[(Pick(7), Unknown)])
+}
+
+#[test]
+fn entries_go_by_their_last_use(rt: HostRuntime) -> Result<(), Fail> {
+    let fresh = |body: u8| Some(answered(200, 10, 0, body));
+    let dropped = [
+        (Begin(A, 5), Lead(0)),
+        (Land(0, fresh(1), 5), Gives(Some(1))),
+        (Begin(B, 6), Lead(1)),
+        (Land(1, fresh(2), 6), Gives(Some(2))),
+        (Begin(A, 7), Lead(2)),
+    ];
+    let hits_between = [
+        (Begin(A, 5), Lead(0)),
+        (Land(0, fresh(1), 5), Gives(Some(1))),
+        (Begin(B, 5), Lead(1)),
+        (Land(1, fresh(2), 5), Gives(Some(2))),
+        (Begin(A, 6), Hit(Some(1))),
+        (Begin(C, 6), Lead(2)),
+        (Land(2, fresh(3), 6), Gives(Some(3))),
+        (Begin(A, 7), Hit(Some(1))),
+        (Begin(B, 7), Lead(3)),
+    ];
+    // An expired entry is not brought to the front by a look at it.
+    let expired = [
+        (Begin(A, 5), Lead(0)),
+        (Land(0, fresh(1), 5), Gives(Some(1))),
+        (Begin(B, 9), Lead(1)),
+        (Land(1, fresh(2), 9), Gives(Some(2))),
+        (Begin(A, 15), Lead(2)),
+        (Begin(C, 15), Lead(3)),
+        (Land(3, fresh(3), 15), Gives(Some(3))),
+        (Begin(B, 16), Hit(Some(2))),
+        (Begin(A, 6), Join(2)),
+    ];
+    let alloc = rt.alloc();
+    play(&rt, alloc, "the last one is dropped", 1, &dropped)?;
+    play(&rt, alloc, "hits between", 2, &hits_between)?;
+    play(&rt, alloc, "an expired entry", 2, &expired)
+}
+
+// What lands on an entry that has expired; the clock then goes back, to tell whether it is there.
+fn landing_on(
+    rt: &impl Abort,
+    alloc: Global,
+    name: &str,
+    lands: Told,
+    after: Says,
+) -> Result<(), Fail> {
+    play(
+        rt,
+        alloc,
+        name,
+        2,
+        &[
+            (Begin(A, 100), Lead(0)),
+            (Land(0, Some(answered(200, 10, 0, 1)), 100), Gives(Some(1))),
+            (Begin(A, 110), Lead(1)),
+            (Land(1, Some(lands), 110), Gives(Some(lands.body))),
+            (Begin(A, 105), after),
+        ],
+    )
+}
+
+#[test]
+fn what_is_stored(rt: HostRuntime) -> Result<(), Fail> {
+    let no_store = Told {
+        no_store: true,
+        ..answered(200, 10, 0, 2)
+    };
+    let no_age = Told {
+        max_age: None,
+        ..answered(200, 10, 0, 2)
+    };
+    for (name, lands, after) in [
+        ("max-age", answered(299, 1, 0, 2), Hit(Some(2))),
+        ("max-age of 0", answered(200, 0, 9, 2), Lead(2)),
+        ("no max-age", no_age, Lead(2)),
+        ("no-store", no_store, Lead(2)),
+        ("a 300", answered(300, 10, 0, 2), Lead(2)),
+        ("a 404", answered(404, 10, 0, 2), Lead(2)),
+        ("a 500 with no extension", answered(500, 10, 9, 2), Lead(2)),
+    ] {
+        landing_on(&rt, rt.alloc(), name, lands, after)?;
+    }
+    Ok(())
+}
+
+#[test]
+fn a_failing_origin_is_bridged(rt: HostRuntime) -> Result<(), Fail> {
+    let stored = Some(answered(200, 10, 5, 1));
+    let bridged = [
+        (Begin(A, 100), Lead(0)),
+        (Land(0, stored, 100), Gives(Some(1))),
+        (Begin(A, 112), Lead(1)),
+        (Begin(A, 112), Join(1)),
+        (Land(1, None, 113), Gives(Some(1))),
+        (Pick(1), Here(Some(1))),
+        (Begin(A, 114), Lead(2)),
+        (Land(2, None, 115), Gives(None)),
+        (Begin(A, 116), Lead(3)),
+    ];
+    let missing = [
+        (Begin(A, 100), Lead(0)),
+        (Land(0, stored, 100), Gives(Some(1))),
+        (Begin(A, 112), Lead(1)),
+        (Begin(A, 112), Join(1)),
+        (Land(1, Some(answered(404, 10, 5, 4)), 113), Gives(Some(4))),
+        (Pick(1), Here(Some(4))),
+        (Begin(A, 114), Lead(2)),
+        (Land(2, None, 114), Gives(None)),
+    ];
+    let by_status = [
+        (Begin(A, 100), Lead(0)),
+        (Land(0, stored, 100), Gives(Some(1))),
+        (Begin(A, 110), Lead(1)),
+        (Land(1, Some(answered(500, 10, 0, 5)), 110), Gives(Some(1))),
+        (Begin(A, 110), Lead(2)),
+        (Land(2, Some(answered(599, 10, 0, 5)), 114), Gives(Some(1))),
+        (Begin(A, 105), Hit(Some(1))),
+        (Begin(A, 114), Lead(3)),
+        (Land(3, Some(answered(499, 10, 0, 5)), 114), Gives(Some(5))),
+        (Begin(A, 105), Lead(4)),
+    ];
+    let alloc = rt.alloc();
+    play(&rt, alloc, "before its extension ends", 2, &bridged)?;
+    play(&rt, alloc, "an origin that does not fail", 2, &missing)?;
+    play(&rt, alloc, "the status tells", 2, &by_status)
+}
+
+#[test]
+fn the_clock_ends(rt: HostRuntime) -> Result<(), Fail> {
+    let last = u64::MAX;
+    play(
+        &rt,
+        rt.alloc(),
+        "the last second",
+        1,
+        &[
+            (Begin(A, last), Lead(0)),
+            (
+                Land(0, Some(answered(200, 10, 10, 1)), last),
+                Gives(Some(1)),
+            ),
+            (Begin(A, last - 1), Hit(Some(1))),
+            (Begin(A, last), Lead(1)),
+            (Land(1, None, last), Gives(None)),
+        ],
+    )
+}
+
+#[test]
+fn pick_ups_have_a_limit(rt: HostRuntime) -> Result<(), Fail> {
+    let alloc = rt.alloc();
+    let url = url(alloc, A)?;
+    let mut desk = new_desk(alloc, 1)?;
+    assert_eq!(rt; desk.begin(&url, 5)?, Lead(0));
+    for _ in 0..65_535 {
+        assert_eq!(rt; desk.begin(&url, 5)?, Join(0));
+    }
+    assert_eq!(rt; desk.begin(&url, 5)?, Says::Bypass);
+    Ok(())
+}
+
+#[test]
+fn flights_have_a_limit(rt: HostRuntime) -> Result<(), Fail> {
+    let alloc = rt.alloc();
+    let mut desk = new_desk(alloc, 1)?;
+    for number in 0..1024 {
+        let text = format!(in alloc; "http://a.test/{number}")?;
+        assert_eq!(rt; desk.begin(&url(alloc, text.as_str())?, 5)?, Lead(number));
+    }
+    assert_eq!(rt; desk.begin(&url(alloc, A)?, 5)?, Says::Bypass);
+    assert_eq!(rt; desk.begin(&url(alloc, "http://a.test/0")?, 5)?, Join(0));
+    Ok(())
+}

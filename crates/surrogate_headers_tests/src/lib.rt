@@ -1,5 +1,0 @@
-//! The tests of `surrogate_headers`.
-#![tactic(auto)]
-
-#[cfg(test)]
-mod tests;
