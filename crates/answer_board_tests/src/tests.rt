@@ -2,7 +2,9 @@ use answer_board::{Board, FillFault, Receipt, Ticket};
 use edge_types::{Answer, NoMemory, PageUrl};
 use plan_compiler::Prepared;
 use std::alloc::Global;
+use std::fmt::Write;
 use std::process::Abort;
+use std::str;
 use std::sync::Arc;
 use std::test::Fail;
 
@@ -104,48 +106,70 @@ fn with_next(
     }
 }
 
+// The slots, each by its depth and, where it is filled, the path of its answer; then the numbers of the
+// filled ones.
+fn told(alloc: Global, board: &Board) -> Result<String, NoMemory> {
+    let mut line = String::new(alloc);
+    for number in 0..board.len() {
+        push_slot(&mut line, board, number)?;
+    }
+    for number in board.filled() {
+        write!(line, " {number}")?;
+    }
+    Ok(line)
+}
+
+fn push_slot(line: &mut String, board: &Board, number: usize) -> Result<(), NoMemory> {
+    write!(line, "{}", board.depth(number).unwrap_or(0))?;
+    let url = named(board.prepared(number));
+    line.push_str(str::from_utf8(url).unwrap_or("?"))?;
+    line.push_str(";")?;
+    Ok(())
+}
+
+// Opens a slot for a URL, and tells its number, twice.
+fn opened(alloc: Global, board: &mut Board, text: &str, depth: u8) -> Result<String, Fail> {
+    let url = url_of(alloc, text)?;
+    let number = board.open(&url, depth)?;
+    Ok(format!(in alloc; "{number} {}", board.number(&url).unwrap_or(9))?)
+}
+
 #[test]
 fn a_url_is_opened_once(rt: HostRuntime) -> Result<(), Fail> {
     let alloc = rt.alloc();
     let mut board = Board::new(alloc);
-    assert_eq!(rt; board.len(), 0);
-    // The text, its depth, and then: its number, and how many slots there are.
-    for (text, depth, number, slots) in [
-        ("http://a.test/x", 1, 0, 1),
-        ("http://a.test/y", 2, 1, 2),
-        ("http://a.test/x", 3, 0, 2),
-        ("http://A.test:80/./x#f", 4, 0, 2),
+    for (text, depth, wanted) in [
+        ("http://a.test/x", 1, "0 0"),
+        ("http://a.test/y", 2, "1 1"),
+        ("http://a.test/x", 3, "0 0"),
+        ("http://A.test:80/./x#f", 4, "0 0"),
     ] {
-        let url = url_of(alloc, text)?;
-        assert_eq!(rt; board.open(&url, depth)?, number, "{text}");
-        assert_eq!(rt; board.number(&url), Some(number), "{text}");
-        assert_eq!(rt; board.len(), slots, "{text}");
+        let found = opened(alloc, &mut board, text, depth)?;
+        assert_eq!(rt; found.as_str(), wanted, "{text}");
     }
-    assert_eq!(rt; board.number(&url_of(alloc, "http://a.test/z")?), None);
-    for (number, depth) in [(0, Some(1)), (1, Some(2)), (2, None)] {
-        assert_eq!(rt; board.depth(number), depth, "{number}");
-    }
+    let found = told(alloc, &board)?;
+    assert_eq!(rt; found.as_str(), "1;2;");
     Ok(())
+}
+
+// A board with a slot that is filled, and one that is opened behind it.
+fn half_filled(alloc: Global) -> Result<Board, Fail> {
+    let mut board = Board::new(alloc);
+    board.open(&url_of(alloc, "http://a.test/x")?, 1)?;
+    fetch(alloc, &mut board)?;
+    board.open(&url_of(alloc, "http://a.test/x")?, 3)?;
+    board.open(&url_of(alloc, "http://a.test/y")?, 3)?;
+    Ok(board)
 }
 
 #[test]
 fn a_filled_slot_stays(rt: HostRuntime) -> Result<(), Fail> {
     let alloc = rt.alloc();
-    let mut board = Board::new(alloc);
+    let board = half_filled(alloc)?;
+    let found = told(alloc, &board)?;
+    assert_eq!(rt; found.as_str(), "1http://a.test/x;3; 0");
     let url = url_of(alloc, "http://a.test/x")?;
-    board.open(&url, 1)?;
-    assert!(rt; board.prepared(0).is_none());
-    assert!(rt; board.get(&url).is_none());
-    assert_eq!(rt; board.filled().len(), 0);
-    assert_eq!(rt; fetch(alloc, &mut board)?, Some(0));
-    assert_eq!(rt; board.open(&url, 3)?, 0);
-    assert_eq!(rt; board.open(&url_of(alloc, "http://a.test/y")?, 3)?, 1);
-    assert_eq!(rt; named(board.prepared(0)), b"http://a.test/x".as_slice());
     assert_eq!(rt; named(board.get(&url)), b"http://a.test/x".as_slice());
-    assert_eq!(rt; board.depth(0), Some(1));
-    assert!(rt; board.prepared(1).is_none());
-    assert!(rt; board.prepared(2).is_none());
-    assert_eq!(rt; board.filled(), [0].as_slice());
     Ok(())
 }
 
@@ -182,34 +206,34 @@ fn offered(
     })
 }
 
+// What the second board answers to each receipt of the first.
+fn offers(alloc: Global, first: &mut Board, second: &mut Board) -> Result<String, Fail> {
+    let mut line = String::new(alloc);
+    for _ in 0..3 {
+        match offered(alloc, first, second)? {
+            Some((fault, number)) => write!(line, "{fault:?} {}; ", number.unwrap_or(9))?,
+            None => line.push_str("taken; ")?,
+        }
+    }
+    Ok(line)
+}
+
+// In the second board the slot of this number is filled, unclaimed, or of another URL.
 #[test]
 fn receipts_of_another_board(rt: HostRuntime) -> Result<(), Fail> {
     let alloc = rt.alloc();
-    let mut first = board_of(
-        alloc,
-        ["http://a.test/0", "http://a.test/1", "http://a.test/2"],
-    )?;
-    let mut second = board_of(
-        alloc,
-        ["http://a.test/0", "http://a.test/1", "http://a.test/z"],
-    )?;
-    assert_eq!(rt; fetch(alloc, &mut second)?, Some(0));
-    // In the second board the slot of this number is filled, unclaimed, or of another URL.
-    for (number, fault) in [
-        (0, FillFault::Filled),
-        (1, FillFault::NotClaimed),
-        (2, FillFault::Stranger),
-    ] {
-        let told = offered(alloc, &mut first, &mut second)?;
-        assert_eq!(rt; told, Some((fault, Some(number))));
-        assert_eq!(rt; second.len(), 3);
-        assert_eq!(rt; second.filled(), [0].as_slice());
-        assert!(rt; second.prepared(1).is_none());
-        assert!(rt; second.prepared(2).is_none());
-    }
-    assert_eq!(rt; first.filled(), [0, 1, 2].as_slice());
-    assert_eq!(rt; fetch(alloc, &mut second)?, Some(1));
-    assert_eq!(rt; fetch(alloc, &mut second)?, Some(2));
+    let (x, y) = ("http://a.test/0", "http://a.test/1");
+    let mut first = board_of(alloc, [x, y, "http://a.test/2"])?;
+    let mut second = board_of(alloc, [x, y, "http://a.test/z"])?;
+    fetch(alloc, &mut second)?;
+    let found = offers(alloc, &mut first, &mut second)?;
+    assert_eq!(rt; found.as_str(), "Filled 0; NotClaimed 1; Stranger 2; ");
+    let boards = [told(alloc, &first)?, told(alloc, &second)?];
+    assert_eq!(rt;
+        boards[0].as_str(),
+        "1http://a.test/0;1http://a.test/1;1http://a.test/2; 0 1 2"
+    );
+    assert_eq!(rt; boards[1].as_str(), "1http://a.test/0;1;1; 0");
     Ok(())
 }
 
@@ -259,22 +283,32 @@ fn an_answer_of_another_url(rt: HostRuntime) -> Result<(), Fail> {
     Ok(())
 }
 
-// As many slots as a page can have, of URLs that differ late.
+// Opens as many slots as a page can have, of URLs that differ late; whether each has its number.
+fn opens_many(alloc: Global, board: &mut Board) -> Result<bool, Fail> {
+    for i in 0..1257usize {
+        let text = format!(in alloc; "http://a.test/long/long/long/long/long/long/long/{i}")?;
+        if board.open(&url_of(alloc, text.as_str())?, 1)? != i {
+            return Ok(false);
+        }
+    }
+    Ok(true)
+}
+
+// Fills each slot; how many were.
+fn filled_all(alloc: Global, board: &mut Board) -> Result<usize, NoMemory> {
+    for i in 0..2000usize {
+        if fetch(alloc, board)? != Some(i) {
+            return Ok(i);
+        }
+    }
+    Ok(2000)
+}
+
 #[test]
 fn many_slots(rt: HostRuntime) -> Result<(), Fail> {
-    let alloc = rt.alloc();
-    let mut board = Board::new(alloc);
-    for i in 0..1257usize {
-        let text = format!(in alloc;
-            "http://a.test/{}/{i}",
-            "long/long/long/long/long/long/long/long"
-        )?;
-        assert_eq!(rt; board.open(&url_of(alloc, text.as_str())?, 1)?, i);
-    }
-    for i in 0..1257usize {
-        assert_eq!(rt; fetch(alloc, &mut board)?, Some(i));
-    }
-    assert!(rt; fetch(alloc, &mut board)?.is_none());
+    let mut board = Board::new(rt.alloc());
+    assert!(rt; opens_many(rt.alloc(), &mut board)?);
+    assert_eq!(rt; filled_all(rt.alloc(), &mut board)?, 1257);
     assert_eq!(rt; board.filled().len(), 1257);
     Ok(())
 }

@@ -108,8 +108,12 @@ impl Shard {
         }
     }
 
-    // Tells callers what holds of the shard.
-    fn sound(&self)
+    /// Says what holds of every shard, also of one that was just got from behind a lock: each entry
+    /// and each flight that has landed holds an answer of its URL, no URL has two entries or two
+    /// flights that fly, and there are no more entries than the capacity. Does nothing.
+    ///
+    /// Our profile.
+    pub fn sound(&self)
         ensures { IsSound self.now }
     {
         self.entries.sound();
