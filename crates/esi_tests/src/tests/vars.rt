@@ -42,40 +42,60 @@ fn parts_are_references_and_whole_texts_between(rt: HostRuntime) -> Result<(), F
     Ok(())
 }
 
-// The text where it has at most so many bytes with its references replaced, else `-`.
-fn within(alloc: Global, request: &Request, text: &str, limit: usize) -> Result<Vec<u8>, NoMemory> {
-    let parts = parts_of(alloc, text)?;
-    match substitute_within(alloc, request, parts.as_slice(), limit)? {
-        Some(found) => Ok(found),
-        None => Ok(b"-".to_vec(alloc)?),
+// Whether a text with its references replaced has at most so many bytes, and is then this one.
+fn is_within(found: Option<Vec<u8>>, wanted: Option<&str>) -> bool {
+    match (found, wanted) {
+        (Some(found), Some(wanted)) => found.as_slice() == wanted.as_bytes(),
+        (None, None) => true,
+        _ => false,
     }
+}
+
+fn within(alloc: Global, text: &str, limit: usize) -> Result<Option<Vec<u8>>, NoMemory> {
+    let request = request(alloc, "g=12345")?;
+    substitute_within(alloc, &request, parts_of(alloc, text)?.as_slice(), limit)
 }
 
 #[test]
 fn a_text_longer_than_the_limit_is_given_up(rt: HostRuntime) -> Result<(), Fail> {
-    let request = request(rt.alloc(), "g=12345")?;
     for (text, limit, wanted) in [
-        ("", 0, ""),
-        ("a", 0, "-"),
-        ("ab$(HTTP_COOKIE{g})$(X)c", 8, "ab12345c"),
-        ("ab$(HTTP_COOKIE{g})$(X)c", 7, "-"),
-        ("$(HTTP_COOKIE{g})$(HTTP_COOKIE{g})", 9, "-"),
+        ("", 0, Some("")),
+        ("a", 0, None),
+        ("ab$(HTTP_COOKIE{g})$(X)c", 8, Some("ab12345c")),
+        ("ab$(HTTP_COOKIE{g})$(X)c", 7, None),
+        ("$(HTTP_COOKIE{g})$(HTTP_COOKIE{g})", 9, None),
     ] {
-        let found = within(rt.alloc(), &request, text, limit)?;
-        assert_eq!(rt; found.as_slice(), wanted.as_bytes(), "{text}");
+        let found = within(rt.alloc(), text, limit)?;
+        assert!(rt; is_within(found, wanted), "{text}");
     }
     Ok(())
+}
+
+// Whether a reference stands at the front of a text, with this value and this text behind it.
+fn stands_in_front(
+    read: Option<(Reference, &[u8])>,
+    request: &Request,
+    wanted: (&str, &str),
+) -> bool {
+    match read {
+        Some((reference, rest)) => {
+            value(request, &reference) == wanted.0.as_bytes() && rest == wanted.1.as_bytes()
+        }
+        None => false,
+    }
 }
 
 #[test]
 fn a_reference_at_the_front_has_its_rest(rt: HostRuntime) -> Result<(), Fail> {
     let request = request(rt.alloc(), "g=1")?;
-    let found = reference_at(rt.alloc(), b"$(HTTP_COOKIE{g}|'none')=='1'")?;
-    let (reference, rest) = found.ok_or("no reference")?;
-    assert_eq!(rt; rest, b"=='1'".as_slice());
-    assert_eq!(rt; value(&request, &reference), b"1".as_slice());
-    let none = reference_at(rt.alloc(), b" $(A)")?;
-    assert!(rt; none.is_none());
+    for (text, wanted) in [
+        ("$(HTTP_COOKIE{g}|'none')=='1'", true),
+        (" $(HTTP_COOKIE{g})=='1'", false),
+    ] {
+        let read = reference_at(rt.alloc(), text.as_bytes())?;
+        let found = stands_in_front(read, &request, ("1", "=='1'"));
+        assert_eq!(rt; found, wanted, "{text}");
+    }
     Ok(())
 }
 
