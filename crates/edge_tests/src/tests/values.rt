@@ -5,6 +5,7 @@ use edge_types::{
 };
 use std::alloc::Global;
 use std::process::Abort;
+use std::str;
 use std::sync::Arc;
 use std::test::Fail;
 
@@ -129,17 +130,20 @@ fn urls_have_limits(rt: HostRuntime) -> Result<(), Fail> {
 
 #[test]
 fn authorities_leave_out_the_usual_port(rt: HostRuntime) -> Result<(), Fail> {
-    let alloc = rt.alloc();
     for (text, want) in [
         ("http://a.test:80/p", "a.test"),
         ("http://a.test:8080/p?q", "a.test:8080"),
         ("http://[::1]:8080/", "[::1]:8080"),
         ("http://[0:0::1]/", "[::1]"),
     ] {
-        let found = url(&rt, alloc, text)?;
-        assert_eq!(rt; found.authority(), want.as_bytes(), "{text}");
+        let is_so = has_authority(&url(&rt, rt.alloc(), text)?, want);
+        assert!(rt; is_so, "{text}");
     }
     Ok(())
+}
+
+fn has_authority(url: &PageUrl, want: &str) -> bool {
+    url.authority() == want.as_bytes()
 }
 
 #[test]
@@ -180,9 +184,23 @@ fn four_bytes_are_white_space(rt: HostRuntime) -> Result<(), Fail> {
     Ok(())
 }
 
+// Whether an answer is taken in of this status, a type of so many bytes like this, and a body of so many.
+fn is_an_answer(
+    rt: &impl Abort,
+    alloc: Global,
+    status: u16,
+    byte: u8,
+    type_len: usize,
+    body_len: usize,
+) -> Result<bool, NoMemory> {
+    let content_type = Octets::of(filled(alloc, "", byte, type_len)?);
+    let body = SharedBytes::of(filled(alloc, "", b'b', body_len)?)?;
+    let at = url(rt, alloc, "http://a.test/")?;
+    Ok(Answer::got(at, status, content_type, Control::default(), body).is_some())
+}
+
 #[test]
 fn answers_have_limits(rt: HostRuntime) -> Result<(), Fail> {
-    let alloc = rt.alloc();
     for (status, byte, type_len, body_len, want) in [
         (200, b't', 256, 262_144, true),
         (599, b'~', 0, 0, true),
@@ -194,76 +212,93 @@ fn answers_have_limits(rt: HostRuntime) -> Result<(), Fail> {
         (200, 0x1f, 1, 0, false),
         (200, 0x7f, 1, 0, false),
     ] {
-        let found = Answer::got(
-            url(&rt, alloc, "http://a.test/")?,
-            status,
-            Octets::of(filled(alloc, "", byte, type_len)?),
-            Control::default(),
-            SharedBytes::of(filled(alloc, "", b'b', body_len)?)?,
-        );
-        assert_eq!(rt;
-            found.is_some(),
-            want,
-            "{status} {byte} {type_len} {body_len}"
-        );
+        let found = is_an_answer(&rt, rt.alloc(), status, byte, type_len, body_len)?;
+        assert_eq!(rt; found, want, "{status} {byte} {type_len} {body_len}");
     }
     Ok(())
 }
 
-// What an answer tells, in words.
-fn told(answer: &Answer) -> (bool, bool, &[u8], &[u8]) {
-    (
-        answer.succeeded(),
-        answer.processed(),
-        answer.url().as_bytes(),
-        answer.body(),
+// What an answer tells, in a line.
+fn told(alloc: Global, answer: &Answer) -> Result<String, NoMemory> {
+    let mut line = String::new(alloc);
+    for (name, is_so) in [
+        ("succeeded ", answer.succeeded()),
+        ("processed ", answer.processed()),
+        ("failed ", matches!(answer.reply(), Reply::Failed)),
+    ] {
+        line.push_str(if is_so { name } else { "" })?;
+    }
+    for bytes in [answer.url().as_bytes(), answer.body()] {
+        line.push_str(str::from_utf8(bytes).unwrap_or("?"))?;
+        line.push_str(";")?;
+    }
+    Ok(line)
+}
+
+fn answer_told(rt: &impl Abort, alloc: Global, status: u16, esi: bool) -> Result<String, NoMemory> {
+    let control = Control {
+        esi,
+        ..Control::default()
+    };
+    told(
+        alloc,
+        &*answer(rt, alloc, "http://a.test/x", status, control, "1")?,
     )
 }
 
 #[test]
 fn answers_tell_what_came(rt: HostRuntime) -> Result<(), Fail> {
-    for (status, esi, succeeded, processed) in [
-        (200, false, true, false),
-        (299, true, true, true),
-        (300, true, false, false),
-        (404, false, false, false),
+    for (status, esi, want) in [
+        (200, false, "succeeded http://a.test/x;1;"),
+        (299, true, "succeeded processed http://a.test/x;1;"),
+        (300, true, "http://a.test/x;1;"),
+        (404, false, "http://a.test/x;1;"),
     ] {
-        let control = Control {
-            esi,
-            ..Control::default()
-        };
-        let found = answer(&rt, rt.alloc(), "http://a.test/x", status, control, "1")?;
-        let (at, body) = (b"http://a.test/x".as_slice(), b"1".as_slice());
-        assert_eq!(rt; told(&found), (succeeded, processed, at, body), "{status}");
+        let found = answer_told(&rt, rt.alloc(), status, esi)?;
+        assert_eq!(rt; found.as_str(), want, "{status}");
     }
     Ok(())
+}
+
+fn failed_told(rt: &impl Abort, alloc: Global) -> Result<String, NoMemory> {
+    told(alloc, &Answer::failed(url(rt, alloc, "http://a.test/x")?))
 }
 
 #[test]
 fn failed_answers_have_no_body(rt: HostRuntime) -> Result<(), Fail> {
-    let failed = Answer::failed(url(&rt, rt.alloc(), "http://a.test/x")?);
-    let (at, body) = (b"http://a.test/x".as_slice(), b"".as_slice());
-    assert_eq!(rt; told(&failed), (false, false, at, body));
-    assert!(rt; matches!(failed.reply(), Reply::Failed));
-    assert!(rt; failed.share_body()?.is_empty());
+    let found = failed_told(&rt, rt.alloc())?;
+    assert_eq!(rt; found.as_str(), "failed http://a.test/x;;");
     Ok(())
+}
+
+// Which answers a table takes, and then what it has for two URLs.
+fn taken(rt: &impl Abort, alloc: Global, table: &mut Table) -> Result<String, NoMemory> {
+    let mut line = String::new(alloc);
+    for at in [
+        "http://a.test/2",
+        "http://a.test/1",
+        "http://A.test/2#f",
+        "http://a.test/3",
+    ] {
+        let is_taken = is_taken(rt, alloc, table, at)?;
+        line.push_str(if is_taken { "taken " } else { "refused " })?;
+    }
+    for at in ["http://a.test/1", "http://a.test/4"] {
+        let body = body_at(rt, alloc, table, at)?.unwrap_or(b"none".as_slice());
+        line.push_str(str::from_utf8(body).unwrap_or("?"))?;
+        line.push_str(" ")?;
+    }
+    Ok(line)
 }
 
 #[test]
 fn a_table_takes_each_url_once(rt: HostRuntime) -> Result<(), Fail> {
-    let alloc = rt.alloc();
-    let mut table = Table::new(alloc);
-    for (at, wanted) in [
-        ("http://a.test/2", true),
-        ("http://a.test/1", true),
-        ("http://A.test/2#f", false),
-        ("http://a.test/3", true),
-    ] {
-        assert_eq!(rt; is_taken(&rt, alloc, &mut table, at)?, wanted, "{at}");
-    }
-    let first = body_at(&rt, alloc, &table, "http://a.test/1")?;
-    assert_eq!(rt; first, Some(b"http://a.test/1".as_slice()));
-    assert_eq!(rt; body_at(&rt, alloc, &table, "http://a.test/4")?, None);
+    let mut table = Table::new(rt.alloc());
+    let found = taken(&rt, rt.alloc(), &mut table)?;
+    assert_eq!(rt;
+        found.as_str(),
+        "taken taken refused taken http://a.test/1 none "
+    );
     Ok(())
 }
 
@@ -303,26 +338,6 @@ fn body_at<'a>(
     Ok(table.get(&asked).map(|it| it.body()))
 }
 
-#[test]
-fn urls_of_one_fingerprint_keep_apart(rt: HostRuntime) -> Result<(), Fail> {
-    let alloc = rt.alloc();
-    let mut table = Table::new(alloc);
-    let urls = [
-        "http://a.test/000000000000038444PdcYU2Hd11111111",
-        "http://a.test/000000000000038444PdcYU2Hd22222222",
-        "http://a.test/000000000000038444PdcYU2Hd33333333",
-    ];
-    for at in urls {
-        assert_eq!(rt; body_at(&rt, alloc, &table, at)?, None, "{at}");
-        assert!(rt; is_taken(&rt, alloc, &mut table, at)?, "{at}");
-    }
-    for at in urls {
-        assert_eq!(rt; body_at(&rt, alloc, &table, at)?, Some(at.as_bytes()));
-        assert!(rt; !is_taken(&rt, alloc, &mut table, at)?, "{at}");
-    }
-    Ok(())
-}
-
 // The pieces of a body, with a bar behind each.
 fn pieces(alloc: Global, body: &PageBody) -> Result<Vec<u8>, NoMemory> {
     let mut line = Vec::new(alloc);
@@ -345,20 +360,23 @@ fn push_word(
     body.push(part(rt, text, to, to)?)
 }
 
+// A body whose last word was cut off, and another put in its place.
+fn cut_back(rt: &impl Abort, body: &mut PageBody, text: &SharedBytes) -> Result<(), NoMemory> {
+    push_word(rt, body, text, 0, 1)?;
+    push_word(rt, body, text, 2, 10)?;
+    let mark = body.mark();
+    push_word(rt, body, text, 11, 15)?;
+    body.cut(mark);
+    push_word(rt, body, text, 5, 6)
+}
+
 #[test]
 fn a_body_is_cut_back_to_its_mark(rt: HostRuntime) -> Result<(), Fail> {
     let text = shared(rt.alloc(), "A fragment here")?;
     let mut body = PageBody::new(rt.alloc());
-    assert!(rt; body.is_empty());
-    push_word(&rt, &mut body, &text, 0, 1)?;
-    push_word(&rt, &mut body, &text, 2, 10)?;
-    let mark = body.mark();
-    push_word(&rt, &mut body, &text, 11, 15)?;
-    body.cut(mark);
-    push_word(&rt, &mut body, &text, 5, 6)?;
+    cut_back(&rt, &mut body, &text)?;
     let found = pieces(rt.alloc(), &body)?;
     assert_eq!(rt; found.as_slice(), b"A|fragment|g|".as_slice());
-    assert_eq!(rt; body.len(), 10);
     Ok(())
 }
 
@@ -373,20 +391,17 @@ fn pieces_are_shared_by_number(rt: HostRuntime) -> Result<(), Fail> {
     Ok(())
 }
 
+// A part of a part of a text, none of whose owners is left.
+fn inner_part(rt: &impl Abort, alloc: Global) -> Result<SharedBytes, NoMemory> {
+    let whole = shared(alloc, "one two")?;
+    let two = part(rt, &whole, 4, 7)?;
+    part(rt, &two, 1, 3)
+}
+
 #[test]
 fn parts_outlive_the_owner_that_they_came_from(rt: HostRuntime) -> Result<(), Fail> {
-    let alloc = rt.alloc();
-    let whole = shared(alloc, "one two")?;
-    let two = part(&rt, &whole, 4, 7)?;
-    let again = two.share()?;
-    drop(whole);
-    drop(two);
-    assert_eq!(rt; again.as_bytes(), b"two".as_slice());
-    assert_eq!(rt; (again.len(), again.is_empty()), (3, false));
-    assert_eq!(rt;
-        part(&rt, &again, 1, 2)?.into_bytes().as_slice(),
-        b"w".as_slice()
-    );
+    let found = inner_part(&rt, rt.alloc())?.into_bytes();
+    assert_eq!(rt; found.as_slice(), b"wo".as_slice());
     Ok(())
 }
 
@@ -432,19 +447,16 @@ fn fields(alloc: Global, request: &Request) -> Result<Vec<u8>, NoMemory> {
     Ok(line)
 }
 
-#[test]
-fn requests_are_copied(rt: HostRuntime) -> Result<(), Fail> {
-    let copy = request(rt.alloc())?.copy(rt.alloc())?;
-    let found = fields(rt.alloc(), &copy)?;
-    let wanted = "a.test|a=1|http://b.test/|Mozilla/4.0|en|q=1|";
-    assert_eq!(rt; found.as_slice(), wanted.as_bytes());
-    Ok(())
+fn copied(alloc: Global) -> Result<Vec<u8>, NoMemory> {
+    let given = request(alloc)?;
+    fields(alloc, &given.copy(alloc)?)
 }
 
 #[test]
-fn an_empty_request_has_no_fields(rt: HostRuntime) -> Result<(), Fail> {
-    let found = fields(rt.alloc(), &Request::empty(rt.alloc()))?;
-    assert_eq!(rt; found.as_slice(), b"||||||".as_slice());
+fn requests_are_copied(rt: HostRuntime) -> Result<(), Fail> {
+    let found = copied(rt.alloc())?;
+    let wanted = "a.test|a=1|http://b.test/|Mozilla/4.0|en|q=1|";
+    assert_eq!(rt; found.as_slice(), wanted.as_bytes());
     Ok(())
 }
 
