@@ -1,19 +1,23 @@
 -- What holds of a page goes on holding when its board has more slots or more answers.
-use Rattle.std.proofs.Common.{◌≡◌, ℕ, ◌+◌, ◌-◌, List, [], ◌∷◌, ◌++◌, slice_get, true, Option, Some, None, is_none, refl, sym, ◌∙◌, ap, subst}
-use Rattle.std.proofs.lemmas.List.{append-nil}
+use Rattle.std.proofs.Common.{◌≡◌, ◌≤◌, ℕ, ◌+◌, ◌-◌, List, [], ◌∷◌, ◌++◌, length, slice_get, true, Option, Some, None, is_none, refl, sym, ◌∙◌, ap, subst, arith}
+use Rattle.std.proofs.lemmas.List.{append-nil, length-map}
+use Rattle.std.proofs.lemmas.List.Elements.{Contains-push}
+use Rattle.std.specs.List.{Contains}
 use Rattle.edge_types.specs.declared.request.Request.{Request}
 use Rattle.edge_types.specs.Answered.{Answered}
 use Rattle.edge_types.specs.Outcome.{Shown}
 use Rattle.edge_types.specs.Table.{is_of, answer_of, reply_in, reply_of}
+use Rattle.esi_meaning.specs.declared.limits.TheConstants.{MAX_LEGS}
+use Rattle.esi_meaning.specs.Ahead.{MayFollow, IsLegal}
 use Rattle.esi_meaning.specs.Run.{Asks}
-use Rattle.esi_meaning.specs.State.{Waiting, Done, is_missing, state, waits_at}
+use Rattle.esi_meaning.specs.State.{Waiting, is_missing, state, waits_at}
 use Rattle.esi_tree.specs.Tree.{Elements}
-use Rattle.answer_board.specs.Board.{State, Slot, Receipt, number_of, Opens, answer_at, answer_in, filled_with, fill_fault, Fills, KeepsFilled, log_of}
+use Rattle.answer_board.specs.Board.{State, Slot, Receipt, Ticket, urls, Claims, number_of, Opens, answer_at, answer_in, filled_with, fill_fault, Fills, KeepsFilled, log_of}
 use Rattle.answer_board.specs.Sound.{IsBoard}
 use Rattle.answer_board.proofs.Slots.{slice_get-set_same}
 use Rattle.answer_board.proofs.Stays.{answer_at-keeps}
 use Rattle.plan_machine.specs.Laws.{IsPage}
-use Rattle.plan_machine.specs.Machine.{Frame, Machine, after, start}
+use Rattle.plan_machine.specs.Machine.{Frame, Machine, after}
 use Rattle.plan_machine.specs.Progress.{Ready}
 use Rattle.plan_machine.specs.Told.{told}
 use Rattle.plan_machine.proofs.Growth.{found_in_more, after_stays}
@@ -23,6 +27,7 @@ use Rattle.plan_runner.specs.declared.page.Stage.{Stage}
 use Rattle.plan_runner.specs.declared.page.Stage.TheVariants as stage
 use Rattle.plan_runner.specs.declared.page.Page.TheInside.{Inside}
 use Rattle.plan_runner.specs.Ahead.{Opening, opened_by}
+use Rattle.plan_runner.specs.Board.{StandsBoard, IsWhole}
 use Rattle.plan_runner.specs.Calls.{TakesIn, Posted, with_opening, Awaits}
 use Rattle.plan_runner.specs.Page as page
 use Rattle.plan_runner.specs.Page.{Page, Standing}
@@ -30,6 +35,7 @@ use Rattle.plan_runner.specs.Kept.{standing_of, seen, IsStage, IsKept}
 use Rattle.plan_runner.specs.Resumed.{StandsAt}
 use Rattle.plan_runner.specs.Running.{IsRunning, IsDone}
 use Rattle.plan_runner.specs.Shown.{url_in, tree_in, shown_frame, shown_frames, shown_machine, IsPlaced, ArePlaced}
+use Rattle.plan_runner.proofs.Boards.{claim_urls, fill_urls, whole_same, whole_filled, whole_opens, whole_opened, whole_few, may_come, legal_on}
 use Rattle.plan_runner.proofs.Done.{done_stays}
 
 module _ (b c : State) (more : List Answered) (keeps : KeepsFilled b c) (log : log_of c ≡ log_of b ++ more) where
@@ -89,19 +95,134 @@ module _ (b c : State) (more : List Answered) (keeps : KeepsFilled b c) (log : l
   stage_moves r L u p (stage.Done outcome) h = done_moves r L u p.steps outcome h
   stage_moves r L u p stage.Broken h = tt
 
-pub kept_same : (p : Inside) (c : State) → KeepsFilled p.board c → log_of c ≡ log_of p.board → IsBoard c → IsKept p → IsKept (record p { board = c })
-kept_same p c keeps log sound h =
-    record { sound = sound; levels = h.levels; stage_is = stage_moves p.board c [] keeps (log ∙ sym (append-nil (log_of p.board))) p.request p.levels p.url p.progress p.stage h.stage_is }
+module _ (r : Request) (L : ℕ) (u : List ℕ) (ahead room : ℕ) (b c : State) where
+  same_length : urls c.slots ≡ urls b.slots → length c.slots ≡ length b.slots
+  same_length same = sym (length-map c.slots (λ (s : Slot). s.url)) ∙ ap length same ∙ length-map b.slots (λ (s : Slot). s.url)
 
-pub kept_more : (p : Inside) (c : State) (a : Answered) → KeepsFilled p.board c → log_of c ≡ log_of p.board ++ a ∷ [] → IsBoard c → IsKept p → IsKept (record p { board = c })
-kept_more p c a keeps log sound h =
-    record { sound = sound; levels = h.levels; stage_is = stage_moves p.board c (a ∷ []) keeps log p.request p.levels p.url p.progress p.stage h.stage_is }
+  board_same : (s : Stage) → urls c.slots ≡ urls b.slots → log_of c ≡ log_of b → StandsBoard r L u ahead room b s → StandsBoard r L u ahead room c s
+  board_same stage.Unread same log h = whole_same r L u ahead room b c same log h
+  board_same stage.Running same log h = whole_same r L u ahead room b c same log h
+  board_same (stage.Done o) same log h = whole_same r L u ahead room b c same log h
+  board_same stage.Broken same log h = omega (arith, h, same_length same)
 
--- slots were opened behind the answer that came in
-pub kept_opened : (p : Inside) (b c : State) (a : Answered) (room : ℕ) → KeepsFilled p.board b → log_of b ≡ log_of p.board ++ a ∷ [] → KeepsFilled b c → log_of c ≡ log_of b → IsBoard c → IsKept p → IsKept (record p { board = c; room = room })
-kept_opened p b c a room keeps log on same sound h =
-    let all : KeepsFilled p.board c = λ n s here filled. on n s (keeps n s here filled) filled in
-    record { sound = sound; levels = h.levels; stage_is = stage_moves p.board c (a ∷ []) all (same ∙ log) p.request p.levels p.url p.progress p.stage h.stage_is }
+  board_filled : (s : Stage) (a : Answered) → urls c.slots ≡ urls b.slots → log_of c ≡ log_of b ++ a ∷ [] → MayFollow r u (log_of b) a.url → StandsBoard r L u ahead room b s → StandsBoard r L u ahead room c s
+  board_filled stage.Unread a same log may h = whole_filled r L u ahead room b c a same log may h
+  board_filled stage.Running a same log may h = whole_filled r L u ahead room b c a same log may h
+  board_filled (stage.Done o) a same log may h = whole_filled r L u ahead room b c a same log may h
+  board_filled stage.Broken a same log may h = omega (arith, h, same_length same)
+
+  whole_board : (s : Stage) → (s ≡ stage.Broken → ⊥) → StandsBoard r L u ahead room b s → IsWhole r L u ahead room b
+  whole_board stage.Unread unbroken h = h
+  whole_board stage.Running unbroken h = h
+  whole_board (stage.Done o) unbroken h = h
+  whole_board stage.Broken unbroken h = absurd (unbroken refl)
+
+  board_whole : (s : Stage) → (s ≡ stage.Broken → ⊥) → IsWhole r L u ahead room b → StandsBoard r L u ahead room b s
+  board_whole stage.Unread unbroken h = h
+  board_whole stage.Running unbroken h = h
+  board_whole (stage.Done o) unbroken h = h
+  board_whole stage.Broken unbroken h = absurd (unbroken refl)
+
+pub whole_of : (p : Inside) → (p.stage ≡ stage.Broken → ⊥) → IsKept p → IsWhole p.request p.levels p.url p.ahead p.room p.board
+whole_of p unbroken h = whole_board p.request p.levels p.url p.ahead p.room p.board p.board p.stage unbroken h.board_is
+
+-- never more slots
+pub few_slots : (p : Inside) → IsKept p → length p.board.slots ≤ MAX_LEGS + 1 + p.ahead
+few_slots p h = by_stage p.stage h.board_is
+  where
+    by_stage : (s : Stage) → StandsBoard p.request p.levels p.url p.ahead p.room p.board s → length p.board.slots ≤ MAX_LEGS + 1 + p.ahead
+    by_stage stage.Unread w = omega (arith, whole_few p.request p.levels p.url p.ahead p.room p.board h.sound w)
+    by_stage stage.Running w = omega (arith, whole_few p.request p.levels p.url p.ahead p.room p.board h.sound w)
+    by_stage (stage.Done o) w = omega (arith, whole_few p.request p.levels p.url p.ahead p.room p.board h.sound w)
+    by_stage stage.Broken w = w
+
+pub kept_claimed : (p : Inside) (c : State) (ticket : Option Ticket) → Claims p.board ticket c → KeepsFilled p.board c → log_of c ≡ log_of p.board → IsBoard c → IsKept p → IsKept (record p { board = c })
+kept_claimed p c ticket step keeps log sound h = record {
+  sound = sound;
+  levels = h.levels;
+  legal = subst (IsLegal p.request p.url) (sym log) h.legal;
+  board_is = board_same p.request p.levels p.url p.ahead p.room p.board c p.stage (claim_urls p.board c ticket step) log h.board_is;
+  stage_is = stage_moves p.board c [] keeps (log ∙ sym (append-nil (log_of p.board))) p.request p.levels p.url p.progress p.stage h.stage_is;
+}
+
+-- an answer came in
+module _ (p : Inside) (c : State) (x : Receipt) (unbroken : p.stage ≡ stage.Broken → ⊥) (h : IsKept p) (none : fill_fault p.board.slots x ≡ None) (fills : Fills p.board x c) (log : log_of c ≡ log_of p.board ++ x.answer ∷ []) where
+  may : MayFollow p.request p.url (log_of p.board) x.answer.url
+  may = may_come p.request p.levels p.url p.ahead p.room p.board x h.sound none (whole_of p unbroken h)
+
+  legal_then : IsLegal p.request p.url (log_of c)
+  legal_then = legal_on p.request p.levels p.url p.ahead p.board c x h.sound none log may h.legal
+
+  whole_then : IsWhole p.request p.levels p.url p.ahead p.room c
+  whole_then = whole_filled p.request p.levels p.url p.ahead p.room p.board c x.answer (fill_urls p.board c x fills) log may (whole_of p unbroken h)
+
+  pub kept_filled : KeepsFilled p.board c → IsBoard c → IsKept (record p { board = c })
+  kept_filled keeps sound = record {
+    sound = sound;
+    levels = h.levels;
+    legal = legal_then;
+    board_is = board_whole p.request p.levels p.url p.ahead p.room c c p.stage unbroken whole_then;
+    stage_is = stage_moves p.board c (x.answer ∷ []) keeps log p.request p.levels p.url p.progress p.stage h.stage_is;
+  }
+
+  -- slots were opened behind it
+  pub kept_opened : (d : State) (room number : ℕ) → KeepsFilled p.board c → KeepsFilled c d → log_of d ≡ log_of c → IsBoard d → number ≡ x.number
+      → ((s : Slot) (answer : Answered) → slice_get c.slots number ≡ Some s → answer_in s.standing ≡ Some answer
+      → record { board = d; room = room } ≡ opened_by p.request p.levels s.depth answer (record { board = c; room = p.room }))
+      → IsKept (record p { board = d; room = room })
+  kept_opened d room number keeps on same sound is opens =
+      let all : KeepsFilled p.board d = λ n s here filled. on n s (keeps n s here filled) filled in
+      let here : slice_get c.slots number ≡ Some (filled_with x.answer fills.0) = ap (slice_get c.slots) is ∙ ap (λ (b : State). slice_get b.slots x.number) fills.2 ∙ slice_get-set_same p.board.slots x.number fills.0 (filled_with x.answer fills.0) fills.1 in
+      let logged : Contains (log_of c) x.answer = subst (λ (l : List Answered). Contains l x.answer) (sym log) (Contains-push (log_of p.board) x.answer) in
+      let whole : IsWhole p.request p.levels p.url p.ahead room d =
+      whole_opened p.request p.levels p.url p.ahead fills.0.depth x.answer (record { board = c; room = p.room }) (record { board = d; room = room }) logged (opens (filled_with x.answer fills.0) x.answer here refl) whole_then in
+      record {
+        sound = sound;
+        levels = h.levels;
+        legal = subst (IsLegal p.request p.url) (sym same) legal_then;
+        board_is = board_whole p.request p.levels p.url p.ahead room d d p.stage unbroken whole;
+        stage_is = stage_moves p.board d (x.answer ∷ []) all (same ∙ log) p.request p.levels p.url p.progress p.stage h.stage_is;
+      }
+
+  -- not all could be opened
+  pub kept_broken : (d : State) → IsBoard c → log_of d ≡ log_of c → IsBoard d → length d.slots ≤ length c.slots + p.room → IsKept (record p { board = d; stage = stage.Broken })
+  kept_broken d filled same sound few = record {
+    sound = sound;
+    levels = h.levels;
+    legal = subst (IsLegal p.request p.url) (sym same) legal_then;
+    board_is = omega (arith, few, whole_few p.request p.levels p.url p.ahead p.room c filled whole_then);
+    stage_is = tt;
+  }
+
+-- it waits for this URL, which has a slot now
+pub kept_waits : (p : Inside) (progress : Progress) (d : State) (w : List ℕ) (depth number : ℕ) → (p.stage ≡ stage.Broken → ⊥) → IsKept p → IsRunning p.request p.levels p.url p.board progress
+    → state p.request (log_of p.board) p.levels p.url ≡ Waiting w → Opens (number_of p.board.slots w) w depth p.board number d → KeepsFilled p.board d → log_of d ≡ log_of p.board → IsBoard d
+    → IsKept (record p { board = d; progress = progress; stage = stage.Running })
+kept_waits p progress d w depth number unbroken h running waits opens keeps log sound = record {
+  sound = sound;
+  levels = h.levels;
+  legal = subst (IsLegal p.request p.url) (sym log) h.legal;
+  board_is = whole_opens p.request p.levels p.url p.ahead p.room p.board d w depth number h.sound h.legal waits opens (whole_of p unbroken h);
+  stage_is = stage_moves p.board d [] keeps (log ∙ sym (append-nil (log_of p.board))) p.request p.levels p.url progress stage.Running running;
+}
+
+-- a growth was refused
+pub kept_spoiled : (p : Inside) (c : State) (progress : Progress) (s : Stage) → c ≡ p.board → s ≡ stage.Broken → IsKept p → IsKept (record p { board = c; progress = progress; stage = s })
+kept_spoiled p c progress s same broken h =
+    subst (λ (b : State). IsKept (record p { board = b; progress = progress; stage = s })) (sym same)
+    (subst (λ (x : Stage). IsKept (record p { progress = progress; stage = x })) (sym broken) (record { sound = h.sound; levels = h.levels; legal = h.legal; board_is = few_slots p h; stage_is = tt }))
+
+-- it came to this
+pub kept_came : (p : Inside) (progress : Progress) (s : Stage) → (p.stage ≡ stage.Broken → ⊥) → (s ≡ stage.Broken → ⊥) → IsKept p → IsStage p.request p.levels p.url p.board progress s → IsKept (record p { progress = progress; stage = s })
+kept_came p progress s unbroken other h is =
+    record { sound = h.sound; levels = h.levels; legal = h.legal; board_is = board_whole p.request p.levels p.url p.ahead p.room p.board p.board s other (whole_of p unbroken h); stage_is = is }
+
+-- a page that goes on isn't broken
+pub goes_on : (p : Inside) (old : Page) → seen p ≡ old → old.standing ≡ page.Underway → p.stage ≡ stage.Broken → ⊥
+goes_on p old view is broken =
+    let going : standing_of p.stage ≡ page.Underway = ap (λ (v : Page). v.standing) view ∙ is in
+    let other : standing_of p.stage ≡ page.Broken = ap standing_of broken in
+    absurd (cc)
 
 pub under : (s : Stage) → (s ≡ stage.Broken → ⊥) → ((o : Shown) → s ≡ stage.Done o → ⊥) → standing_of s ≡ page.Underway
 under stage.Unread whole undone = refl

@@ -7,5 +7,9 @@ pub mod Advancing
 pub mod Courses
 pub mod Walks
 pub mod Done
+pub mod Counting
+pub mod Boards
+pub mod Logs
+pub mod Promises
 pub mod Keeping
 pub mod States

@@ -1,12 +1,14 @@
 -- What the calls of a page answer, and what they leave.
-use Rattle.std.specs.Prelude.{◌≡◌, ℕ, ◌+◌, ◌-◌, List, [], ◌∷◌, ◌++◌, slice_get, Option, Some, None}
+use Rattle.std.specs.Prelude.{◌≡◌, ℕ, ◌+◌, ◌-◌, List, [], ◌∷◌, ◌++◌, slice_get, Option, Some, None, IsSome, ⊤}
 use Rattle.std.specs.Arc.{arc_value}
-use Rattle.edge_types.specs.Outcome.{Shown, shown}
+use Rattle.edge_types.specs.Answered.{Answered}
+use Rattle.edge_types.specs.Outcome.{shown}
+use Rattle.esi_meaning.specs.Meaning.{outcome}
 use Rattle.esi_meaning.specs.Run.{Leg, Asks, AsksNobody}
 use Rattle.esi_meaning.specs.State as meaning
 use Rattle.answer_board.specs.declared.board.FillFault.{FillFault}
 use Rattle.answer_board.specs.declared.board.FillFault.TheVariants as fault
-use Rattle.answer_board.specs.Board.{State, Slot, Receipt, number_of, Opens, Fills, fill_fault, KeepsFilled, log_of}
+use Rattle.answer_board.specs.Board.{State, Slot, Receipt, number_of, answer_in, with_slot, Opens, Fills, fill_fault, log_of}
 use Rattle.plan_runner.specs.declared.page.PageError.{PageError}
 use Rattle.plan_runner.specs.declared.page.PageError.TheVariants as error
 use Rattle.plan_runner.specs.declared.page.PostFault.{PostFault}
@@ -16,13 +18,20 @@ use Rattle.plan_runner.specs.declared.page.State.TheVariants as tells
 use Rattle.plan_runner.specs.Ahead.{Opening, opened_by}
 use Rattle.plan_runner.specs.Page.{Standing, Underway, Finished, Broken, Page}
 
+-- it is one page: of one URL and request, with one number of levels, and of slots that posts may open ahead
+pub record IsOnePage (old new : Page) : Type 0 where
+  pub url : new.url ≡ old.url
+  pub request : new.request ≡ old.request
+  pub levels : new.levels ≡ old.levels
+  pub ahead : new.ahead ≡ old.ahead
+
 -- nothing but the board has changed
 abbrev pub only_board : Page → State → Page
-only_board p b = record { url = p.url; request = p.request; levels = p.levels; board = b; room = p.room; steps = p.steps; standing = p.standing }
+only_board p b = record { url = p.url; request = p.request; levels = p.levels; board = b; ahead = p.ahead; room = p.room; steps = p.steps; standing = p.standing }
 
 -- slots were opened ahead
 abbrev pub with_opening : Page → Opening → Page
-with_opening p o = record { url = p.url; request = p.request; levels = p.levels; board = o.board; room = o.room; steps = p.steps; standing = p.standing }
+with_opening p o = record { url = p.url; request = p.request; levels = p.levels; board = o.board; ahead = p.ahead; room = o.room; steps = p.steps; standing = p.standing }
 
 -- ---- post
 
@@ -87,6 +96,20 @@ abbrev pub Awaits : ℕ → Option Leg → State → State → Type 0
 Awaits levels None old new = new ≡ old
 Awaits levels (Some (Asks n w)) old new = (number : ℕ) × Opens (number_of old.slots w) w (levels - n + 1) old number new
 Awaits levels (Some AsksNobody) old new = ⊥
+
+-- of a page that is done: its outcome is the one over this table
+abbrev pub IsOutcomeOver : List Answered → Page → told.State → Type 0
+IsOutcomeOver table page (tells.Waiting url) = ⊤
+IsOutcomeOver table page (tells.Done result) = outcome page.request table page.levels page.url ≡ shown (arc_value result)
+
+-- each slot has its answer
+abbrev pub IsFilled : State → Type 0
+IsFilled b = (number : ℕ) (s : Slot) → slice_get b.slots number ≡ Some s → IsSome (answer_in s.standing)
+
+-- a page that isn't done has one slot more, for the URL for which it waits
+abbrev pub HasAppended : told.State → State → State → Type 0
+HasAppended (tells.Waiting url) old new = (depth : ℕ) × (new ≡ with_slot url depth old)
+HasAppended (tells.Done outcome) old new = ⊤
 
 -- what an advance does to the board, by what it tells
 abbrev pub Moves : told.State → ℕ → Option Leg → State → State → Type 0

@@ -8,4 +8,6 @@ pub mod Ahead
 pub mod Walk
 pub mod Page
 pub mod Calls
+pub mod Board
 pub mod Kept
+pub mod Headline

@@ -15,7 +15,8 @@ pub record Page : Type 0 where
   pub request : Request
   pub levels : ℕ
   pub board : State
-  -- how many slots posts may still open ahead
+  -- how many slots posts may open ahead, and how many they still may
+  pub ahead : ℕ
   pub room : ℕ
   -- how many steps of plans were made
   pub steps : ℕ
@@ -23,7 +24,7 @@ pub record Page : Type 0 where
 
 -- a page of which no answer is in
 abbrev pub accepted : List ℕ → Request → ℕ → ℕ → Page
-accepted url request ahead levels = record { url = url; request = request; levels = levels; board = with_slot url 0 empty; room = ahead; steps = 0; standing = Underway }
+accepted url request ahead levels = record { url = url; request = request; levels = levels; board = with_slot url 0 empty; ahead = ahead; room = ahead; steps = 0; standing = Underway }
 
 -- a page that goes on claims as its board does; another gives no ticket
 abbrev pub ClaimsOf : Standing → State → Option Ticket → State → Type 0

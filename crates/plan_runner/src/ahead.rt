@@ -1,5 +1,5 @@
 //! Slots that are opened ahead: for what a template that has come in may ask.
-ghost use Rattle.std.specs.Prelude.{◌≡◌, Some, filter_map, IfOk, slice_get};
+ghost use Rattle.std.specs.Prelude.{◌≡◌, ◌≤◌, ◌+◌, length, Some, filter_map, IfOk, slice_get};
 ghost use Rattle.edge_types.specs.Answered.{Answered};
 ghost use Rattle.esi_meaning.specs.Ahead.{ahead_of};
 ghost use Rattle.answer_board.specs.Board.{Slot, KeepsFilled, answer_in, log_of};
@@ -42,6 +42,8 @@ pub(crate) fn open_ahead(
     ensures keeps { KeepsFilled board.old board.new }
     ensures log { log_of board.new ≡ log_of board.old }
     ensures sound { IsBoard board.new }
+    ensures few { length board.new.slots ≤ length board.old.slots + room }
+    ensures fewer { IfOk result (λ left. length board.new.slots + left ≤ length board.old.slots + room) }
 {
     let depth = match board.depth(number) {
         Some(depth) if depth < levels => depth + 1,
@@ -70,6 +72,8 @@ fn open_all(opening: &Opening<'_>, board: &mut Board, room: u16) -> Result<u16, 
     ensures keeps { KeepsFilled board.old board.new }
     ensures log { log_of board.new ≡ log_of board.old }
     ensures sound { IsBoard board.new }
+    ensures few { length board.new.slots ≤ length board.old.slots + room }
+    ensures fewer { IfOk result (λ left. length board.new.slots + left ≤ length board.old.slots + room) }
 {
     match opening.template.form() {
         Form::Planned(plan) => walk(opening, plan, board, room),
@@ -86,6 +90,8 @@ fn walk(opening: &Opening<'_>, plan: &Plan, board: &mut Board, room: u16) -> Res
     ensures keeps { KeepsFilled board.old board.new }
     ensures log { log_of board.new ≡ log_of board.old }
     ensures sound { IsBoard board.new }
+    ensures few { length board.new.slots ≤ length board.old.slots + room }
+    ensures fewer { IfOk result (λ left. length board.new.slots + left ≤ length board.old.slots + room) }
 {
     let _ = plan.len();
     let mut left = room;
@@ -119,6 +125,8 @@ fn visit(opening: &Opening<'_>, step: &Step, board: &mut Board, room: u16) -> Re
     ensures keeps { KeepsFilled board.old board.new }
     ensures log { log_of board.new ≡ log_of board.old }
     ensures sound { IsBoard board.new }
+    ensures few { length board.new.slots ≤ length board.old.slots + room }
+    ensures fewer { IfOk result (λ left. length board.new.slots + left ≤ length board.old.slots + room) }
 {
     match step {
         Step::Leg(source) => open_leg(opening, source, board, room),
@@ -138,6 +146,8 @@ fn open_leg(
     ensures keeps { KeepsFilled board.old board.new }
     ensures log { log_of board.new ≡ log_of board.old }
     ensures sound { IsBoard board.new }
+    ensures few { length board.new.slots ≤ length board.old.slots + room }
+    ensures fewer { IfOk result (λ left. length board.new.slots + left ≤ length board.old.slots + room) }
 {
     let template = opening.template;
     match leg_url(
@@ -166,6 +176,8 @@ fn open_new(
     ensures keeps { KeepsFilled board.old board.new }
     ensures log { log_of board.new ≡ log_of board.old }
     ensures sound { IsBoard board.new }
+    ensures few { length board.new.slots ≤ length board.old.slots + room }
+    ensures fewer { IfOk result (λ left. length board.new.slots + left ≤ length board.old.slots + room) }
 {
     if room == 0 || board.number(url).is_some() {
         return Ok(room);

@@ -1,18 +1,23 @@
 //! Pages. Clauses see a page's URL, request and levels, its board, the room that is left for slots
-//! ahead, the count of steps, and how far it is.
-ghost use Rattle.std.specs.Prelude.{◌≡◌, ◌≤◌, length, List, ◌++◌, ◌∷◌, [], Some, None, IfOk, IfErr, OnOk, OnErr, option_and_then, option_map, slice_get};
+//! ahead, the count of steps, and how far it is. `specs/Headline.antt` is what a page promises.
+ghost use Rattle.std.specs.Prelude.{◌≡◌, ◌≤◌, ◌+◌, length, List, ◌++◌, ◌∷◌, [], Some, None, IfOk, IfErr, OnOk, OnErr, option_and_then, option_map, slice_get};
 ghost use Rattle.std.specs.Arc.{arc_value};
+ghost use Rattle.std.specs.List.{AllByRecursion};
 ghost use Rattle.std.specs.Option.{option_copied};
 ghost use Rattle.edge_types.specs.Answered.{Answered};
 ghost use Rattle.edge_types.specs.Outcome.{Shown, shown};
 ghost use Rattle.edge_types.specs.Table.{Agrees};
-ghost use Rattle.esi_meaning.specs.Meaning.{AreLevels};
+ghost use Rattle.esi_meaning.specs.declared.limits.TheConstants.{MAX_LEGS};
+ghost use Rattle.esi_meaning.specs.Ahead.{IsLegal};
+ghost use Rattle.esi_meaning.specs.Laws.{SameReply};
+ghost use Rattle.esi_meaning.specs.Meaning.{AreLevels, asked};
 ghost use Rattle.esi_meaning.specs.State.{Done, state, waits_at};
 ghost use Rattle.answer_board.specs.Sound.{IsBoard};
 ghost use Rattle.answer_board.specs.Board.{answer_at, log_of};
 ghost use Rattle.plan_machine.specs.Headline.{IsTrueOver};
 ghost use Rattle.plan_runner.specs.Page.{Underway, Finished, Broken, accepted, ClaimsOf};
-ghost use Rattle.plan_runner.specs.Calls.{TakesIn, Refuses, Errs, told_state, standing_after, Moves, only_board};
+ghost use Rattle.plan_runner.specs.Calls.{IsOnePage, TakesIn, Refuses, Errs, told_state, standing_after, IsOutcomeOver, IsFilled, HasAppended, Moves, only_board};
+ghost use Rattle.plan_runner.specs.Headline.{TellsTheTruth};
 ghost use Rattle.plan_runner.specs.Kept.{standing_of, IsStage};
 ghost use Rattle.plan_runner.specs.Running.{IsDone, Comes};
 
@@ -94,7 +99,8 @@ pub struct Page {
     request: Request,
     levels: u8,
     board: Board,
-    // How many slots posts may still open ahead.
+    // How many slots posts may open ahead, and how many they still may.
+    ahead: u16,
     room: u16,
     progress: Progress,
     stage: Stage,
@@ -137,6 +143,7 @@ impl Page {
             request,
             levels,
             board,
+            ahead,
             room: ahead,
             progress: Progress {
                 machine: idle(alloc),
@@ -168,9 +175,13 @@ impl Page {
         self.levels
     }
 
-    /// How many slots there are, also on a page that is done or broken. Takes no memory.
+    /// How many slots there are, also on a page that is done or broken: at most one for the page, one
+    /// for each leg that it may try, and those ahead. Takes no memory.
+    ///
+    /// Our profile.
     pub fn slots(&self) -> usize
-        ensures { result ≡ length self.now.board.slots }
+        ensures value { result ≡ length self.now.board.slots }
+        ensures few { result ≤ MAX_LEGS + 1 + self.now.ahead }
     {
         self.board.len()
     }
@@ -187,20 +198,16 @@ impl Page {
         self.progress.steps
     }
 
-    /// Lends the answer of this number, from 0, in order of posting; none past the last. Takes no
-    /// memory.
+    /// Lends the answer of this number, from 0, in order of posting; none past the last. They are a
+    /// legal log: the first is the page's own, no URL has two, and each other's is one that a `src` or
+    /// an `alt` stands for in the template of an earlier one. Takes no memory.
     ///
     /// Our profile.
     pub fn logged(&self, i: usize) -> Option<&Arc<Answer>>
-        ensures { option_map arc_value (option_copied result) ≡ option_and_then (answer_at self.now.board.slots) (slice_get self.now.board.filled i) }
+        ensures value { option_map arc_value (option_copied result) ≡ slice_get (log_of self.now.board) i }
+        ensures legal { IsLegal self.now.request self.now.url (log_of self.now.board) }
     {
-        match self.board.filled().get(i) {
-            Some(number) => match self.board.prepared(*number) {
-                Some(prepared) => Some(prepared.answer()),
-                None => None,
-            },
-            None => None,
-        }
+        filled_answer(&self.board, i)
     }
 
     /// Claims the first unclaimed slot, and gives its ticket; none where each is claimed, and none
@@ -210,6 +217,7 @@ impl Page {
     pub fn claim(&mut self) -> Option<Ticket>
         ensures claims { ClaimsOf self.old.standing self.old.board result self.new.board }
         ensures rest { self.new ≡ only_board self.old self.new.board }
+        ensures one_page { IsOnePage self.old self.new }
     {
         match self.stage {
             Stage::Unread | Stage::Running => self.board.claim(),
@@ -229,6 +237,8 @@ impl Page {
     pub fn post(&mut self, receipt: Receipt) -> Result<(), PostFault>
         ensures ok { OnOk result (TakesIn self.old receipt self.new) }
         ensures refused { IfErr result (λ fault. Refuses fault self.old receipt self.new) }
+        ensures one_page { IsOnePage self.old self.new }
+        ensures for_good { (outcome : Shown) → self.old.standing ≡ Finished outcome → self.new.standing ≡ Finished outcome }
     {
         if let Stage::Broken = self.stage {
             return Err(PostFault::Broken(receipt));
@@ -278,6 +288,12 @@ impl Page {
         ensures errs { IfErr result (λ e. Errs e self.old self.new) }
         ensures log { log_of self.new.board ≡ log_of self.old.board }
         ensures moves { IfOk result (λ s. Moves s self.old.levels (waits_at self.old.request (log_of self.old.board) self.old.levels self.old.url) self.old.board self.new.board) }
+        ensures headline { IfOk result (λ s. TellsTheTruth self.new s) }
+        ensures asked_alone { IfOk result (λ s. (table : List Answered) → AllByRecursion (SameReply (log_of self.new.board) table) (asked self.new.request (log_of self.new.board) self.new.levels self.new.url)
+            → IsOutcomeOver table self.new s) }
+        ensures appended { IfOk result (λ s. IsFilled self.old.board → HasAppended s self.old.board self.new.board) }
+        ensures for_good { (outcome : Shown) → self.old.standing ≡ Finished outcome → IfOk result (λ s. told_state s ≡ Done outcome) }
+        ensures one_page { IsOnePage self.old self.new }
     {
         match &self.stage {
             Stage::Broken => Err(PageError::Broken),
@@ -297,7 +313,10 @@ impl Page {
         ensures broken { OnErr result (self.new.standing ≡ Broken) }
         ensures log { log_of self.new.board ≡ log_of self.old.board }
         ensures sound { IsBoard self.new.board }
-        ensures same { (self.new.url ≡ self.old.url) × (self.new.request ≡ self.old.request) × (self.new.levels ≡ self.old.levels) × (self.new.room ≡ self.old.room) }
+        ensures one_page { IsOnePage self.old self.new }
+        ensures room { self.new.room ≡ self.old.room }
+        ensures headline { IfOk result (λ s. TellsTheTruth self.new s) }
+        ensures appended { IfOk result (λ s. IsFilled self.old.board → HasAppended s self.old.board self.new.board) }
         ensures moves { IfOk result (λ s. Moves s self.old.levels (waits_at self.old.request (log_of self.old.board) self.old.levels self.old.url) self.old.board self.new.board) }
     {
         // Broken until all growths are made.
@@ -327,6 +346,19 @@ impl Page {
                 Ok(State::Done(told))
             }
         }
+    }
+}
+
+// The answer that was filled in at this number, from 0.
+fn filled_answer(board: &Board, i: usize) -> Option<&Arc<Answer>>
+    ensures { option_map arc_value (option_copied result) ≡ option_and_then (answer_at board.now.slots) (slice_get board.now.filled i) }
+{
+    match board.filled().get(i) {
+        Some(number) => match board.prepared(*number) {
+            Some(prepared) => Some(prepared.answer()),
+            None => None,
+        },
+        None => None,
     }
 }
 

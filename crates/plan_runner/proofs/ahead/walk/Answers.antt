@@ -1,5 +1,4 @@
-use Rattle.std.proofs.Common.{◌≡◌, ◌∙◌, List, ℕ, sym, ap, refl, arith}
-use Rattle.edge_types.specs.Answered.{body_of}
+use Rattle.std.proofs.Common.{◌∙◌, List, ℕ, ap, refl, arith}
 use Rattle.plan_compiler.specs.Shown.{step_of, steps_in}
 use Rattle.plan_runner.specs.Ahead.{opened}
 use Rattle.plan_runner.proofs.Walks.{walk_of_plan, at_end, when_full, on, keeps_on, stays_within}
@@ -11,6 +10,7 @@ loop-left-init c = record {
   keeps = λ n s here filled. here;
   log = refl;
   sound = c.requires.sound;
+  few = omega arith;
   within = omega arith;
 }
 
@@ -51,5 +51,6 @@ loop-left-preserved c =
       keeps = keeps_on c.args.board.now c.loop-left.board c.visit.new.board c.loop-left.invariant.keeps c.in_ok-left.ensures.keeps;
       log = c.in_ok-left.ensures.log ∙ c.loop-left.invariant.log;
       sound = c.in_ok-left.ensures.sound;
+      few = omega (arith, c.in_ok-left.ensures.fewer, c.loop-left.invariant.few);
       within = omega (arith, w, c.passed.ensures);
     }

@@ -1,4 +1,4 @@
-use Rattle.std.proofs.Common.{◌≡◌, ℕ, zero, ◌-◌, ◌≤◌, List, length, drop, filter_map}
+use Rattle.std.proofs.Common.{◌≡◌, zero, ◌+◌, ◌-◌, ◌≤◌, length, drop, filter_map}
 use Rattle.esi_meaning.specs.Ahead.{ahead_of}
 use Rattle.answer_board.specs.Board.{KeepsFilled, log_of}
 use Rattle.answer_board.specs.Sound.{IsBoard}
@@ -15,6 +15,7 @@ invariant-loop-left l = record {
   keeps : KeepsFilled l.fn.board l.board;
   log : log_of l.board ≡ log_of l.fn.board;
   sound : IsBoard l.board;
+  few : length l.board.slots + l.left ≤ length l.fn.board.slots + l.fn.room;
   within : l.at ≤ length (steps_in l.plan);
 }
 
