@@ -1,16 +1,16 @@
 -- What the loops over steps keep.
-use Rattle.std.proofs.Common.{◌≡◌, ℕ, suc, ◌+◌, ◌≤◌, min, List, Option, Some, None, refl, sym, ◌∙◌, ap, subst, arith}
+use Rattle.std.proofs.Common.{◌≡◌, ℕ, suc, ◌+◌, min, List, Some, refl, sym, ◌∙◌, ap, subst, arith}
 use Rattle.edge_types.specs.declared.request.Request.{Request}
 use Rattle.edge_types.specs.Answered.{Answered}
 use Rattle.answer_board.specs.Board.{State, log_of}
 use Rattle.plan_runner.specs.declared.advance.Progress.{Progress}
 use Rattle.plan_runner.specs.declared.step.Reached as code
 use Rattle.plan_runner.specs.declared.step.Reached.TheVariants as reached
-use Rattle.plan_machine.specs.Machine.{Machine, Next, Went, gone, stepped, step, after}
+use Rattle.plan_machine.specs.Machine.{Machine, Went, gone, stepped, step, after}
 use Rattle.plan_machine.specs.Progress.{weight, Ready, Falls}
 use Rattle.plan_runner.specs.Reached.{Reaches, Stops}
 use Rattle.plan_runner.specs.Resumed.{StandsAt, Told, IfWent}
-use Rattle.plan_runner.specs.Shown.{shown_frames, shown_machine}
+use Rattle.plan_runner.specs.Shown.{shown_machine}
 use Rattle.plan_machine.proofs.Progress.{step_leaves}
 
 module _ (r : Request) (log : List Answered) where

@@ -1,5 +1,5 @@
 -- What a leg's answer comes to, as the code finds it.
-use Rattle.std.proofs.Common.{◌≡◌, ℕ, zero, ◌-◌, ◌+◌, Bool, true, false, List, [], ◌∷◌, length, Option, Some, None, Ok, Err, refl, sym, ◌∙◌, ap}
+use Rattle.std.proofs.Common.{◌≡◌, ℕ, zero, ◌-◌, true, false, List, [], ◌∷◌, length, Some, None, Err, refl, ◌∙◌, ap}
 use Rattle.edge_types.specs.declared.request.Request.{Request}
 use Rattle.edge_types.specs.Answered.{Answered, processed, body_of}
 use Rattle.esi_tree.specs.Reading.{tree_of}
@@ -9,7 +9,7 @@ use Rattle.plan_compiler.specs.Prepared.{IsPlanOf}
 use Rattle.plan_compiler.specs.Shown.{steps_in}
 use Rattle.answer_board.specs.Board.{State, answer_at}
 use Rattle.plan_runner.specs.declared.frames.Frame as code_frame
-use Rattle.plan_machine.specs.Machine.{Frame, Machine, Next, Went, goes, unwound, plain_leg}
+use Rattle.plan_machine.specs.Machine.{Frame, Machine, Went, goes, unwound, plain_leg}
 use Rattle.plan_runner.specs.Shown.{shown_frame, IsPlaced}
 use Rattle.plan_runner.specs.Targets.{acted, found_at}
 

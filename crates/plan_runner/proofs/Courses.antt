@@ -1,5 +1,5 @@
 -- From a page's own answer to where it waits or is done.
-use Rattle.std.proofs.Common.{◌≡◌, ℕ, ◌+◌, min, Bool, true, false, List, [], ◌∷◌, length, Option, Some, None, is_none, Result, Ok, Err, if◌then◌else◌, refl, sym, ◌∙◌, ap, subst, arith, option_and_then}
+use Rattle.std.proofs.Common.{◌≡◌, ℕ, ◌+◌, min, Bool, true, false, List, [], ◌∷◌, length, Option, Some, None, is_none, Ok, Err, refl, sym, ◌∙◌, ap, subst, arith, option_and_then}
 use Rattle.edge_types.specs.declared.request.Request.{Request}
 use Rattle.edge_types.specs.declared.answer.Reply.{Reply}
 use Rattle.edge_types.specs.declared.answer.Reply.TheVariants.{Failed, Got}
@@ -7,10 +7,10 @@ use Rattle.edge_types.specs.declared.control.Control.{Control}
 use Rattle.edge_types.specs.declared.outcome.PageFault.TheVariants.{BadTemplate, IncludeFailed, TooManyLegs}
 use Rattle.edge_types.specs.Answered.{Answered, processed, body_of}
 use Rattle.edge_types.specs.Outcome.{Shown, Page, Fault}
-use Rattle.edge_types.specs.Table.{answer_of, reply_in, reply_of}
+use Rattle.edge_types.specs.Table.{answer_of, reply_in}
 use Rattle.edge_types.specs.Pieces.{joined}
 use Rattle.esi_meaning.specs.Meaning.{text_outcome}
-use Rattle.esi_meaning.specs.State.{State, Waiting, Done, is_missing}
+use Rattle.esi_meaning.specs.State.{Done, is_missing}
 use Rattle.esi_tree.specs.Reading.{tree_of}
 use Rattle.esi_tree.specs.Tree.{Elements}
 use Rattle.plan_compiler.specs.declared.plan.Plan.{Plan}
@@ -22,18 +22,17 @@ use Rattle.answer_board.specs.Board.{number_of, answer_at, log_of}
 use Rattle.answer_board.specs.Sound.{IsBoard}
 use Rattle.answer_board.proofs.Log.{log-answers}
 use Rattle.plan_machine.specs.Laws.{IsPage}
-use Rattle.plan_machine.specs.Machine.{Machine, Next, Waits, TooMany, Rests, goes, step, after, start}
+use Rattle.plan_machine.specs.Machine.{Machine, TooMany, Rests, goes, step, after, start}
 use Rattle.plan_machine.specs.Progress.{Ready}
 use Rattle.plan_machine.specs.Rests.{text_so_far}
-use Rattle.plan_machine.specs.Told.{told_by, told_at, told_of_answer, told}
+use Rattle.plan_machine.specs.Told.{told_by, told_of_answer, told}
 use Rattle.plan_machine.proofs.Stacks.{settled_ready}
 use Rattle.plan_runner.specs.declared.advance.Progress.{Progress}
-use Rattle.plan_runner.specs.declared.frames.Frame as code_frame
 use Rattle.plan_runner.specs.declared.machine.Machine as code_machine
 use Rattle.plan_runner.specs.Plain.{plain_outcome}
 use Rattle.plan_runner.specs.Resumed.{StandsAt}
 use Rattle.plan_runner.specs.Running.{IsTemplate, IsRunning, IsDone, last_step}
-use Rattle.plan_runner.specs.Shown.{url_in, tree_in, shown_frame, shown_frames, shown_machine, first_frame, IsPlaced, ArePlaced}
+use Rattle.plan_runner.specs.Shown.{url_in, tree_in, shown_frame, shown_machine, first_frame, IsPlaced, ArePlaced}
 use Rattle.plan_runner.proofs.Targets.{url_of_answer}
 
 -- the page's own answer, by its slot

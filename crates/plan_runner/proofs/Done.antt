@@ -1,5 +1,5 @@
 -- A page that is done stays done when more answers come in.
-use Rattle.std.proofs.Common.{◌≡◌, ℕ, zero, suc, ◌+◌, Bool, true, false, nat_lt, List, [], ◌∷◌, ◌++◌, slice_get, Option, Some, None, Result, Ok, Err, if◌then◌else◌, refl, sym, ◌∙◌, ap, subst}
+use Rattle.std.proofs.Common.{◌≡◌, ℕ, zero, suc, ◌+◌, Bool, true, false, nat_lt, List, [], ◌∷◌, ◌++◌, slice_get, Option, Some, None, Result, Ok, Err, if◌then◌else◌, refl, ◌∙◌, ap, subst}
 use Rattle.edge_types.specs.declared.request.Request.{Request}
 use Rattle.edge_types.specs.declared.answer.Reply.{Reply}
 use Rattle.edge_types.specs.declared.answer.Reply.TheVariants.{Failed, Got}
@@ -12,7 +12,7 @@ use Rattle.esi_tree.specs.Tree.{Elements}
 use Rattle.esi_vars.specs.declared.part.Part.{Part}
 use Rattle.esi_vars.specs.Values.{substituted}
 use Rattle.esi_meaning.specs.Meaning.{most_legs}
-use Rattle.esi_meaning.specs.State.{State, Waiting, Done}
+use Rattle.esi_meaning.specs.State.{State, Done}
 use Rattle.plan_compiler.specs.declared.inline.Inline.{Inline}
 use Rattle.plan_compiler.specs.Code.{code_of}
 use Rattle.plan_compiler.specs.Plan.{Step, Text, Values, Test, Jump, Try, EndTry, Leg, Fail}

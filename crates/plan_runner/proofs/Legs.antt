@@ -1,5 +1,5 @@
 -- A leg, as the code goes about it.
-use Rattle.std.proofs.Common.{◌≡◌, ℕ, ◌-◌, ◌+◌, ◌<◌, ◌≤◌, Bool, true, false, nat_lt, lt-ltb, le-ltb, List, [], ◌∷◌, refl, sym, ◌∙◌, ap, if◌then◌else◌}
+use Rattle.std.proofs.Common.{◌≡◌, ℕ, ◌-◌, ◌+◌, ◌<◌, ◌≤◌, true, false, nat_lt, lt-ltb, le-ltb, List, [], ◌∷◌, refl, sym, ◌∙◌, ap}
 use Rattle.edge_types.specs.declared.request.Request.{Request}
 use Rattle.edge_types.specs.Answered.{Answered}
 use Rattle.esi_meaning.specs.declared.limits.TheConstants.{MAX_LEGS}
@@ -8,7 +8,7 @@ use Rattle.esi_vars.specs.declared.part.Part.{Part}
 use Rattle.plan_compiler.specs.declared.inline.Inline.{Inline}
 use Rattle.plan_compiler.specs.Bodies.{entries}
 use Rattle.plan_compiler.specs.Plan.{Leg}
-use Rattle.plan_machine.specs.Machine.{Frame, Machine, Next, Went, Waits, TooMany, goes, unwound, leg_at, doing}
+use Rattle.plan_machine.specs.Machine.{Frame, Machine, Went, Waits, TooMany, goes, unwound, leg_at, doing}
 use Rattle.plan_runner.specs.Targets.{Target, Nowhere, Inside, Missing, target_of, acted}
 use Rattle.plan_runner.proofs.Targets.{leg_acts}
 

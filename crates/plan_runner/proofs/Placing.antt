@@ -1,9 +1,9 @@
 -- Frames as the code moves them.
-use Rattle.std.proofs.Common.{◌≡◌, ℕ, ◌<◌, ◌≤◌, Bool, true, false, nat_lt, List, [], ◌∷◌, subst, sym, ap, ◌∙◌, refl, le-ltb, arith}
+use Rattle.std.proofs.Common.{◌≡◌, ℕ, ◌≤◌, false, nat_lt, List, [], ◌∷◌, subst, sym, refl, le-ltb}
 use Rattle.answer_board.specs.Board.{State}
 use Rattle.plan_runner.specs.declared.frames.Frame as code_frame
-use Rattle.plan_machine.specs.Machine.{Frame, settled, unwound}
-use Rattle.plan_runner.specs.Shown.{shown_frame, shown_frames, IsPlaced, ArePlaced}
+use Rattle.plan_machine.specs.Machine.{settled, unwound}
+use Rattle.plan_runner.specs.Shown.{shown_frames, IsPlaced, ArePlaced}
 
 -- a frame at its end is left
 pub settled_over : (board : State) (all : List code_frame.Frame) (f : code_frame.Frame) (fs : List code_frame.Frame) → all ≡ f ∷ fs → f.end ≤ f.at

@@ -1,12 +1,11 @@
 -- What a page comes to is its state.
-use Rattle.std.proofs.Common.{◌≡◌, ℕ, zero, suc, ◌+◌, ◌-◌, List, [], take, find, Option, Some, None, Result, Ok, Err, IfOk, refl, sym, ◌∙◌, ap}
+use Rattle.std.proofs.Common.{◌≡◌, ℕ, zero, suc, List, [], take, find, Some, None, Result, Ok, Err, IfOk, refl, ap}
 use Rattle.edge_types.specs.declared.request.Request.{Request}
 use Rattle.edge_types.specs.Answered.{Answered}
 use Rattle.edge_types.specs.Outcome.{Shown}
-use Rattle.edge_types.specs.Table.{answer_of, reply_in, IsTable, Agrees}
-use Rattle.edge_types.specs.declared.answer.Reply.TheVariants.{Failed}
+use Rattle.edge_types.specs.Table.{answer_of, Agrees}
 use Rattle.esi_meaning.specs.Meaning.{most_legs}
-use Rattle.esi_meaning.specs.Run.{Leg, Asks}
+use Rattle.esi_meaning.specs.Run.{Asks}
 use Rattle.esi_meaning.specs.State.{State, Waiting, Done, lacks, state, waits_at}
 use Rattle.esi_meaning.proofs.StateLaws.{waits_for_asked, done_is_outcome}
 use Rattle.answer_board.specs.Board as board
@@ -18,7 +17,7 @@ use Rattle.plan_machine.specs.Told.{told, told_of_answer}
 use Rattle.plan_machine.proofs.Ends.{machine_waits}
 use Rattle.plan_machine.proofs.Told.{told_is_state}
 use Rattle.plan_runner.specs.declared.advance.Progress.{Progress}
-use Rattle.plan_runner.specs.Running.{IsRunning, IsWaiting, IsDone}
+use Rattle.plan_runner.specs.Running.{IsWaiting, IsDone}
 use Rattle.plan_runner.specs.Shown.{shown_machine}
 
 module _ (r : Request) (L : ℕ) (u : List ℕ) where

@@ -1,10 +1,9 @@
 -- A step of the code is a step of the machine.
-use Rattle.std.proofs.Common.{◌≡◌, ℕ, ◌+◌, ◌≤◌, List, [], ◌∷◌, length, slice_get, Option, Some, None, refl, sym, ◌∙◌, ap, subst, arith}
+use Rattle.std.proofs.Common.{◌≡◌, ℕ, ◌+◌, ◌≤◌, List, [], ◌∷◌, length, slice_get, Option, Some, refl, sym, ◌∙◌, ap, subst, arith}
 use Rattle.plan_compiler.specs.Laws.{skip_of}
 use Rattle.plan_compiler.proofs.Jumps.{jumps_stay}
 use Rattle.edge_types.specs.declared.request.Request.{Request}
 use Rattle.edge_types.specs.Answered.{Answered, body_of}
-use Rattle.esi_tree.specs.Tree.{Elements}
 use Rattle.plan_compiler.specs.declared.plan.Plan.{Plan}
 use Rattle.plan_compiler.specs.Code.{code_of}
 use Rattle.plan_compiler.specs.Prepared.{IsPlanOf}
@@ -14,7 +13,7 @@ use Rattle.plan_compiler.specs.Plan.{Step}
 use Rattle.plan_runner.specs.declared.frames.Frame as code_frame
 use Rattle.plan_runner.specs.declared.machine.Machine as code_machine
 use Rattle.plan_runner.specs.declared.step.Reached as code
-use Rattle.plan_machine.specs.Machine.{Frame, Machine, Next, Rests, step_here, step_in, step}
+use Rattle.plan_machine.specs.Machine.{Machine, Next, Rests, step_here, step_in, step}
 use Rattle.plan_runner.specs.Reached.{Reaches}
 use Rattle.plan_runner.specs.Shown.{tree_in, shown_frame, shown_frames, shown_machine}
 

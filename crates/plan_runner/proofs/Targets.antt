@@ -1,5 +1,5 @@
 -- What a leg leads to.
-use Rattle.std.proofs.Common.{◌≡◌, ℕ, zero, suc, ◌+◌, ◌-◌, ◌<◌, Bool, true, false, cond, List, [], ◌∷◌, find, Option, Some, None, refl, sym, ◌∙◌, ap, arith, option_and_then}
+use Rattle.std.proofs.Common.{◌≡◌, ℕ, zero, suc, ◌-◌, ◌<◌, Bool, true, false, cond, List, [], ◌∷◌, Option, Some, None, refl, sym, ◌∙◌, ap, arith, option_and_then}
 use Rattle.std.proofs.lemmas.Slice.Eq.{bytes_eq-Decides}
 use Rattle.edge_types.specs.declared.request.Request.{Request}
 use Rattle.edge_types.specs.Answered.{Answered}
@@ -9,12 +9,12 @@ use Rattle.esi_vars.specs.declared.part.Part.{Part}
 use Rattle.esi_vars.specs.Values.{substituted}
 use Rattle.plan_compiler.specs.declared.inline.Inline.{Inline}
 use Rattle.plan_compiler.specs.Bodies.{entries}
-use Rattle.plan_compiler.specs.Urls.{entry_for, entry_among}
+use Rattle.plan_compiler.specs.Urls.{entry_for}
 use Rattle.answer_board.specs.Board.{State, number_of, answer_at, log_of}
 use Rattle.answer_board.specs.Sound.{IsBoard}
 use Rattle.answer_board.proofs.Log.{log-answers}
-use Rattle.plan_machine.specs.Machine.{Frame, Next, Went, asking_leg, named_leg, resolved_leg, leg_at, answered_leg}
-use Rattle.plan_runner.specs.Targets.{Target, Found, Missing, asked_target, named_target, resolved_target, target_of, acted, found_at}
+use Rattle.plan_machine.specs.Machine.{Frame, asking_leg, named_leg, resolved_leg, leg_at}
+use Rattle.plan_runner.specs.Targets.{Missing, asked_target, named_target, resolved_target, target_of, acted, found_at}
 
 pub target_above : (r : Request) (log : List Answered) (u : List ℕ) (inlines : List Inline) (s : List Part) (n : ℕ) → 0 < n → target_of r log u inlines s n ≡ resolved_target log u inlines (resolve u (substituted r s))
 target_above r log u inlines s zero h = absurd (omega arith)

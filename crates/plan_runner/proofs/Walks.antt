@@ -1,5 +1,5 @@
 -- A walk over a plan finds what the meaning has fetched ahead.
-use Rattle.std.proofs.Common.{◌≡◌, ℕ, zero, suc, ◌+◌, ◌≤◌, nat_lt, Bool, true, false, List, [], ◌∷◌, ◌++◌, length, drop, map, slice_get, filter_map, Option, Some, None, Ok, Err, if◌then◌else◌, refl, sym, ◌∙◌, ap, arith}
+use Rattle.std.proofs.Common.{◌≡◌, ℕ, zero, suc, ◌+◌, ◌≤◌, nat_lt, Bool, true, false, List, [], ◌∷◌, ◌++◌, length, drop, slice_get, filter_map, Option, Some, None, Ok, Err, if◌then◌else◌, refl, sym, ◌∙◌, ap, arith}
 use Rattle.std.specs.Option.{option_map}
 use Rattle.edge_types.specs.declared.request.Request.{Request}
 use Rattle.edge_types.specs.Answered.{Answered, processed, body_of}
@@ -14,19 +14,19 @@ use Rattle.esi_vars.specs.Values.{substituted}
 use Rattle.plan_compiler.specs.declared.inline.Inline.{Inline}
 use Rattle.plan_compiler.specs.declared.plan.Plan.{Plan}
 use Rattle.plan_compiler.specs.Ahead.{NextSources, step_sources, sources_from}
-use Rattle.plan_compiler.specs.Bodies.{IsSingle, entries}
+use Rattle.plan_compiler.specs.Bodies.{entries}
 use Rattle.plan_compiler.specs.Code.{code_of}
 use Rattle.plan_compiler.specs.Plan.{Step, Text, Values, Test, Jump, Try, EndTry, Leg, Fail}
 use Rattle.plan_compiler.specs.Laws.{skip_of}
 use Rattle.plan_compiler.specs.Prepared.{IsPlanOf}
 use Rattle.plan_compiler.specs.Shown.{steps_in}
-use Rattle.plan_compiler.specs.Urls.{entry_for, entry_among, entries_of, entry_of}
+use Rattle.plan_compiler.specs.Urls.{entry_for, entry_among, entries_of}
 use Rattle.plan_compiler.proofs.Entries.{first_entry_counts}
 use Rattle.plan_compiler.proofs.Single.{templates_are_single}
 use Rattle.plan_compiler.proofs.Sources.{plan_fetches_ahead}
 use Rattle.answer_board.specs.Board.{State, number_of, KeepsFilled}
 use Rattle.plan_runner.proofs.Stepping.{short_step}
-use Rattle.plan_runner.specs.Ahead.{Opening, with_url, with_room, opened, opened_by}
+use Rattle.plan_runner.specs.Ahead.{Opening, with_url, opened, opened_by}
 use Rattle.plan_runner.specs.Walk.{passed_by, sources_at, unless_entry, asked_in, asked_by}
 
 -- no room: no slot

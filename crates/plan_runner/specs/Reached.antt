@@ -1,5 +1,5 @@
 -- How a step of the code ends, beside what the machine does.
-use Rattle.std.specs.Prelude.{◌≡◌, ◌∷◌, List}
+use Rattle.std.specs.Prelude.{◌≡◌, ◌∷◌}
 use Rattle.answer_board.specs.Board.{State}
 use Rattle.plan_runner.specs.declared.frames.Frame as code_frame
 use Rattle.plan_runner.specs.declared.machine.Machine as code_machine

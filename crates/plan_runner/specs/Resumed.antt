@@ -1,5 +1,5 @@
 -- Where a machine that went on from where it stopped stands, and why it stops.
-use Rattle.std.specs.Prelude.{◌≡◌, ℕ, min, ◌+◌, ◌≤◌, List, Some}
+use Rattle.std.specs.Prelude.{◌≡◌, ℕ, min, Some}
 use Rattle.edge_types.specs.declared.request.Request.{Request}
 use Rattle.answer_board.specs.Board.{State, log_of}
 use Rattle.plan_runner.specs.declared.advance.Progress.{Progress}

@@ -1,11 +1,11 @@
 -- How far a page is, over the answers that are logged.
-use Rattle.std.specs.Prelude.{◌≡◌, ℕ, ◌+◌, min, List, Some, None, ⊤}
+use Rattle.std.specs.Prelude.{◌≡◌, ℕ, ◌+◌, min, List, Some, None}
 use Rattle.edge_types.specs.declared.request.Request.{Request}
 use Rattle.edge_types.specs.declared.outcome.PageFault.TheVariants.{PageFetch, BadTemplate, IncludeFailed, TooManyLegs}
 use Rattle.edge_types.specs.Answered.{Answered}
 use Rattle.edge_types.specs.Outcome.{Shown, Page, Fault, shown}
 use Rattle.edge_types.specs.Table.{answer_of}
-use Rattle.esi_meaning.specs.State.{Waiting, Done}
+use Rattle.esi_meaning.specs.State.{Done}
 use Rattle.esi_tree.specs.Tree.{Elements}
 use Rattle.answer_board.specs.Board.{State, log_of}
 use Rattle.plan_machine.specs.Laws.{IsPage}

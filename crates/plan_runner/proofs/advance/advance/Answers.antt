@@ -1,4 +1,4 @@
-use Rattle.std.proofs.Common.{◌≡◌, ◌+◌, ◌≤◌, ◌<◌, arith}
+use Rattle.std.proofs.Common.{arith}
 use Rattle.esi_meaning.specs.Meaning.{most_legs}
 use Rattle.plan_runner.proofs.advance.advance.Goals as goal
 

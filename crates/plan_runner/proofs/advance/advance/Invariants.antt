@@ -1,4 +1,4 @@
-use Rattle.std.proofs.Common.{◌≡◌, ◌-◌}
+use Rattle.std.proofs.Common.{◌-◌}
 use Rattle.plan_machine.specs.Machine.{Machine}
 use Rattle.plan_machine.specs.Progress.{Ready}
 use Rattle.plan_runner.specs.Resumed.{StandsAt}

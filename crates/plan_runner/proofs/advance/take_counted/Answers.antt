@@ -1,5 +1,3 @@
-use Rattle.std.proofs.Common.{◌≡◌, ◌+◌, min}
-use Rattle.plan_machine.specs.Machine.{Went, step}
 use Rattle.answer_board.specs.Board.{log_of}
 use Rattle.plan_runner.specs.Shown.{shown_machine}
 use Rattle.plan_runner.proofs.Advancing.{stands_more}

@@ -1,11 +1,8 @@
-use Rattle.std.proofs.Common.{◌≡◌, ◌∷◌, ◌∙◌, ap, sym, refl, List, Some, None, arith}
+use Rattle.std.proofs.Common.{◌∙◌, ap, sym, List, Some, None, arith}
 use Rattle.edge_types.specs.Answered.{body_of}
-use Rattle.plan_compiler.specs.Prepared.{IsPlanOf}
 use Rattle.plan_compiler.specs.Shown.{step_of}
 use Rattle.plan_runner.specs.declared.frames.Frame as code_frame
-use Rattle.plan_machine.specs.Machine.{Machine, step, step_here}
-use Rattle.plan_runner.specs.Reached.{with_frame}
-use Rattle.plan_runner.specs.Shown.{shown_frame, shown_frames, shown_machine}
+use Rattle.plan_runner.specs.Shown.{shown_frames, shown_machine}
 use Rattle.plan_runner.proofs.Stepping.{reaches_same, short_step, step_none, step_of_frame}
 use Rattle.plan_runner.proofs.advance.take_step.Goals as goal
 

@@ -1,4 +1,4 @@
-use Rattle.std.proofs.Common.{◌≡◌, List, ℕ, sym, ap}
+use Rattle.std.proofs.Common.{List, ℕ, sym, ap}
 use Rattle.plan_runner.specs.Ahead.{opened}
 use Rattle.plan_runner.proofs.Walks.{nothing_ahead, bad_ahead}
 use Rattle.plan_runner.proofs.ahead.open_all.Goals as goal

@@ -1,7 +1,5 @@
-use Rattle.std.proofs.Common.{◌≡◌, ◌∙◌, ◌∷◌, ℕ, sym, ap, refl}
+use Rattle.std.proofs.Common.{◌∙◌, ℕ, ap, refl}
 use Rattle.edge_types.specs.Answered.{Answered}
-use Rattle.answer_board.specs.Board.{answer_at}
-use Rattle.plan_runner.specs.declared.advance.Progress.{Progress}
 use Rattle.plan_runner.specs.Plain.{plain_outcome}
 use Rattle.plan_runner.proofs.Courses.{own_is, own_missing, own_unknown, plain_done, bad_done, begun}
 use Rattle.plan_runner.proofs.course.begin.Goals as goal

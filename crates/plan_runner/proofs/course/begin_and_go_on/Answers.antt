@@ -1,4 +1,4 @@
-use Rattle.std.proofs.Common.{◌≡◌, ◌∙◌, ℕ, sym, ap, subst}
+use Rattle.std.proofs.Common.{◌∙◌, ℕ, sym, ap, subst}
 use Rattle.edge_types.specs.Outcome.{shown}
 use Rattle.plan_runner.specs.declared.advance.Progress.{Progress}
 use Rattle.plan_runner.specs.Running.{IsDone}

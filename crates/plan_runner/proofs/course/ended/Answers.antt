@@ -1,4 +1,4 @@
-use Rattle.std.proofs.Common.{◌≡◌, ◌∙◌, sym, ap}
+use Rattle.std.proofs.Common.{◌∙◌, sym, ap}
 use Rattle.edge_types.specs.Answered.{Answered}
 use Rattle.plan_runner.proofs.Courses.{own_absent, own_failed, own_got, end_shown}
 use Rattle.plan_runner.proofs.course.ended.Goals as goal

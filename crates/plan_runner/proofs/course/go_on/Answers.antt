@@ -1,4 +1,3 @@
-use Rattle.std.proofs.Common.{◌≡◌, ◌∙◌, ◌∷◌, sym, ap}
 use Rattle.plan_runner.proofs.Courses.{too_many, at_end}
 use Rattle.plan_runner.proofs.course.go_on.Goals as goal
 

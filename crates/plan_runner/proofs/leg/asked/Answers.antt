@@ -1,4 +1,4 @@
-use Rattle.std.proofs.Common.{◌≡◌, ◌∙◌, sym, ap, ℕ, Option, option_and_then}
+use Rattle.std.proofs.Common.{◌∙◌, sym, ap, ℕ, Option, option_and_then}
 use Rattle.answer_board.specs.Board.{answer_at}
 use Rattle.plan_runner.proofs.Targets.{missing_is, found_is}
 use Rattle.plan_runner.proofs.leg.asked.Goals as goal

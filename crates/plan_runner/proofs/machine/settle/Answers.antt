@@ -1,5 +1,4 @@
-use Rattle.std.proofs.Common.{◌≡◌, ◌∙◌, ◌∷◌, List, subst, sym}
-use Rattle.plan_runner.specs.declared.frames.Frame as code_frame
+use Rattle.std.proofs.Common.{◌∙◌, subst, sym}
 use Rattle.plan_runner.specs.Shown.{ArePlaced}
 use Rattle.plan_runner.proofs.Placing.{settled_over, placed_rest}
 use Rattle.plan_runner.proofs.machine.settle.Goals as goal

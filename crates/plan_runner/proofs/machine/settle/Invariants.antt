@@ -1,4 +1,4 @@
-use Rattle.std.proofs.Common.{◌≡◌, List, length}
+use Rattle.std.proofs.Common.{◌≡◌, length}
 use Rattle.answer_board.specs.Board.{State}
 use Rattle.plan_machine.specs.Machine.{settled}
 use Rattle.plan_runner.specs.Shown.{shown_frames, ArePlaced}

@@ -1,6 +1,5 @@
-use Rattle.std.proofs.Common.{◌≡◌, ◌∙◌, ◌∷◌, ◌+◌, sym, ap, false, true}
-use Rattle.edge_types.specs.Answered.{Answered, processed, body_of}
-use Rattle.plan_compiler.specs.Prepared.{IsPlanOf}
+use Rattle.std.proofs.Common.{◌≡◌, ◌∙◌, ◌∷◌, ◌+◌, sym, ap, false}
+use Rattle.edge_types.specs.Answered.{Answered, processed}
 use Rattle.answer_board.specs.Board.{log_of}
 use Rattle.plan_machine.specs.Machine.{moved, plain_leg}
 use Rattle.plan_runner.specs.Shown.{shown_frame, shown_frames}

@@ -1,8 +1,8 @@
-use Rattle.std.proofs.Common.{◌≡◌, ◌∷◌, ◌+◌, ◌-◌, ◌∙◌, ap, sym, refl, List, ℕ}
+use Rattle.std.proofs.Common.{◌∷◌, ◌+◌, ◌-◌, ◌∙◌, ap, List, ℕ}
 use Rattle.plan_machine.specs.declared.handler.Handler.{Handler}
 use Rattle.plan_runner.specs.declared.leg.Target as code
 use Rattle.plan_runner.specs.declared.frames.Frame as code_frame
-use Rattle.plan_machine.specs.Machine.{Frame, Machine, goes, moved}
+use Rattle.plan_machine.specs.Machine.{goes, moved}
 use Rattle.plan_runner.specs.Shown.{shown_frame, shown_frames, shown_machine}
 use Rattle.plan_runner.specs.Targets.{acted, shown_target}
 use Rattle.plan_compiler.specs.Urls.{entries_of}
