@@ -1,5 +1,0 @@
-//! The tests of `answer_board`.
-#![tactic(auto)]
-
-#[cfg(test)]
-mod tests;

@@ -1,0 +1,4 @@
+mod boards;
+mod orders;
+mod pages;
+mod plans;

@@ -1,5 +1,0 @@
-//! The tests of `plan_compiler`.
-#![tactic(auto)]
-
-#[cfg(test)]
-mod tests;
