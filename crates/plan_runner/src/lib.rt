@@ -1,5 +1,6 @@
 //! Pages that any scheduler may drive, in any order of answers. `Page` is the one type;
-//! `specs/Page.antt` and `Calls.antt` say what clauses see of it and what each call does.
+//! `specs/Headline.antt` is what it promises, `specs/Page.antt` and `Calls.antt` say what clauses see
+//! of it and what each call does.
 #![tactic(auto)]
 
 mod advance;
