@@ -13,3 +13,7 @@ pub mod Logs
 pub mod Promises
 pub mod Keeping
 pub mod States
+pub mod Growing
+pub mod Tickets
+pub mod Holding
+pub mod Replies

@@ -11,3 +11,5 @@ pub mod Calls
 pub mod Board
 pub mod Kept
 pub mod Headline
+pub mod Events
+pub mod Holding

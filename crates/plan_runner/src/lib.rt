@@ -6,7 +6,9 @@
 mod advance;
 mod ahead;
 mod course;
+mod events;
 mod frames;
+mod hand;
 mod handlers;
 mod leg;
 mod leg_url;
@@ -15,4 +17,5 @@ mod outcome;
 mod page;
 mod step;
 
+pub use events::{Event, run_events, run_to_end};
 pub use page::{MAX_AHEAD, Page, PageError, PostFault, State};

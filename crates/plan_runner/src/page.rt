@@ -218,6 +218,7 @@ impl Page {
         ensures claims { ClaimsOf self.old.standing self.old.board result self.new.board }
         ensures rest { self.new ≡ only_board self.old self.new.board }
         ensures one_page { IsOnePage self.old self.new }
+        ensures log { log_of self.new.board ≡ log_of self.old.board }
     {
         match self.stage {
             Stage::Unread | Stage::Running => self.board.claim(),
@@ -239,6 +240,7 @@ impl Page {
         ensures refused { IfErr result (λ fault. Refuses fault self.old receipt self.new) }
         ensures one_page { IsOnePage self.old self.new }
         ensures for_good { (outcome : Shown) → self.old.standing ≡ Finished outcome → self.new.standing ≡ Finished outcome }
+        ensures log { OnOk result (log_of self.new.board ≡ log_of self.old.board ++ receipt.answer ∷ []) }
     {
         if let Stage::Broken = self.stage {
             return Err(PostFault::Broken(receipt));
@@ -287,6 +289,7 @@ impl Page {
         ensures done { (outcome : Shown) → self.old.standing ≡ Finished outcome → self.new ≡ self.old }
         ensures errs { IfErr result (λ e. Errs e self.old self.new) }
         ensures log { log_of self.new.board ≡ log_of self.old.board }
+        ensures same { (self.new.url ≡ self.old.url) × (self.new.request ≡ self.old.request) × (self.new.levels ≡ self.old.levels) × (self.new.room ≡ self.old.room) }
         ensures moves { IfOk result (λ s. Moves s self.old.levels (waits_at self.old.request (log_of self.old.board) self.old.levels self.old.url) self.old.board self.new.board) }
         ensures headline { IfOk result (λ s. TellsTheTruth self.new s) }
         ensures asked_alone { IfOk result (λ s. (table : List Answered) → AllByRecursion (SameReply (log_of self.new.board) table) (asked self.new.request (log_of self.new.board) self.new.levels self.new.url)
@@ -303,6 +306,13 @@ impl Page {
                 Err(NoMemory) => Err(PageError::NoMemory),
             },
         }
+    }
+
+    // Tells what holds of the page's board.
+    pub(crate) fn sound(&self)
+        ensures { IsBoard self.now.board }
+    {
+        let _ = &self.board;
     }
 
     // On from where it stands; it is broken where a growth is refused.

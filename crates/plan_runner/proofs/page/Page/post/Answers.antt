@@ -1,3 +1,6 @@
+use Rattle.std.proofs.Common.{◌∙◌, ◌++◌, ◌∷◌, [], ap}
+use Rattle.answer_board.specs.Board.{log_of}
+use Rattle.plan_runner.specs.Page.{Page}
 use Rattle.plan_runner.proofs.Keeping.{kept_filled, kept_opened, kept_broken, under, takes_done, takes_underway}
 use Rattle.plan_runner.proofs.page.Page.post.Goals as goal
 
@@ -22,3 +25,10 @@ pub invariant_of-self-in-Err : goal.invariant_of-self-in-Err
 invariant_of-self-in-Err c =
     kept_broken c.self.inside c.fill.new.self c.args.receipt c.in_default.not-Broken c.self.invariant c.in-Ok.ensures.ok.1 c.in-Ok.ensures.ok.2 c.in-Ok.ensures.log c.open_ahead.new.board
     c.in-Ok.ensures.sound c.in-Err.ensures.log c.in-Err.ensures.sound c.in-Err.ensures.few
+
+pub returns-in-Done-clause-log : goal.returns-in-Done-clause-log
+returns-in-Done-clause-log c = c.in-Ok.ensures.log ∙ ap (λ (v : Page). log_of v.board ++ c.args.receipt.answer ∷ []) c.self.view_is
+
+pub returns-in-Ok-open_ahead-clause-log : goal.returns-in-Ok-open_ahead-clause-log
+returns-in-Ok-open_ahead-clause-log c =
+    c.in-Ok-open_ahead.ensures.log ∙ c.in-Ok.ensures.log ∙ ap (λ (v : Page). log_of v.board ++ c.args.receipt.answer ∷ []) c.self.view_is

@@ -1,0 +1,14 @@
+use Rattle.plan_runner.proofs.Holding.{ran_same, told_after, over_after}
+use Rattle.plan_runner.proofs.events.try_events.Goals as goal
+
+pub returns-clause-told : goal.returns-clause-told
+returns-clause-told c =
+    let a = c.args in
+    let same = ran_same a.table.now a.events.now a.url a.request a.ahead a.levels c.in_ok-hand.hand c.run_all.new.hand c.in_ok-hand.ensures c.in_ok-run_all.ensures.happen in
+    told_after a.url a.request a.ahead a.levels c.run_all.new.hand c.in_ok-told.told c.advance.new.self c.into_page.result same c.in_ok-told.ensures.advances c.into_page.ensures
+
+pub returns-clause-over_the_table : goal.returns-clause-over_the_table
+returns-clause-over_the_table c =
+    let a = c.args in
+    let same = ran_same a.table.now a.events.now a.url a.request a.ahead a.levels c.in_ok-hand.hand c.run_all.new.hand c.in_ok-hand.ensures c.in_ok-run_all.ensures.happen in
+    over_after a.table.now a.url a.request a.ahead a.levels c.run_all.new.hand c.in_ok-told.told c.advance.new.self c.into_page.result same c.in_ok-told.ensures.advances c.into_page.ensures c.in_ok-told.ensures.over_the_table

@@ -1,0 +1,134 @@
+//! Pages that are run by a list of events over a table. Clauses see a page and the tickets in hand;
+//! `specs/Events.antt` says what each event does to them.
+ghost use Rattle.std.specs.Prelude.{◌≡◌, ◌≤◌, ◌<◌, length, IfOk, IfErr, OnOk};
+ghost use Rattle.std.specs.Arc.{arc_value};
+ghost use Rattle.edge_types.specs.Outcome.{shown};
+ghost use Rattle.edge_types.specs.Table.{Agrees};
+ghost use Rattle.esi_meaning.specs.Meaning.{AreLevels, outcome};
+ghost use Rattle.esi_meaning.specs.State.{state};
+ghost use Rattle.answer_board.specs.Board.{log_of};
+ghost use Rattle.plan_machine.specs.Headline.{IsTrueOver};
+ghost use Rattle.plan_runner.specs.Calls.{told_state};
+ghost use Rattle.plan_runner.specs.Events.{Happen, Ran, Advances, empty_handed};
+ghost use Rattle.plan_runner.specs.Holding.{IsHeld};
+ghost use Rattle.plan_runner.specs.Page.{accepted};
+
+use crate::hand::Hand;
+use crate::page::{MAX_AHEAD, Page, PageError, State};
+use edge_types::{NoMemory, Outcome, PageUrl, Request, Table};
+use std::alloc::Global;
+use std::sync::Arc;
+
+/// One call of a page, as a list of events tells it.
+#[derive(Clone, Copy, Debug, Drop, PartialEq, Eq)]
+pub enum Event {
+    /// The first unclaimed slot is claimed; its ticket is the newest in hand.
+    Claim,
+    /// The table's answer is posted for the ticket in hand of this place, from 0, oldest first.
+    Post(usize),
+    /// The page goes on to where it waits or is done.
+    Advance,
+}
+
+// The events, in order.
+fn run_all(hand: &mut Hand, table: &Table, events: &[Event]) -> Result<(), NoMemory>
+    requires { IsHeld table.now hand.old }
+    ensures happen { OnOk result (Happen table.now events.now hand.old hand.new) }
+    ensures held { OnOk result (IsHeld table.now hand.new) }
+{
+    let mut rest = events;
+    while let Some((event, after)) = rest.split_first() {
+        match event {
+            Event::Claim => {
+                hand.claim(table)?;
+            }
+            Event::Post(place) => hand.post(table, *place)?,
+            Event::Advance => {
+                hand.advance(table)?;
+            }
+        }
+        rest = after;
+    }
+    Ok(())
+}
+
+/// Runs a page over a table by these events, in order, and then lets it go on to where it waits or
+/// is done, and tells it. A claim where no slot is unclaimed does nothing, nor does a post where no
+/// ticket of that place is in hand.
+///
+/// `ahead` is how many slots posts may open ahead, at most `MAX_AHEAD`. `NoMemory` at the first
+/// event that finds none; `Broken` never. Tickets that are still in hand at the end are given up.
+///
+/// Source: ESI Language Specification 1.0, "ESI Language"; events and limits are our profile.
+pub fn run_events(
+    alloc: Global,
+    url: PageUrl,
+    request: Request,
+    table: &Table,
+    ahead: u16,
+    levels: u8,
+    events: &[Event],
+) -> Result<(Page, State), PageError>
+    requires ahead { ahead ≤ MAX_AHEAD }
+    requires levels { AreLevels levels }
+    // Each event happens, in order and none left out, and then an advance.
+    ensures ran { IfOk result (λ (page, told). Ran table.now events.now (accepted url request ahead levels) told page) }
+    ensures agrees { IfOk result (λ (page, told). Agrees (log_of page.board) table.now) }
+    ensures told { IfOk result (λ (page, told). told_state told ≡ state request (log_of page.board) levels url) }
+    ensures over_the_table { IfOk result (λ (page, told). IsTrueOver (log_of page.board) table.now request levels url (told_state told)) }
+    ensures err { IfErr result (λ e. e ≡ PageError.NoMemory) }
+{
+    match try_events(alloc, url, request, table, ahead, levels, events) {
+        Ok(end) => Ok(end),
+        Err(NoMemory) => Err(PageError::NoMemory),
+    }
+}
+
+// The same, where no memory is the only error.
+fn try_events(
+    alloc: Global,
+    url: PageUrl,
+    request: Request,
+    table: &Table,
+    ahead: u16,
+    levels: u8,
+    events: &[Event],
+) -> Result<(Page, State), NoMemory>
+    requires ahead { ahead ≤ MAX_AHEAD }
+    requires levels { AreLevels levels }
+    ensures ran { IfOk result (λ (page, told). Ran table.now events.now (accepted url request ahead levels) told page) }
+    ensures agrees { IfOk result (λ (page, told). Agrees (log_of page.board) table.now) }
+    ensures told { IfOk result (λ (page, told). told_state told ≡ state request (log_of page.board) levels url) }
+    ensures over_the_table { IfOk result (λ (page, told). IsTrueOver (log_of page.board) table.now request levels url (told_state told)) }
+{
+    let mut hand = Hand::accept(alloc, url, request, ahead, levels)?;
+    run_all(&mut hand, table, events)?;
+    let told = hand.advance(table)?;
+    Ok((hand.into_page(), told))
+}
+
+/// Runs a page over a table by these events, in order, and then to its end: it goes on to where it
+/// waits, what is unclaimed is claimed, and the table's answer is posted for the oldest ticket in
+/// hand, until the page is done. Whatever the events are, its outcome is that over the table.
+///
+/// `ahead` is how many slots posts may open ahead, at most `MAX_AHEAD`. `NoMemory` where a growth
+/// is refused.
+///
+/// Source: ESI Language Specification 1.0, "ESI Language"; events and limits are our profile.
+pub fn run_to_end(
+    alloc: Global,
+    url: PageUrl,
+    request: Request,
+    table: &Table,
+    ahead: u16,
+    levels: u8,
+    events: &[Event],
+) -> Result<Arc<Outcome>, NoMemory>
+    requires ahead { ahead ≤ MAX_AHEAD }
+    requires levels { AreLevels levels }
+    ensures { IfOk result (λ result. shown (arc_value result) ≡ outcome request table.now levels url) }
+{
+    let mut hand = Hand::accept(alloc, url, request, ahead, levels)?;
+    run_all(&mut hand, table, events)?;
+    hand.finish(table)
+}
