@@ -1,5 +1,5 @@
 -- What a run does to the bytes that its reader has left and its writer holds.
-use Rattle.std.specs.Prelude.{◌≡◌, ◌<◌, ◌≤◌, ℕ, List, ◌++◌, length, Option, IfSome}
+use Rattle.std.specs.Prelude.{◌≡◌, ◌⊎◌, ◌+◌, ◌<◌, ◌≤◌, ℕ, List, ◌++◌, length, Option, IfSome}
 use Rattle.std.specs.Io.KnownBytes.{Appends, Consumes, IsAtEnd}
 
 -- the known bytes lost at most so many
@@ -7,6 +7,16 @@ pub record TakesAtMost (most : ℕ) (before after : Option (List ℕ)) : Type 0 
   pub taken : List ℕ
   pub few : length taken ≤ most
   pub consumed : Consumes before after taken
+
+-- the known bytes lost exactly so many
+pub record TakesExactly (n : ℕ) (before after : Option (List ℕ)) : Type 0 where
+  pub taken : List ℕ
+  pub count : length taken ≡ n
+  pub consumed : Consumes before after taken
+
+-- the input was read to its end, or one byte more than so many
+abbrev pub IsReadThrough : ℕ → Option (List ℕ) → Option (List ℕ) → Type 0
+IsReadThrough most before after = IsAtEnd after ⊎ TakesExactly (most + 1) before after
 
 -- n bytes of at most so many were moved from the known bytes to a text; none only at their end
 pub record Moves (most n : ℕ) (before after : Option (List ℕ)) (old new : List ℕ) : Type 0 where

@@ -1,6 +1,6 @@
 //! Reading the whole input, or as much of it as shows that it is too long.
-ghost use Rattle.std.specs.Prelude.{◌≡◌, ◌≢◌, ◌+◌, ◌<◌, ◌≤◌, ◌^◌, length, vec_len, IfOk, IfErr, OnErr};
-ghost use Rattle.edge_case.specs.Bytes.{TakesAtMost, Moves, IsInput, IsLonger};
+ghost use Rattle.std.specs.Prelude.{◌≡◌, ◌≢◌, ◌+◌, ◌<◌, ◌≤◌, ◌^◌, length, vec_len, IfOk, IfErr, OnOk, OnErr};
+ghost use Rattle.edge_case.specs.Bytes.{TakesAtMost, Moves, IsInput, IsLonger, IsReadThrough};
 
 use crate::case_text::MAX_CASE;
 use crate::ending::CaseFault;
@@ -67,6 +67,7 @@ fn read_up_to<R: Read>(
     requires fits { most < 2 ^ 63 }
     ensures whole { IfOk result (λ text. vec_len text ≤ most → IsInput (R.remaining reader.old) text.items) }
     ensures longer { IfOk result (λ text. most < vec_len text → IsLonger most (R.remaining reader.old)) }
+    ensures through { OnOk result (IsReadThrough most (R.remaining reader.old) (R.remaining reader.new)) }
     ensures at_most { TakesAtMost (most + 1) (R.remaining reader.old) (R.remaining reader.new) }
     ensures never_write { IfErr result (λ e. e ≢ CaseFault.Write) }
     ensures never_bad { IfErr result (λ e. e ≢ CaseFault.BadCase) }
@@ -88,6 +89,7 @@ fn read_up_to<R: Read>(
 pub(crate) fn read_input<R: Read>(alloc: Global, reader: &mut R) -> Result<Vec<u8>, CaseFault>
     ensures whole { IfOk result (λ text. vec_len text ≤ MAX_CASE → IsInput (R.remaining reader.old) text.items) }
     ensures longer { IfOk result (λ text. MAX_CASE < vec_len text → IsLonger MAX_CASE (R.remaining reader.old)) }
+    ensures through { OnOk result (IsReadThrough MAX_CASE (R.remaining reader.old) (R.remaining reader.new)) }
     ensures at_most { TakesAtMost (MAX_CASE + 1) (R.remaining reader.old) (R.remaining reader.new) }
     ensures never_write { IfErr result (λ e. e ≢ CaseFault.Write) }
     ensures never_bad { IfErr result (λ e. e ≢ CaseFault.BadCase) }

@@ -9,6 +9,9 @@ use edge_case::run_case;
 use std::alloc::Global;
 use std::io::{Read, Write};
 
+// How many slots posts may open ahead.
+const DEFAULT_AHEAD: u16 = 16;
+
 /// Judges the words of the command line whole, and then runs the case at the levels that they ask
 /// for.
 ///
@@ -24,5 +27,5 @@ pub(crate) fn run_words<R: Read, W: Write>(
     ensures refused { OnErr result ((reader.new ≡ reader.old) × (writer.new ≡ writer.old)) }
 {
     let levels = asked_levels(alloc, words)?;
-    Ok(Status::of(run_case(alloc, reader, writer, levels)))
+    Ok(Status::of(run_case(alloc, reader, writer, DEFAULT_AHEAD, levels, &[])))
 }

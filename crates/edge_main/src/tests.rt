@@ -127,7 +127,7 @@ impl Write for FailingWriter {
 fn run(alloc: Global, text: &[u8]) -> (Result<CaseEnd, CaseFault>, Vec<u8>) {
     let mut reader = text;
     let mut written = Vec::new(alloc);
-    let ended = run_case(alloc, &mut reader, &mut written, 4);
+    let ended = run_case(alloc, &mut reader, &mut written, 16, 4, &[]);
     (ended, written)
 }
 
@@ -170,7 +170,7 @@ fn a_reader_that_fails_is_told(rt: HostRuntime) {
         let (rest, _) = FIRST_INCLUDE.split_at(len);
         let mut reader = FailingReader { rest };
         let mut written = Vec::new(rt.alloc());
-        let ended = run_case(rt.alloc(), &mut reader, &mut written, 4);
+        let ended = run_case(rt.alloc(), &mut reader, &mut written, 16, 4, &[]);
         assert!(rt; ended == Err(CaseFault::Read), "after {len} bytes");
         assert!(rt; written.is_empty(), "after {len} bytes");
     }
@@ -186,7 +186,7 @@ fn a_writer_that_fails_has_a_first_part(rt: HostRuntime) {
                 room,
                 fails,
             };
-            let ended = run_case(rt.alloc(), &mut reader, &mut writer, 4);
+            let ended = run_case(rt.alloc(), &mut reader, &mut writer, 16, 4, &[]);
             let (front, _) = FIRST_PRINTED.split_at(room);
             assert!(rt; ended == Err(CaseFault::Write), "after {room} bytes");
             assert!(rt; writer.taken.as_slice() == front, "after {room} bytes");

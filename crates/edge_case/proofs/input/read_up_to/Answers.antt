@@ -1,4 +1,4 @@
-use Rattle.std.proofs.Common.{◌+◌, arith}
+use Rattle.std.proofs.Common.{◌+◌, inl, inr, arith}
 use Rattle.std.proofs.KnownBytes.{Consumes-nil}
 use Rattle.edge_case.proofs.Takes.{takes_all, takes_more, moved, whole_input, longer_input}
 use Rattle.edge_case.proofs.input.read_up_to.Goals as goal
@@ -38,3 +38,11 @@ returns-clause-longer g c = λ long.
 pub returns-clause-at_most : goal.returns-clause-at_most
 returns-clause-at_most g c =
     takes_all (c.args.most + 1) _ _ c.loop-text.text.items (let len = c.loop-text.text.ok.0 in omega arith) c.loop-text.invariant.consumed
+
+pub returns-clause-through : goal.returns-clause-through
+returns-clause-through g c = inr (record { taken = c.loop-text.text.items; count = (let len = c.loop-text.text.ok.0 in let few = c.loop-text.invariant.few in omega arith); consumed = c.loop-text.invariant.consumed })
+
+pub returns-then-n-eq0-clause-through : goal.returns-then-n-eq0-clause-through
+returns-then-n-eq0-clause-through g c =
+    let m = c.in_ok-n.ensures.ok in
+    inl (m.end c.if-n-eq0.true (omega arith))
