@@ -76,9 +76,10 @@ fn assembled(rt: &HostRuntime, case: &[u8], levels: u8, times: &mut Times) -> io
 {
     let mut reader = case;
     let mut out = Vec::new(rt.alloc());
-    let ended = times
-        .running
-        .time(rt, || run_case(rt.alloc(), &mut reader, &mut out, 16, levels, &[]))?;
+    let ended = times.running.time(
+        rt,
+        || run_case(rt.alloc(), &mut reader, &mut out, 16, levels, &[]),
+    )?;
     times.printed = out.len();
     or_input_error(ended)
 }
