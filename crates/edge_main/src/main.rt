@@ -8,9 +8,6 @@ mod command_line;
 pub mod laws;
 mod program;
 mod status;
-#[cfg(test)]
-mod tests;
-
 use clap::error::ErrorKind;
 use program::run_words;
 use status::Status;

@@ -1,0 +1,5 @@
+//! The tests of `edge_case`.
+#![tactic(auto)]
+
+#[cfg(test)]
+mod tests;
