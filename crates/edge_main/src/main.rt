@@ -8,6 +8,7 @@ mod command_line;
 pub mod laws;
 mod program;
 mod status;
+
 use clap::error::ErrorKind;
 use program::run_words;
 use status::Status;
