@@ -198,6 +198,15 @@ impl Page {
         self.progress.steps
     }
 
+    /// How many answers are logged. Takes no memory.
+    ///
+    /// Our profile.
+    pub fn posted(&self) -> usize
+        ensures { result ≡ length self.now.board.filled }
+    {
+        self.board.filled().len()
+    }
+
     /// Lends the answer of this number, from 0, in order of posting; none past the last. They are a
     /// legal log: the first is the page's own, no URL has two, and each other's is one that a `src` or
     /// an `alt` stands for in the template of an earlier one. Takes no memory.
