@@ -1,0 +1,61 @@
+-- Workers may share a desk: what lies on it may cross threads.
+use denote.Param.Send.{IsSend, IsSync, sendable}
+use Rattle.std.proofs.Crossing
+use Rattle.std.proofs.MapsCrossing
+use Rattle.edge_types.proofs.page_url.PageUrl.TheSendSync as PageUrl
+use Rattle.edge_types.proofs.shared_answer.SharedAnswer.TheSendSync as SharedAnswer
+use Rattle.edge_types.proofs.shared_bytes.SharedBytes.TheSendSync as SharedBytes
+use Rattle.edge_types.proofs.request.Request.TheSendSync as Request
+use Rattle.esi_expr.proofs.expr.Negation.TheLaws.TheKnot
+use Rattle.esi_expr.proofs.expr.Operand.TheSendSync as Operand
+use Rattle.esi_tree.proofs.parts.Parts.TheSendSync as Parts
+use Rattle.plan_compiler.proofs.inline.Inline.TheSendSync as Inline
+use Rattle.plan_compiler.proofs.inline_urls.InlineUrls.TheSendSync as InlineUrls
+use Rattle.plan_compiler.specs.contracts.prepared.Prepared as prepared
+use Rattle.answer_board.specs.contracts.board.Board as board
+use Rattle.plan_runner.proofs.advance.Progress.TheSendSync as Progress
+use Rattle.plan_runner.proofs.page.Stage.TheSendSync as Stage
+use Rattle.plan_runner.specs.contracts.page.Page as page
+use Rattle.fetch_workers.proofs.desk.SetAside.TheSendSync as SetAside
+use Rattle.fetch_workers.specs.contracts.desk.Desk as desk
+use Rattle.fetch_workers.specs.contracts.shared_desk.SharedDesk as shared_desk
+
+prepared_send : IsSend prepared.the_row
+prepared_send = search (
+  SharedAnswer.the_send,
+  SharedAnswer.the_sync,
+  SharedBytes.the_send,
+  SharedBytes.the_sync,
+  Parts.the_send,
+  Parts.the_sync,
+  Inline.the_send,
+  Inline.the_sync,
+  InlineUrls.the_field_send,
+  InlineUrls.the_field_sync,
+  Operand.the_field_send,
+  Operand.the_field_sync,
+  MapsCrossing.crosses,
+  Crossing.crosses,
+  TheKnot.crosses,
+  sendable,
+) depth 60 fits 20000
+
+board_send : IsSend board.the_row
+board_send = search (PageUrl.the_send, prepared_send, MapsCrossing.crosses, Crossing.crosses, sendable) depth 60 fits 20000
+
+page_send : IsSend page.the_row
+page_send = search (
+  PageUrl.the_send,
+  Request.the_field_send,
+  board_send,
+  Progress.the_field_send,
+  Stage.the_field_send,
+  Crossing.crosses,
+  sendable,
+) depth 60 fits 20000
+
+desk_send : IsSend desk.the_row
+desk_send = search (page_send, SetAside.the_send, Crossing.crosses, sendable) depth 60 fits 20000
+
+pub shared_desk_sync : IsSync shared_desk.the_row
+shared_desk_sync = search (desk_send, Crossing.crosses, sendable) depth 60 fits 20000

@@ -1,0 +1,4 @@
+pub mod Replies
+pub mod Filled
+pub mod Given
+pub mod Crossings

@@ -1,0 +1,21 @@
+-- What an assembled page rests on.
+use Rattle.std.specs.Prelude.{◌≡◌, ◌≤◌, ℕ, List}
+use Rattle.edge_types.specs.declared.request.Request.{Request}
+use Rattle.edge_types.specs.Answered.{Answered}
+use Rattle.edge_types.specs.Outcome.{Shown}
+use Rattle.edge_types.specs.Table.{Agrees}
+use Rattle.esi_meaning.specs.Meaning.{outcome}
+use Rattle.esi_meaning.specs.State.{Done, state}
+use Rattle.fetch_workers.specs.declared.assembler.TheConstants.{MAX_WORKERS}
+
+-- how many threads may work for a page
+pub record AreWorkers (workers : ℕ) : Type 0 where
+  pub some : 1 ≤ workers
+  pub few : workers ≤ MAX_WORKERS
+
+-- the page at this URL, for this request and at these levels, has this outcome
+pub record RestsOn (request : Request) (levels : ℕ) (url : List ℕ) (log : List Answered) (result : Shown) : Type 0 where
+  -- over the logged answers alone: each URL that is asked for the page is logged
+  pub alone : state request log levels url ≡ Done result
+  -- over every table that agrees with them, whatever else it has
+  pub over_every_table : (table : List Answered) → Agrees log table → outcome request table levels url ≡ result

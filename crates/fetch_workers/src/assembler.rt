@@ -1,0 +1,138 @@
+//! Pages that are assembled by several threads.
+
+ghost use Rattle.std.specs.Prelude.{◌≡◌, ◌≤◌, map, IfOk, IsTrue};
+ghost use Rattle.std.specs.Arc.{arc_value};
+ghost use Rattle.edge_types.specs.Outcome.{shown};
+ghost use Rattle.esi_meaning.specs.Meaning.{AreLevels};
+ghost use Rattle.answer_board.specs.Board.{log_of};
+ghost use Rattle.fetch_workers.specs.declared.log.Own.{Own};
+ghost use Rattle.fetch_workers.specs.Given.{AllGiven};
+ghost use Rattle.fetch_workers.specs.Rests.{AreWorkers, RestsOn};
+
+use crate::crew::run_workers;
+use crate::fault::AssembleFault;
+use crate::gate::{Gate, OpenGate};
+use crate::log::{Own, answers_of, is_log_of};
+use crate::same::same_request;
+use crate::shared_desk::SharedDesk;
+use crate::source::Source;
+use edge_types::{Answer, Outcome, PageUrl, Request};
+use plan_runner::{MAX_AHEAD, Page, State};
+use std::alloc::Global;
+use std::sync::{Arc, Wait};
+use std::thread::Threads;
+
+/// The most threads that may work for a page, the calling one among them.
+///
+/// Our profile.
+pub const MAX_WORKERS: u8 = 16;
+
+/// An outcome, and what it rests on.
+#[derive(Drop)]
+pub struct Assembled {
+    /// What the page comes to.
+    pub outcome: Arc<Outcome>,
+    /// The answers that were posted, in order of posting.
+    pub log: Vec<Arc<Answer>>,
+}
+
+/// Assembles a page by at most `workers` threads, the calling one among them. The others are started
+/// only while answers have to be waited for; all have been joined whatever is answered.
+///
+/// `ahead` is how many slots posts may open ahead, at most `MAX_AHEAD`. A fetch that is in flight
+/// when the page is done is waited for, and its answer is logged.
+///
+/// Our profile.
+pub fn assemble<R, S>(
+    rt: &R,
+    alloc: Global,
+    source: &S,
+    url: PageUrl,
+    request: Request,
+    ahead: u16,
+    workers: u8,
+    levels: u8,
+) -> Result<Assembled, AssembleFault>
+where
+    R: Wait + Threads + Sync,
+    S: Source<R> + Sync,
+    requires ahead { ahead ≤ MAX_AHEAD }
+    requires workers { AreWorkers workers }
+    requires levels { AreLevels levels }
+    ensures given { IfOk result (λ page. AllGiven (S.gives source.now) (map arc_value page.log.items)) }
+    ensures outcome { IfOk result (λ page. RestsOn request levels url (map arc_value page.log.items) (shown (arc_value page.outcome))) }
+{
+    assemble_gated(
+        rt, alloc, source, &OpenGate, url, request, ahead, workers, levels,
+    )
+}
+
+/// The same, with a gate that is passed before each fetch.
+///
+/// Our profile.
+pub fn assemble_gated<R, S, G>(
+    rt: &R,
+    alloc: Global,
+    source: &S,
+    gate: &G,
+    url: PageUrl,
+    request: Request,
+    ahead: u16,
+    workers: u8,
+    levels: u8,
+) -> Result<Assembled, AssembleFault>
+where
+    R: Wait + Threads + Sync,
+    S: Source<R> + Sync,
+    G: Gate<R> + Sync,
+    requires ahead { ahead ≤ MAX_AHEAD }
+    requires workers { AreWorkers workers }
+    requires levels { AreLevels levels }
+    ensures given { IfOk result (λ page. AllGiven (S.gives source.now) (map arc_value page.log.items)) }
+    ensures outcome { IfOk result (λ page. RestsOn request levels url (map arc_value page.log.items) (shown (arc_value page.outcome))) }
+{
+    let page = Page::accept(alloc, url.share()?, request.copy(alloc)?, ahead, levels)?;
+    let shared = SharedDesk::new(alloc, page, workers);
+    let mut own = run_workers(rt, alloc, source, gate, &shared, workers)?;
+    own.sort_unstable_by_key(|o| o.place);
+    compared(alloc, shared.into_page(), own, &url, &request, levels)
+}
+
+// The page that was worked for, where it is done, it is the one that was asked for, and its log has
+// the workers' own answers, each once and in this order.
+fn compared(
+    alloc: Global,
+    mut page: Page,
+    own: Vec<Own>,
+    url: &PageUrl,
+    request: &Request,
+    levels: u8,
+) -> Result<Assembled, AssembleFault>
+    ensures own { IfOk result (λ page. map arc_value page.log.items ≡ map (λ (o : Own). o.answer) own.items) }
+    ensures outcome { IfOk result (λ page. RestsOn request.now levels url.now (map arc_value page.log.items) (shown (arc_value page.outcome))) }
+{
+    let outcome = told(&mut page)?;
+    if !is_asked_for(&page, url, request, levels) || !is_log_of(&page, own.as_slice()) {
+        return Err(AssembleFault::Torn);
+    }
+    let log = answers_of(alloc, own)?;
+    Ok(Assembled { outcome, log })
+}
+
+// The outcome of a page that is done.
+fn told(page: &mut Page) -> Result<Arc<Outcome>, AssembleFault>
+    ensures { IfOk result (λ outcome. RestsOn page.new.request page.new.levels page.new.url (log_of page.new.board) (shown (arc_value outcome))) }
+{
+    match page.advance() {
+        Ok(State::Done(outcome)) => Ok(outcome),
+        Ok(State::Waiting(_)) => Err(AssembleFault::Torn),
+        Err(_) => Err(AssembleFault::NoMemory),
+    }
+}
+
+// Whether it is the page at this URL, for this request and at these levels.
+fn is_asked_for(page: &Page, url: &PageUrl, request: &Request, levels: u8) -> bool
+    ensures { IsTrue result → (page.now.url ≡ url.now) × (page.now.request ≡ request.now) × (page.now.levels ≡ levels) }
+{
+    page.url() == url && same_request(page.request(), request) && page.levels() == levels
+}

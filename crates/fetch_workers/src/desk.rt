@@ -1,0 +1,192 @@
+//! What lies under a page's lock, and every decision about it.
+
+ghost use Rattle.std.specs.Prelude.{◌≡◌, ◌+◌, ◌<◌, ◌≤◌, MatchBool};
+
+use crate::fault::AssembleFault;
+use answer_board::{Receipt, Ticket};
+use edge_types::NoMemory;
+use plan_runner::{Page, PostFault, State};
+use std::alloc::Global;
+use std::collections::VecDeque;
+
+// A ticket whose answer has to be waited for, and that nobody fetches yet. It is given up with the
+// desk.
+struct SetAside {
+    ticket: Ticket,
+}
+
+impl Drop for SetAside {
+    fn drop(self) {
+        self.into_ticket().give_up();
+    }
+}
+
+impl SetAside {
+    fn into_ticket(self) -> Ticket {
+        let SetAside { ticket } = self;
+        ticket
+    }
+}
+
+/// A page, and how its workers share the work.
+#[derive(Drop)]
+pub(crate) struct Desk {
+    page: Page,
+    // An answer came in since the page was last taken on.
+    news: bool,
+    aside: VecDeque<SetAside>,
+    // How many threads work for the page, and how many may.
+    threads: u8,
+    limit: u8,
+    asleep: u8,
+    // The work has ended: the page is done, or somebody can't go on. It is no event of the page.
+    ended: bool,
+    ghost few: { threads ≤ limit },
+}
+
+/// What a worker does next.
+pub(crate) enum Turn {
+    /// To look whether the answer is ready.
+    Prepare(Ticket),
+    Fetch(Ticket),
+    /// To start one more worker, and then to fetch.
+    StartAndFetch(Ticket),
+    Sleep,
+    End,
+    NoMemory,
+}
+
+impl Desk {
+    pub(crate) fn new(alloc: Global, page: Page, workers: u8) -> Desk
+        requires { 0 < workers }
+    {
+        Desk {
+            page,
+            news: true,
+            aside: VecDeque::new(alloc),
+            threads: 1,
+            limit: workers,
+            asleep: 0,
+            ended: false,
+        }
+    }
+
+    /// What a worker does next. A ticket that was set aside is handed out once no slot is unclaimed.
+    pub(crate) fn turn(&mut self) -> Turn {
+        if self.ended {
+            return Turn::End;
+        }
+        match self.advance() {
+            Ok(false) => {}
+            Ok(true) => return Turn::End,
+            Err(NoMemory) => return Turn::NoMemory,
+        }
+        if let Some(ticket) = self.page.claim() {
+            return Turn::Prepare(ticket);
+        }
+        match self.aside.pop_front() {
+            None => Turn::Sleep,
+            Some(aside) => self.hand_out(aside.into_ticket()),
+        }
+    }
+
+    // Takes the page on where an answer came in. `true`: it is done, and the work has ended; so it
+    // has where there is no memory.
+    fn advance(&mut self) -> Result<bool, NoMemory> {
+        if !self.news {
+            return Ok(false);
+        }
+        self.news = false;
+        let advanced = match self.page.advance() {
+            Ok(State::Waiting(_)) => return Ok(false),
+            Ok(State::Done(_)) => Ok(true),
+            Err(_) => Err(NoMemory),
+        };
+        self.ended = true;
+        advanced
+    }
+
+    fn hand_out(&mut self, ticket: Ticket) -> Turn {
+        if self.take_place() {
+            Turn::StartAndFetch(ticket)
+        } else {
+            Turn::Fetch(ticket)
+        }
+    }
+
+    // Counts one more thread, if it would find something to fetch and may be started.
+    fn take_place(&mut self) -> bool
+        ensures { MatchBool result (self.new.threads ≡ self.old.threads + 1) (self.new.threads ≡ self.old.threads) }
+    {
+        if self.aside.is_empty() || self.asleep > 0 || self.threads >= self.limit {
+            return false;
+        }
+        self.threads += 1;
+        true
+    }
+
+    /// Keeps a ticket until all others are looked at.
+    pub(crate) fn set_aside(&mut self, ticket: Ticket) -> Result<(), NoMemory> {
+        self.aside.push_back(SetAside { ticket })?;
+        Ok(())
+    }
+
+    /// Posts an answer, and tells its place in the log. Where the page refuses it the work has ended.
+    pub(crate) fn post(&mut self, receipt: Receipt) -> Result<usize, AssembleFault> {
+        let place = self.page.posted();
+        match self.page.post(receipt) {
+            Ok(()) => {
+                self.news = true;
+                Ok(place)
+            }
+            Err(fault) => {
+                self.ended = true;
+                Err(refused(fault))
+            }
+        }
+    }
+
+    pub(crate) fn falls_asleep(&mut self) {
+        self.asleep = self.asleep.saturating_add(1);
+    }
+
+    pub(crate) fn wakes(&mut self) {
+        self.asleep = self.asleep.saturating_sub(1);
+    }
+
+    pub(crate) fn end(&mut self) {
+        self.ended = true;
+    }
+
+    /// The page, without those who worked for it.
+    pub(crate) fn into_page(self) -> Page {
+        let Desk {
+            page,
+            news: _,
+            aside: _,
+            threads: _,
+            limit: _,
+            asleep: _,
+            ended: _,
+        } = self;
+        page
+    }
+}
+
+// What a page's refusal comes to. Only another page than the one whose ticket it was refuses a
+// receipt.
+fn refused(fault: PostFault) -> AssembleFault {
+    match fault {
+        PostFault::NoMemory => AssembleFault::NoMemory,
+        PostFault::Broken(receipt) => {
+            receipt.give_up();
+            AssembleFault::NoMemory
+        }
+        PostFault::Stranger(receipt)
+        | PostFault::NotClaimed(receipt)
+        | PostFault::Filled(receipt) => {
+            receipt.give_up();
+            AssembleFault::Torn
+        }
+    }
+}

@@ -1,0 +1,22 @@
+//! What follows from the contract of `assemble`: each is the contract of a function that does
+//! nothing.
+
+ghost use Rattle.std.specs.Prelude.{◌≡◌};
+ghost use Rattle.fetch_workers.specs.Laws.{TablesGiveThePage};
+
+use crate::assembler::MAX_WORKERS;
+
+/// Over a `TableSource` a page has the outcome that `plain_page` answers over its table, for every
+/// number of workers and every number of slots ahead. Takes no memory.
+///
+/// Our profile.
+pub fn tables_give_the_page()
+    ensures { TablesGiveThePage }
+{}
+
+/// At most 16 threads work for a page. Takes no memory.
+///
+/// Our profile.
+pub fn limit_of_workers()
+    ensures { MAX_WORKERS ≡ 16 }
+{}

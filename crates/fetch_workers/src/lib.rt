@@ -1,0 +1,22 @@
+//! Pages that several threads assemble. What is asked for an answer is a `Source`; `assemble` makes
+//! of its answers the page that one thread would make.
+#![tactic(auto)]
+
+mod assembler;
+mod crew;
+mod desk;
+mod fault;
+mod gate;
+pub mod laws;
+mod log;
+mod same;
+mod shared_desk;
+mod source;
+mod table_source;
+mod worker;
+
+pub use assembler::{Assembled, MAX_WORKERS, assemble, assemble_gated};
+pub use fault::AssembleFault;
+pub use gate::{Gate, OpenGate};
+pub use source::Source;
+pub use table_source::TableSource;

@@ -1,0 +1,47 @@
+//! What workers posted, beside the log of the page.
+
+ghost use Rattle.std.specs.Prelude.{◌≡◌, map, IsTrue, IfOk};
+ghost use Rattle.std.specs.Arc.{arc_value};
+ghost use Rattle.answer_board.specs.Board.{log_of};
+ghost use Rattle.fetch_workers.specs.declared.log.Own.{Own};
+
+use crate::same::same_answer;
+use edge_types::{Answer, NoMemory, SharedAnswer};
+use plan_runner::Page;
+use std::alloc::Global;
+use std::sync::Arc;
+
+// An answer that a worker posted, and its place in the page's log.
+#[derive(Drop)]
+pub(crate) struct Own {
+    pub(crate) place: usize,
+    pub(crate) answer: SharedAnswer,
+}
+
+// Whether these answers, in this order, are the page's log: each once, and no other.
+pub(crate) fn is_log_of(page: &Page, own: &[Own]) -> bool
+    ensures { IsTrue result → map (λ (o : Own). o.answer) own.now ≡ log_of page.now.board }
+{
+    if page.posted() != own.len() {
+        return false;
+    }
+    for i in 0..own.len() {
+        match page.logged(i) {
+            Some(answer) if same_answer(answer, own[i].answer.get()) => {}
+            _ => return false,
+        }
+    }
+    true
+}
+
+// The answers alone, in their order.
+pub(crate) fn answers_of(alloc: Global, own: Vec<Own>) -> Result<Vec<Arc<Answer>>, NoMemory>
+    ensures { IfOk result (λ log. map arc_value log.items ≡ map (λ (o : Own). o.answer) own.items) }
+{
+    let mut log = Vec::with_capacity(alloc, own.len())?;
+    for one in own {
+        let Own { place: _, answer } = one;
+        log.push(answer.into_arc())?;
+    }
+    Ok(log)
+}

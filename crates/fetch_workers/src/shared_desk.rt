@@ -1,0 +1,90 @@
+//! A desk under its lock. Each call locks, makes one decision of the desk and unlocks; nothing is
+//! fetched, made ready or copied under the lock.
+
+ghost use Rattle.std.specs.Prelude.{◌<◌};
+
+use crate::desk::{Desk, Turn};
+use crate::fault::AssembleFault;
+use answer_board::{Receipt, Ticket};
+use edge_types::NoMemory;
+use plan_runner::Page;
+use std::alloc::Global;
+use std::sync::{Condvar, Mutex, Wait};
+
+/// What the workers of a page share, under the runtime that they wait by.
+pub(crate) trait Shared<R> {
+    /// Ends the work of all.
+    fn end(&self, rt: &R);
+
+    /// Waits until there is something to do.
+    fn next_turn(&self, rt: &R) -> Turn;
+
+    /// Posts an answer, and tells its place in the log.
+    fn post(&self, rt: &R, receipt: Receipt) -> Result<usize, AssembleFault>;
+
+    /// Leaves a ticket to whoever has nothing else to do.
+    fn set_aside(&self, rt: &R, ticket: Ticket) -> Result<(), NoMemory>;
+}
+
+#[derive(Drop)]
+pub(crate) struct SharedDesk {
+    desk: Mutex<Desk>,
+    // Something on the desk has changed.
+    moved: Condvar,
+}
+
+impl SharedDesk {
+    pub(crate) fn new(alloc: Global, page: Page, workers: u8) -> SharedDesk
+        requires { 0 < workers }
+    {
+        SharedDesk {
+            desk: Mutex::new(Desk::new(alloc, page, workers)),
+            moved: Condvar::new(),
+        }
+    }
+
+    /// The page, once nobody works for it.
+    pub(crate) fn into_page(self) -> Page {
+        let SharedDesk { desk, moved: _ } = self;
+        desk.into_inner().into_page()
+    }
+}
+
+impl<R: Wait> Shared<R> for SharedDesk {
+    fn end(&self, rt: &R) {
+        self.desk.lock(rt).end();
+        self.moved.notify_all();
+    }
+
+    fn next_turn(&self, rt: &R) -> Turn {
+        let mut desk = self.desk.lock(rt);
+        for _ in rt.forever() {
+            match desk.turn() {
+                Turn::Sleep => {
+                    desk.falls_asleep();
+                    desk = self.moved.wait(rt, desk);
+                    desk.wakes();
+                }
+                Turn::End => {
+                    drop(desk);
+                    self.moved.notify_all();
+                    return Turn::End;
+                }
+                other => return other,
+            }
+        }
+        unreachable!()
+    }
+
+    fn post(&self, rt: &R, receipt: Receipt) -> Result<usize, AssembleFault> {
+        let posted = self.desk.lock(rt).post(receipt);
+        self.moved.notify_all();
+        posted
+    }
+
+    fn set_aside(&self, rt: &R, ticket: Ticket) -> Result<(), NoMemory> {
+        let kept = self.desk.lock(rt).set_aside(ticket);
+        self.moved.notify_one();
+        kept
+    }
+}

@@ -1,0 +1,36 @@
+//! What gives answers.
+
+ghost use Rattle.std.specs.Prelude.{◌≡◌, ℕ, List, IfOk, IfSome};
+ghost use Rattle.std.specs.Arc.{arc_value};
+ghost use Rattle.edge_types.specs.Answered.{Answered};
+
+use edge_types::{Answer, NoMemory, PageUrl};
+use std::alloc::Global;
+use std::sync::Arc;
+
+/// What gives the answers of URLs, to any number of threads at once. An implementation takes of its
+/// runtime what it needs.
+///
+/// `gives` says which answers it may give for a URL: at least, that they name the URL.
+pub trait Source<R> {
+    ghost gives: { Self → List ℕ → Answered → Type 0 };
+
+    /// Asks for the answer of a URL, and waits for it. What can't be had is a failed answer;
+    /// `NoMemory` where a growth is refused.
+    fn fetch(&self, rt: &R, alloc: Global, url: &PageUrl) -> Result<Arc<Answer>, NoMemory>
+        ensures { IfOk result (λ answer. gives self.now url.now (arc_value answer)) };
+
+    /// The answer of a URL, where it can be had without waiting; by itself a source has none.
+    fn ready(
+        &self,
+        _rt: &R,
+        _alloc: Global,
+        _url: &PageUrl,
+    ) -> Result<Option<Arc<Answer>>, NoMemory>
+        ensures { IfOk result (λ found. IfSome found (λ answer. gives self.now _url.now (arc_value answer))) }
+    {
+        Ok(None)
+    }
+
+    ghost names_url: { (source : Self) (url : List ℕ) (answer : Answered) → gives source url answer → answer.url ≡ url };
+}

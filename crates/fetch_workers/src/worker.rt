@@ -1,0 +1,155 @@
+//! What a worker does by itself: it looks for answers that are ready, fetches, and posts. It keeps
+//! an owner of each answer that it posted.
+
+ghost use Rattle.std.specs.Prelude.{◌≡◌, ◌<◌, IfOk, OnOk, OnSome};
+ghost use Rattle.std.specs.Arc.{arc_value};
+ghost use Rattle.fetch_workers.specs.Given.{AllOwn};
+
+use crate::desk::Turn;
+use crate::fault::AssembleFault;
+use crate::gate::Gate;
+use crate::log::Own;
+use crate::shared_desk::Shared;
+use crate::source::Source;
+use answer_board::{Receipt, Ticket};
+use edge_types::{Answer, NoMemory, SharedAnswer};
+use plan_compiler::Prepared;
+use std::alloc::Global;
+use std::sync::{Arc, Wait};
+
+// The receipt of a ticket and the answer of its URL, made ready, and one owner more of the answer.
+// Where there is no memory the ticket is given up.
+fn receipt_of(
+    alloc: Global,
+    ticket: Ticket,
+    answer: Arc<Answer>,
+) -> Result<(Receipt, SharedAnswer), NoMemory>
+    requires { (arc_value answer).url ≡ ticket.url }
+    ensures { IfOk result (λ (receipt, own). own ≡ arc_value answer) }
+{
+    let (own, prepared) = match made_ready(alloc, answer) {
+        Ok(made) => made,
+        Err(NoMemory) => {
+            ticket.give_up();
+            return Err(NoMemory);
+        }
+    };
+    match ticket.answered(prepared) {
+        Ok(receipt) => Ok((receipt, own)),
+        Err((ticket, _)) => {
+            ticket.give_up();
+            Err(NoMemory)
+        }
+    }
+}
+
+fn made_ready(alloc: Global, answer: Arc<Answer>) -> Result<(SharedAnswer, Prepared), NoMemory>
+    ensures { IfOk result (λ (own, prepared). (own ≡ arc_value answer) × (prepared ≡ arc_value answer)) }
+{
+    let own = SharedAnswer::of(Arc::try_clone(&answer)?);
+    Ok((own, Prepared::of(alloc, answer)?))
+}
+
+// Posts the answer of a ticket, and keeps one owner of it.
+fn post<R: Wait, S: Source<R>, D: Shared<R>>(
+    rt: &R,
+    alloc: Global,
+    _source: &S,
+    shared: &D,
+    ticket: Ticket,
+    answer: Arc<Answer>,
+    mine: &mut Vec<Own>,
+) -> Result<(), AssembleFault>
+    requires mine { AllOwn (S.gives _source.now) mine.old.items }
+    requires answer { S.gives _source.now ticket.url (arc_value answer) }
+    ensures { OnOk result (AllOwn (S.gives _source.now) mine.new.items) }
+{
+    let (receipt, own) = receipt_of(alloc, ticket, answer)?;
+    let place = shared.post(rt, receipt)?;
+    match mine.push(Own { place, answer: own }) {
+        Ok(()) => Ok(()),
+        Err(_) => Err(AssembleFault::NoMemory),
+    }
+}
+
+// Posts the answer of a ticket where the source has it ready, and else sets the ticket aside.
+fn prepare<R: Wait, S: Source<R>, D: Shared<R>>(
+    rt: &R,
+    alloc: Global,
+    source: &S,
+    shared: &D,
+    ticket: Ticket,
+    mine: &mut Vec<Own>,
+) -> Result<(), AssembleFault>
+    requires { AllOwn (S.gives source.now) mine.old.items }
+    ensures { OnOk result (AllOwn (S.gives source.now) mine.new.items) }
+{
+    match source.ready(rt, alloc, ticket.url()) {
+        Ok(Some(answer)) => post(rt, alloc, source, shared, ticket, answer, mine),
+        Ok(None) => {
+            shared.set_aside(rt, ticket)?;
+            Ok(())
+        }
+        Err(NoMemory) => {
+            ticket.give_up();
+            Err(AssembleFault::NoMemory)
+        }
+    }
+}
+
+// Fetches once, and posts the answer. The worker has room for it before it fetches.
+pub(crate) fn fetch_one<R: Wait, S: Source<R>, G: Gate<R>, D: Shared<R>>(
+    rt: &R,
+    alloc: Global,
+    source: &S,
+    gate: &G,
+    shared: &D,
+    ticket: Ticket,
+    mine: &mut Vec<Own>,
+) -> Result<(), AssembleFault>
+    requires { AllOwn (S.gives source.now) mine.old.items }
+    ensures { OnOk result (AllOwn (S.gives source.now) mine.new.items) }
+{
+    if mine.reserve(1).is_err() {
+        ticket.give_up();
+        return Err(AssembleFault::NoMemory);
+    }
+    gate.before_fetch(rt, ticket.url());
+    match source.fetch(rt, alloc, ticket.url()) {
+        Ok(answer) => post(rt, alloc, source, shared, ticket, answer, mine),
+        Err(NoMemory) => {
+            ticket.give_up();
+            Err(AssembleFault::NoMemory)
+        }
+    }
+}
+
+// Works until the work has ended, or until one more worker is to be started before a ticket is
+// fetched.
+pub(crate) fn work<R: Wait, S: Source<R>, G: Gate<R>, D: Shared<R>>(
+    rt: &R,
+    alloc: Global,
+    source: &S,
+    gate: &G,
+    shared: &D,
+    others: u8,
+    mine: &mut Vec<Own>,
+) -> Result<Option<Ticket>, AssembleFault>
+    requires { AllOwn (S.gives source.now) mine.old.items }
+    ensures given { OnOk result (AllOwn (S.gives source.now) mine.new.items) }
+    ensures others { IfOk result (λ found. OnSome found (0 < others)) }
+{
+    for _ in rt.forever() {
+        match shared.next_turn(rt) {
+            Turn::End => return Ok(None),
+            Turn::NoMemory => return Err(AssembleFault::NoMemory),
+            Turn::Sleep => {}
+            Turn::Prepare(ticket) => prepare(rt, alloc, source, shared, ticket, mine)?,
+            Turn::StartAndFetch(ticket) if others > 0 => return Ok(Some(ticket)),
+            Turn::StartAndFetch(ticket) | Turn::Fetch(ticket) => {
+                fetch_one(rt, alloc, source, gate, shared, ticket, mine)?;
+            }
+        }
+    }
+    unreachable!()
+}

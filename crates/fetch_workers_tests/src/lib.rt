@@ -1,0 +1,5 @@
+//! The tests of `fetch_workers`.
+#![tactic(auto)]
+
+#[cfg(test)]
+mod tests;
