@@ -5,3 +5,4 @@ pub mod RunLemmas
 pub mod Complete
 pub mod Sound
 pub mod Parted
+pub mod Trimmed

@@ -6,3 +6,4 @@ pub mod Control
 pub mod Found
 pub mod Spelling
 pub mod Parting
+pub mod Trimming

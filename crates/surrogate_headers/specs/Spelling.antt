@@ -96,5 +96,5 @@ pub record Spells (part : List ℕ) (directive : Directive) : Type 0 where
 
 -- What is read is spelled so, and what is spelled so is read.
 pub record ReadsDirectives : Type 0 where
-  pub sound : (part : List ℕ) (d : Directive) → directive_of part ≡ Some d → Spells part d
-  pub complete : (part : List ℕ) (d : Directive) → Spells part d → directive_of part ≡ Some d
+  pub sound : (part : List ℕ) (directive : Directive) → directive_of part ≡ Some directive → Spells part directive
+  pub complete : (part : List ℕ) (directive : Directive) → Spells part directive → directive_of part ≡ Some directive
