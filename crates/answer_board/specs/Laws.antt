@@ -8,7 +8,7 @@ use Rattle.answer_board.specs.Sound.{IsBoard}
 
 -- In every run of a new board each call follows from the earlier ones, the slots are those that were opened, in order, each filled with the answer of the one receipt that was taken for it, and the log has these answers in order.
 abbrev pub BoardLaw : Type 0
-BoardLaw = (history : History) (b : State) → Run history b → Keeps history × (urls b.slots ≡ opened_in history) × ((n : ℕ) → answer_at b.slots n ≡ filled_in history n) × (log_of b ≡ log_in history)
+BoardLaw = (history : History) (board : State) → Run history board → Keeps history × (urls board.slots ≡ opened_in history) × ((number : ℕ) → answer_at board.slots number ≡ filled_in history number) × (log_of board ≡ log_in history)
 
 -- Receipts of another board: one that is taken fills the slot of its very number and URL.
 abbrev pub StrangersStayOut : Type 0
@@ -16,7 +16,7 @@ StrangersStayOut = (old new : State) (receipt : Receipt) → Step old (TookRecei
 
 -- a slot of this URL and depth has this number
 abbrev pub HasSlot : State → ℕ → List ℕ → ℕ → Type 0
-HasSlot b number url depth = (s : Slot) × (slice_get b.slots number ≡ Some s) × (s.url ≡ url) × (s.depth ≡ depth)
+HasSlot board number url depth = (slot : Slot) × (slice_get board.slots number ≡ Some slot) × (slot.url ≡ url) × (slot.depth ≡ depth)
 
 -- what a board tells, it tells after one call more
 pub record Stays (old new : State) : Type 0 where
@@ -31,13 +31,13 @@ abbrev pub SlotsStay : Type 0
 SlotsStay = (old new : State) (event : Event) → Step old event new → Stays old new
 
 -- the log, taken for a table
-pub record IsLookedUp (b : State) : Type 0 where
+pub record IsLookedUp (board : State) : Type 0 where
   -- no URL is logged twice
-  pub once : IsTable (log_of b)
+  pub once : IsTable (log_of board)
   -- what the log answers of a URL is what the slot of that URL is filled with
-  pub answers : (url : List ℕ) → answer_of (log_of b) url ≡ option_and_then (answer_at b.slots) (number_of b.slots url)
+  pub answers : (url : List ℕ) → answer_of (log_of board) url ≡ option_and_then (answer_at board.slots) (number_of board.slots url)
   -- a receipt that is taken is of a URL that isn't logged
-  pub fresh : (receipt : Receipt) → fill_fault b.slots receipt ≡ None → answer_of (log_of b) receipt.answer.url ≡ None
+  pub fresh : (receipt : Receipt) → fill_fault board.slots receipt ≡ None → answer_of (log_of board) receipt.answer.url ≡ None
 
 abbrev pub LogIsLookedUp : Type 0
-LogIsLookedUp = (b : State) → IsBoard b → IsLookedUp b
+LogIsLookedUp = (board : State) → IsBoard board → IsLookedUp board

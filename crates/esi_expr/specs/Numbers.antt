@@ -1,5 +1,6 @@
 -- Texts that are numbers, and which number each is.
 use Rattle.std.specs.Prelude.{ℕ, ℤ, pos, neg_ℤ, Bool, true, false, ◌&&◌, ◌==◌, nat_lt, nat_le, List, [], ◌∷◌, length, Option, Some, None, if◌then◌else◌}
+use Rattle.std.specs.Str.{byte}
 use Rattle.std.specs.List.{list_all}
 use Rattle.std.specs.Char.{is_ascii_digit}
 use Rattle.std.specs.Str.Parse.{digits_value}
@@ -16,12 +17,12 @@ are_digits digits = is_digit_count (length digits) && list_all is_ascii_digit di
 -- whether a minus stands at the front
 abbrev pub is_negative : List ℕ → Bool
 is_negative [] = false
-is_negative (b ∷ bs) = b == 45
+is_negative (b ∷ bs) = b == byte "-"
 
 -- what follows the minus, where one stands at the front
 abbrev pub after_minus : List ℕ → List ℕ
 after_minus [] = []
-after_minus (b ∷ bs) = if b == 45 then bs else b ∷ bs
+after_minus (b ∷ bs) = if b == byte "-" then bs else b ∷ bs
 
 -- an optional minus and 1 to 18 digits
 abbrev pub is_number : List ℕ → Bool

@@ -1,5 +1,6 @@
 -- A test, read from the left of a text.
 use Rattle.std.specs.Prelude.{ℕ, zero, suc, ◌==◌, List, [], ◌∷◌, ◌++◌, length, take, drop, codes, Option, Some, None, if◌then◌else◌}
+use Rattle.std.specs.Str.{byte}
 use Rattle.std.specs.Char.{is_ascii_digit}
 use Rattle.std.specs.List.{prefix_len}
 use Rattle.esi_vars.specs.declared.reference.Reference.{Reference}
@@ -25,24 +26,24 @@ after_sign sign text = after_byte sign (after_ws text)
 -- a comparison of this byte and `=`
 abbrev pub paired : ℕ → List ℕ → Option (Comparison × List ℕ)
 paired b bs =
-    if b == 61 then Some (comparison.EqualTo, bs)
-    else (if b == 33 then Some (comparison.Unequal, bs)
-    else (if b == 60 then Some (comparison.AtMost, bs)
-    else (if b == 62 then Some (comparison.AtLeast, bs)
+    if b == byte "=" then Some (comparison.EqualTo, bs)
+    else (if b == byte "!" then Some (comparison.Unequal, bs)
+    else (if b == byte "<" then Some (comparison.AtMost, bs)
+    else (if b == byte ">" then Some (comparison.AtLeast, bs)
     else None)))
 
 -- a comparison of this byte alone
 abbrev pub alone : ℕ → List ℕ → Option (Comparison × List ℕ)
 alone b bs =
-    if b == 60 then Some (comparison.Below, bs)
-    else (if b == 62 then Some (comparison.Above, bs)
+    if b == byte "<" then Some (comparison.Below, bs)
+    else (if b == byte ">" then Some (comparison.Above, bs)
     else None)
 
 -- the longest comparison at the front
 abbrev pub symbol_at : List ℕ → Option (Comparison × List ℕ)
 symbol_at [] = None
 symbol_at (b ∷ []) = alone b []
-symbol_at (b ∷ c ∷ cs) = if c == 61 then paired b cs else alone b (c ∷ cs)
+symbol_at (b ∷ c ∷ cs) = if c == byte "=" then paired b cs else alone b (c ∷ cs)
 
 -- the same, which white space may stand before
 unfoldable pub comparison_at : List ℕ → Option (Comparison × List ℕ)
@@ -72,9 +73,9 @@ numbered sign (Some found) = Some (operand.Number (sign ++ found.0), found.1)
 -- the operand at the front of a text, by the first byte, which tells its kind, and what follows that byte
 abbrev pub operand_by : ℕ → List ℕ → List ℕ → Option (Operand × List ℕ)
 operand_by b bs text =
-    if b == 36 then referred (reference_at text)
-    else (if b == 39 then quoted (cut_at 39 bs)
-    else (if b == 45 then numbered (codes "-") (digits_at bs)
+    if b == byte "$" then referred (reference_at text)
+    else (if b == byte "'" then quoted (cut_at (byte "'") bs)
+    else (if b == byte "-" then numbered (codes "-") (digits_at bs)
     else numbered [] (digits_at text)))
 
 abbrev pub operand_in : List ℕ → Option (Operand × List ℕ)
@@ -113,13 +114,13 @@ joined_at join sign next (suc n) front text =
 unfoldable pub conj_with : (List ℕ → Option (Neg × List ℕ)) → List ℕ → Option (Conj × List ℕ)
 conj_with neg text = do
   first ← neg text
-  joined_at And 38 neg (length first.1) (Sole first.0) first.1
+  joined_at And (byte "&") neg (length first.1) (Sole first.0) first.1
 
 -- conjunctions with bars between them
 unfoldable pub test_with : (List ℕ → Option (Neg × List ℕ)) → List ℕ → Option (Test × List ℕ)
 test_with neg text = do
   first ← conj_with neg text
-  joined_at Or 124 (conj_with neg) (length first.1) (Single first.0) first.1
+  joined_at Or (byte "|") (conj_with neg) (length first.1) (Single first.0) first.1
 
 -- a test in parentheses, at its end
 abbrev pub closed : Test → Option (List ℕ) → Option (Neg × List ℕ)
@@ -136,7 +137,7 @@ not_with neg text = do
 abbrev pub group_with : (List ℕ → Option (Neg × List ℕ)) → List ℕ → Option (Neg × List ℕ)
 group_with neg text = do
   inner ← test_with neg text
-  closed inner.0 (after_sign 41 inner.1)
+  closed inner.0 (after_sign (byte ")") inner.1)
 
 -- by what follows `!` and what follows `(`, where they stand there
 abbrev pub nested : Option (List ℕ) → Option (List ℕ) → List ℕ → (List ℕ → Option (Neg × List ℕ)) → Option (Neg × List ℕ)
@@ -147,7 +148,7 @@ nested None None text neg = plain_at text
 -- a negation with at most as many `!` and `(` round an operand as the number says
 unfoldable pub neg_at : ℕ → List ℕ → Option (Neg × List ℕ)
 neg_at zero text = plain_at text
-neg_at (suc n) text = nested (after_sign 33 text) (after_sign 40 text) text (neg_at n)
+neg_at (suc n) text = nested (after_sign (byte "!") text) (after_sign (byte "(") text) text (neg_at n)
 
 -- what was read, where nothing follows it
 abbrev pub ended : {A : Type 0} → A → List ℕ → Option A

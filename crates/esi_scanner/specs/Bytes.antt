@@ -1,5 +1,6 @@
 -- Which bytes a tag is made of.
 use Rattle.std.specs.Prelude.{ℕ, Bool, false, not, ◌||◌, ◌==◌, nat_eq, List, [], ◌∷◌, drop, ◌+◌, length, Option, Some, None, if◌then◌else◌, option_and_then}
+use Rattle.std.specs.Str.{byte}
 use Rattle.std.specs.List.{starts_with, prefix_len}
 use Rattle.std.specs.Char.{is_ascii_alphanumeric}
 use Rattle.std.specs.Borrow.{Bor}
@@ -7,15 +8,15 @@ use Rattle.edge_types.specs.WhiteSpace.{is_ws}
 
 -- any byte but white space, `/` and `>`
 abbrev pub is_element_byte : ℕ → Bool
-is_element_byte b = not (is_ws b || b == 47 || b == 62)
+is_element_byte b = not (is_ws b || b == byte "/" || b == byte ">")
 
 -- a letter, a digit, `-`, `_`, `:` or `.`
 abbrev pub is_attribute_byte : ℕ → Bool
-is_attribute_byte b = is_ascii_alphanumeric b || b == 45 || b == 95 || b == 58 || b == 46
+is_attribute_byte b = is_ascii_alphanumeric b || b == byte "-" || b == byte "_" || b == byte ":" || b == byte "."
 
 -- `"` or `'`
 abbrev pub is_quote : ℕ → Bool
-is_quote b = b == 34 || b == 39
+is_quote b = b == byte "\"" || b == byte "'"
 
 -- the first byte is white space
 abbrev pub begins_ws : List ℕ → Bool

@@ -1,5 +1,6 @@
 -- Attribute values, in which `&amp;` and the like stand for single bytes.
 use Rattle.std.specs.Prelude.{ℕ, zero, suc, List, [], ◌∷◌, length, codes, Option, Some, None, find}
+use Rattle.std.specs.Str.{byte}
 use Rattle.esi_scanner.specs.declared.entity.Entity.{Entity}
 use Rattle.esi_scanner.specs.declared.entity.Entity.TheVariants.{Amp, Lt, Gt, Quot, Apos}
 use Rattle.esi_scanner.specs.Bytes.{begins_with, after_bytes, ◌>>=◌}
@@ -14,11 +15,11 @@ entity_text Apos = codes "&apos;"
 
 -- the byte for which it stands
 abbrev pub entity_byte : Entity → ℕ
-entity_byte Amp = 38
-entity_byte Lt = 60
-entity_byte Gt = 62
-entity_byte Quot = 34
-entity_byte Apos = 39
+entity_byte Amp = byte "&"
+entity_byte Lt = byte "<"
+entity_byte Gt = byte ">"
+entity_byte Quot = byte "\""
+entity_byte Apos = byte "'"
 
 -- all of them
 abbrev pub entities : List Entity

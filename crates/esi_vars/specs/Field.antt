@@ -1,7 +1,7 @@
 -- Fields that are cut into parts: cookies, queries and languages.
 use Rattle.std.specs.Prelude.{ℕ, ◌-◌, Bool, ◌==◌, List, [], ◌∷◌, length, take, drop, map, codes, bytes_eq, unwrap_or, if◌then◌else◌}
 use Rattle.std.specs.List.{prefix_len, suffix_len, slice_split, list_any}
-use Rattle.std.specs.Str.{str_eq_ignore_ascii_case}
+use Rattle.std.specs.Str.{byte, str_eq_ignore_ascii_case}
 use Rattle.esi_vars.specs.Reference.{is_blank}
 use Rattle.esi_vars.specs.Reading.{cut_at}
 
@@ -28,21 +28,21 @@ halves c text = unwrap_or (cut_at c text) (text, [])
 -- the value of the first part `name=value` of this name, or nothing
 unfoldable pub named : List ℕ → List (List ℕ) → List ℕ
 named key [] = []
-named key (part ∷ parts) = if bytes_eq (halves 61 part).0 key then (halves 61 part).1 else named key parts
+named key (part ∷ parts) = if bytes_eq (halves (byte "=") part).0 key then (halves (byte "=") part).1 else named key parts
 
 -- the value of a cookie: parts between `;`, trimmed
 unfoldable pub cookie_value : List ℕ → List ℕ → List ℕ
-cookie_value key field = named key (map trimmed (parts_between 59 field))
+cookie_value key field = named key (map trimmed (parts_between (byte ";") field))
 
 -- the value of a query's name: parts between `&`, nothing decoded
 unfoldable pub query_value : List ℕ → List ℕ → List ℕ
-query_value key field = named key (parts_between 38 field)
+query_value key field = named key (parts_between (byte "&") field)
 
 -- whether a part of the language field, up to its `;` and trimmed, is the language, ASCII case aside
 unfoldable pub names_language : List ℕ → List ℕ → Bool
-names_language language part = str_eq_ignore_ascii_case (trimmed (halves 59 part).0) language
+names_language language part = str_eq_ignore_ascii_case (trimmed (halves (byte ";") part).0) language
 
 -- `true` where a part between `,` names the language, or nothing
 unfoldable pub language_value : List ℕ → List ℕ → List ℕ
 language_value language field =
-    if list_any (names_language language) (parts_between 44 field) then codes "true" else []
+    if list_any (names_language language) (parts_between (byte ",") field) then codes "true" else []

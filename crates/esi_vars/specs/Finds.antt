@@ -1,5 +1,6 @@
 -- What stands in a field, told without a search: its parts, their names and values, and the text behind a word.
 use Rattle.std.specs.Prelude.{◌≡◌, ◌≢◌, ◌⊎◌, ℕ, ◌<◌, false, List, [], ◌∷◌, ◌++◌, length, drop}
+use Rattle.std.specs.Str.{byte}
 use Rattle.std.specs.List.{All, AllPass, Contains, join_with_byte}
 use Rattle.esi_vars.specs.Reference.{is_blank}
 
@@ -26,7 +27,7 @@ AreHalves c text halves =
 
 -- the part is `name=value`, or a name alone, whose value is empty
 abbrev pub HasName : List ℕ → List ℕ → Type 0
-HasName name part = (value : List ℕ) × AreHalves 61 part (name, value)
+HasName name part = (value : List ℕ) × AreHalves (byte "=") part (name, value)
 
 -- the first part of the name has the value
 pub record IsFirstNamed (name : List ℕ) (parts : List (List ℕ)) (value : List ℕ) : Type 0 where
@@ -35,7 +36,7 @@ pub record IsFirstNamed (name : List ℕ) (parts : List (List ℕ)) (value : Lis
   pub after : List (List ℕ)
   pub whole : parts ≡ before ++ part ∷ after
   pub others : All (λ other. ¬ HasName name other) before
-  pub is : AreHalves 61 part (name, value)
+  pub is : AreHalves (byte "=") part (name, value)
 
 -- the value of the first part of the name; nothing where no part has the name
 abbrev pub IsNamed : List ℕ → List (List ℕ) → List ℕ → Type 0

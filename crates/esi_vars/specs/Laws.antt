@@ -15,7 +15,7 @@ use Rattle.esi_vars.specs.Finds.{AreParts, IsTrimmed, AreHalves, IsNamed, IsBehi
 
 -- what is read at the front of a text is what is spelled there
 abbrev pub ReadsReferences : Type 0
-ReadsReferences = (text rest : List ℕ) (r : Reference) → (reference_at text ≡ Some (r, rest)) ↔ ((piece : List ℕ) × IsReference piece r × (text ≡ piece ++ rest))
+ReadsReferences = (text rest : List ℕ) (reference : Reference) → (reference_at text ≡ Some (reference, rest)) ↔ ((piece : List ℕ) × IsReference piece reference × (text ≡ piece ++ rest))
 
 -- the parts of a text spell it
 abbrev pub PartsSpell : Type 0
@@ -31,7 +31,7 @@ SubstitutesText = (request : Request) (text : List ℕ) → substituted request 
 
 -- the parts between such bytes are those that the bytes separate
 abbrev pub CutsFields : Type 0
-CutsFields = (c : ℕ) (field : List ℕ) (parts : List (List ℕ)) → (parts_between c field ≡ parts) ↔ AreParts c field parts
+CutsFields = (separator : ℕ) (field : List ℕ) (parts : List (List ℕ)) → (parts_between separator field ≡ parts) ↔ AreParts separator field parts
 
 -- a trimmed text is what stands between the blanks at its ends
 abbrev pub TrimsTexts : Type 0
@@ -39,7 +39,7 @@ TrimsTexts = (text middle : List ℕ) → (trimmed text ≡ middle) ↔ IsTrimme
 
 -- the halves of a text are those at the first such byte
 abbrev pub CutsOnce : Type 0
-CutsOnce = (c : ℕ) (text : List ℕ) (both : List ℕ × List ℕ) → (halves c text ≡ both) ↔ AreHalves c text both
+CutsOnce = (separator : ℕ) (text : List ℕ) (both : List ℕ × List ℕ) → (halves separator text ≡ both) ↔ AreHalves separator text both
 
 -- the value that is looked up is that of the first part of the name
 abbrev pub LooksUp : Type 0

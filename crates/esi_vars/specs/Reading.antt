@@ -1,5 +1,6 @@
 -- The reference at the front of a text, read part by part from the left.
 use Rattle.std.specs.Prelude.{ℕ, ◌+◌, Bool, ◌==◌, List, [], ◌∷◌, take, drop, Option, Some, None, option_and_then, option_map, if◌then◌else◌}
+use Rattle.std.specs.Str.{byte}
 use Rattle.std.specs.List.{prefix_len, position}
 use Rattle.esi_vars.specs.declared.reference.Reference.{Reference}
 use Rattle.esi_vars.specs.Reference.{is_name_byte, is_key_byte, is_default_byte, variable_of}
@@ -36,30 +37,30 @@ cut_at c text = option_map (λ at. (take at text, drop (at + 1) text)) (position
 unfoldable pub quoted_key_at : List ℕ → Option (List ℕ × List ℕ)
 quoted_key_at text = do
   key ← run_at is_key_byte text
-  rest ← after_byte 39 key.1
+  rest ← after_byte (byte "'") key.1
   Some (key.0, rest)
 
 -- a key, with its quotes or without
 abbrev pub key_text_at : List ℕ → Option (List ℕ × List ℕ)
 key_text_at [] = None
-key_text_at (b ∷ bs) = if b == 39 then quoted_key_at bs else run_at is_key_byte (b ∷ bs)
+key_text_at (b ∷ bs) = if b == byte "'" then quoted_key_at bs else run_at is_key_byte (b ∷ bs)
 
 -- a key behind its opening brace
 unfoldable pub braced_key_at : List ℕ → Option (Option (List ℕ) × List ℕ)
 braced_key_at text = do
   key ← key_text_at text
-  rest ← after_byte 125 key.1
+  rest ← after_byte (byte "}") key.1
   Some (Some key.0, rest)
 
 -- the key of a reference, perhaps none
 abbrev pub key_at : List ℕ → Option (Option (List ℕ) × List ℕ)
 key_at [] = Some (None, [])
-key_at (b ∷ bs) = if b == 123 then braced_key_at bs else Some (None, b ∷ bs)
+key_at (b ∷ bs) = if b == byte "{" then braced_key_at bs else Some (None, b ∷ bs)
 
 -- a default, with its quotes or without
 abbrev pub default_text_at : List ℕ → Option (List ℕ × List ℕ)
 default_text_at [] = None
-default_text_at (b ∷ bs) = if b == 39 then cut_at 39 bs else run_at is_default_byte (b ∷ bs)
+default_text_at (b ∷ bs) = if b == byte "'" then cut_at (byte "'") bs else run_at is_default_byte (b ∷ bs)
 
 -- a default behind its bar
 unfoldable pub barred_default_at : List ℕ → Option (Option (List ℕ) × List ℕ)
@@ -70,7 +71,7 @@ barred_default_at text = do
 -- the default of a reference, perhaps none
 abbrev pub default_at : List ℕ → Option (Option (List ℕ) × List ℕ)
 default_at [] = Some (None, [])
-default_at (b ∷ bs) = if b == 124 then barred_default_at bs else Some (None, b ∷ bs)
+default_at (b ∷ bs) = if b == byte "|" then barred_default_at bs else Some (None, b ∷ bs)
 
 -- the parts of a reference behind its `$(`
 unfoldable pub body_at : List ℕ → Option (Written × List ℕ)
@@ -78,14 +79,14 @@ body_at text = do
   name ← run_at is_name_byte text
   key ← key_at name.1
   default ← default_at key.1
-  rest ← after_byte 41 default.1
+  rest ← after_byte (byte ")") default.1
   Some (record { name = name.0; key = key.0; default = default.0 }, rest)
 
 -- the parts of the reference at the front, and what follows it
 abbrev pub written_at : List ℕ → Option (Written × List ℕ)
 written_at [] = None
 written_at (b ∷ []) = None
-written_at (b ∷ c ∷ cs) = if b == 36 then (if c == 40 then body_at cs else None) else None
+written_at (b ∷ c ∷ cs) = if b == byte "$" then (if c == byte "(" then body_at cs else None) else None
 
 -- the reference at the front, and what follows it
 unfoldable pub reference_at : List ℕ → Option (Reference × List ℕ)

@@ -1,6 +1,7 @@
 -- References, and how they are spelled (ESI Language Specification 1.0, "Variables"; names, keys and defaults byte by
 -- byte are our profile).
 use Rattle.std.specs.Prelude.{◌≡◌, ◌⊎◌, ℕ, ◌<◌, Bool, not, ◌||◌, ◌==◌, List, [], ◌++◌, length, codes, bytes_eq, Option, Some, None, if◌then◌else◌}
+use Rattle.std.specs.Str.{byte}
 use Rattle.std.specs.List.{AllPass}
 use Rattle.std.specs.Char.{is_ascii_alphanumeric, is_ascii_digit, char_set_contains}
 use Rattle.edge_types.specs.WhiteSpace.{is_ws}
@@ -12,7 +13,7 @@ use Rattle.esi_vars.specs.declared.bytes.ByteClass.TheVariants as class
 
 -- a letter, a digit or `_`
 abbrev pub is_name_byte : ℕ → Bool
-is_name_byte b = is_ascii_alphanumeric b || b == 95
+is_name_byte b = is_ascii_alphanumeric b || b == byte "_"
 
 -- a byte of a key: no white space, brace, parenthesis, bar or quotation mark
 abbrev pub is_key_byte : ℕ → Bool
@@ -24,11 +25,11 @@ is_default_byte b = not (is_ws b || char_set_contains (codes "'()$") b)
 
 -- a digit or `.`
 abbrev pub is_version_byte : ℕ → Bool
-is_version_byte b = is_ascii_digit b || b == 46
+is_version_byte b = is_ascii_digit b || b == byte "."
 
 -- a space or a tab
 abbrev pub is_blank : ℕ → Bool
-is_blank b = b == 32 || b == 9
+is_blank b = b == byte " " || b == byte "\t"
 
 -- the bytes of a class
 abbrev pub allows : ByteClass → ℕ → Bool
@@ -40,7 +41,7 @@ allows class.Blank = is_blank
 
 -- a byte of a default in quotes
 abbrev pub is_quoted_byte : ℕ → Bool
-is_quoted_byte b = not (b == 39)
+is_quoted_byte b = not (b == byte "'")
 
 -- the variable of this name
 unfoldable pub variable_of : List ℕ → Variable

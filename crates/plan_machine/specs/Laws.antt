@@ -23,52 +23,52 @@ use Rattle.plan_machine.specs.Machine.{Machine, Went, Waits, TooMany, gone, step
 -- More answers don't disturb the steps that were made.
 abbrev pub StepsStay : Type 0
 StepsStay =
-    (r : Request) (log more : List Answered) (k : ℕ) (m n : Machine) → after r log k m ≡ Some n → after r (log ++ more) k m ≡ Some n
+    (request : Request) (log more : List Answered) (steps : ℕ) (machine next : Machine) → after request log steps machine ≡ Some next → after request (log ++ more) steps machine ≡ Some next
 
 -- Output that stood before a frame stays before its own.
 abbrev pub FlowAfter : Type 0
-FlowAfter = (r : Request) (leg : List Part → Run) (ss : List Step) (p : List ℕ) → flow r leg zero ss [] p ≡ record { legs = (flow r leg zero ss [] []).legs; text = with_front p (flow r leg zero ss [] []).text }
+FlowAfter = (request : Request) (leg : List Part → Run) (steps : List Step) (front : List ℕ) → flow request leg zero steps [] front ≡ record { legs = (flow request leg zero steps [] []).legs; text = with_front front (flow request leg zero steps [] []).text }
 
 -- After any number of steps the page comes to the legs that were tried, and then to what is still to come.
 abbrev pub ComesToTheSame : Type 0
 ComesToTheSame =
-    (r : Request) (log : List Answered) (L : ℕ) (u : List ℕ) (t : Elements) → IsSingle t → (k : ℕ) (m : Machine) → after r log k (start L u t) ≡ Some m
-    → (tried : List Leg) × (length tried ≡ m.legs)
-    × (page_run r log L u t ≡ record { legs = tried ++ (still_to_come r log m).legs; text = (still_to_come r log m).text })
+    (request : Request) (log : List Answered) (levels : ℕ) (page : List ℕ) (tree : Elements) → IsSingle tree → (steps : ℕ) (machine : Machine) → after request log steps (start levels page tree) ≡ Some machine
+    → (tried : List Leg) × (length tried ≡ machine.legs)
+    × (page_run request log levels page tree ≡ record { legs = tried ++ (still_to_come request log machine).legs; text = (still_to_come request log machine).text })
 
--- the page at the URL u has this answer in the log, and it is a template of this tree
-pub record IsPage (log : List Answered) (u : List ℕ) (t : Elements) (status : ℕ) (content_type : List ℕ) : Type 0 where
+-- the page at this URL has this answer in the log, and it is a template of this tree
+pub record IsPage (log : List Answered) (page : List ℕ) (tree : Elements) (status : ℕ) (content_type : List ℕ) : Type 0 where
   pub control : Control
   pub body : List ℕ
-  pub logged : is_missing log u ≡ false
-  pub reply : reply_of log u ≡ Got status content_type control body
+  pub logged : is_missing log page ≡ false
+  pub reply : reply_of log page ≡ Got status content_type control body
   pub is_template : processed (Got status content_type control body) ≡ true
-  pub is_tree : tree_of body ≡ Ok t
+  pub is_tree : tree_of body ≡ Ok tree
 
 -- Where a machine stops that was started for a page, the page's state is told.
 abbrev pub WaitsAsStated : Type 0
 WaitsAsStated =
-    (r : Request) (log : List Answered) (L : ℕ) (u : List ℕ) (t : Elements) (status : ℕ) (content_type : List ℕ) → IsPage log u t status content_type
-    → (k : ℕ) (m : Machine) → after r log k (start L u t) ≡ Some m → (n : ℕ) (w : List ℕ) → step r log m ≡ Waits n w
-    → (state r log L u ≡ Waiting w) × (waits_at r log L u ≡ Some (Asks n w))
+    (request : Request) (log : List Answered) (levels : ℕ) (page : List ℕ) (tree : Elements) (status : ℕ) (content_type : List ℕ) → IsPage log page tree status content_type
+    → (steps : ℕ) (machine : Machine) → after request log steps (start levels page tree) ≡ Some machine → (level : ℕ) (url : List ℕ) → step request log machine ≡ Waits level url
+    → (state request log levels page ≡ Waiting url) × (waits_at request log levels page ≡ Some (Asks level url))
 
 abbrev pub TooManyAsStated : Type 0
 TooManyAsStated =
-    (r : Request) (log : List Answered) (L : ℕ) (u : List ℕ) (t : Elements) (status : ℕ) (content_type : List ℕ) → IsPage log u t status content_type
-    → (k : ℕ) (m : Machine) → after r log k (start L u t) ≡ Some m → step r log m ≡ TooMany → state r log L u ≡ Done (Fault TooManyLegs)
+    (request : Request) (log : List Answered) (levels : ℕ) (page : List ℕ) (tree : Elements) (status : ℕ) (content_type : List ℕ) → IsPage log page tree status content_type
+    → (steps : ℕ) (machine : Machine) → after request log steps (start levels page tree) ≡ Some machine → step request log machine ≡ TooMany → state request log levels page ≡ Done (Fault TooManyLegs)
 
 abbrev pub EndsAsStated : Type 0
 EndsAsStated =
-    (r : Request) (log : List Answered) (L : ℕ) (u : List ℕ) (t : Elements) (status : ℕ) (content_type : List ℕ) → IsPage log u t status content_type
-    → (k : ℕ) (m : Machine) → after r log k (start L u t) ≡ Some m → m.frames ≡ [] → state r log L u ≡ Done (text_outcome status content_type (text_so_far m.failed m.out))
+    (request : Request) (log : List Answered) (levels : ℕ) (page : List ℕ) (tree : Elements) (status : ℕ) (content_type : List ℕ) → IsPage log page tree status content_type
+    → (steps : ℕ) (machine : Machine) → after request log steps (start levels page tree) ≡ Some machine → machine.frames ≡ [] → state request log levels page ≡ Done (text_outcome status content_type (text_so_far machine.failed machine.out))
 
 -- Each step tries one leg more, of which there are few, or leaves less to do.
 abbrev pub StepsFall : Type 0
 StepsFall =
-    (r : Request) (log : List Answered) (m n : Machine) → Ready m.failed m.frames → step r log m ≡ Went n
-    → (((n.legs ≡ m.legs) × (weight n.frames < weight m.frames)) ⊎ ((n.legs ≡ m.legs + 1) × (n.legs ≤ most_legs))) × Ready n.failed n.frames
+    (request : Request) (log : List Answered) (machine next : Machine) → Ready machine.failed machine.frames → step request log machine ≡ Went next
+    → (((next.legs ≡ machine.legs) × (weight next.frames < weight machine.frames)) ⊎ ((next.legs ≡ machine.legs + 1) × (next.legs ≤ most_legs))) × Ready next.failed next.frames
 
 -- A machine that is started over the same answers comes to rest after one number of steps at most.
 abbrev pub OneNumberOfSteps : Type 0
 OneNumberOfSteps =
-    (r : Request) (log : List Answered) (m x y : Machine) (j k : ℕ) → after r log j m ≡ Some x → gone (step r log x) ≡ None → after r log k m ≡ Some y → gone (step r log y) ≡ None → j ≡ k
+    (request : Request) (log : List Answered) (machine rested other : Machine) (steps more : ℕ) → after request log steps machine ≡ Some rested → gone (step request log rested) ≡ None → after request log more machine ≡ Some other → gone (step request log other) ≡ None → steps ≡ more
