@@ -11,7 +11,7 @@ ghost use Rattle.esi_meaning.specs.Run.{AsksNobody, tries};
 
 use crate::choice::chosen;
 use crate::inlines::inline_for;
-use crate::leg_url::leg_url;
+use crate::leg::leg_url;
 use crate::limits::MAX_LEGS;
 use crate::progress::{
     Ending, Progress, count_leg, no_leg, on_error, push_text, push_values, unprocessed,

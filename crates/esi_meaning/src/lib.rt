@@ -5,10 +5,11 @@ mod choice;
 mod evaluator;
 mod inlines;
 pub mod laws;
-mod leg_url;
+mod leg;
 mod limits;
 mod page;
 mod progress;
 
+pub use leg::leg_url;
 pub use limits::{MAX_LEGS, MAX_LEVELS, MIN_LEVELS, are_levels};
 pub use page::plain_page;

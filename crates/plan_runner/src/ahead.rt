@@ -10,9 +10,9 @@ ghost use Rattle.plan_compiler.specs.Shown.{step_of};
 ghost use Rattle.plan_runner.specs.Ahead.{opened, opened_by};
 ghost use Rattle.plan_runner.specs.Walk.{asked_by, asked_in, sources_at, passed_by, with_asked};
 
-use crate::leg_url::leg_url;
 use answer_board::Board;
 use edge_types::{NoMemory, PageUrl, Request};
+use esi_meaning::leg_url;
 use esi_tree::Parts;
 use plan_compiler::{Form, Plan, Prepared, Step};
 use std::alloc::Global;

@@ -5,9 +5,9 @@ ghost use Rattle.answer_board.specs.Board.{log_of};
 ghost use Rattle.plan_compiler.specs.Urls.{entries_of};
 ghost use Rattle.plan_runner.specs.Targets.{asked_target, resolved_target, target_of, shown_target};
 
-use crate::leg_url::leg_url;
 use answer_board::Board;
 use edge_types::{NoMemory, PageUrl, Request};
+use esi_meaning::leg_url;
 use esi_tree::Parts;
 use plan_compiler::Prepared;
 use std::alloc::Global;

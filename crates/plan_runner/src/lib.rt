@@ -11,7 +11,6 @@ mod frames;
 mod hand;
 mod handlers;
 mod leg;
-mod leg_url;
 mod machine;
 mod outcome;
 mod page;

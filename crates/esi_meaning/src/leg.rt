@@ -1,4 +1,4 @@
-// The URL of a leg.
+//! The URL of a leg.
 ghost use Rattle.std.specs.Prelude.{◌≡◌, IfOk};
 ghost use Rattle.edge_types.specs.Asked.{resolve};
 ghost use Rattle.esi_vars.specs.Values.{substituted};
@@ -7,20 +7,22 @@ use edge_types::{MAX_TEXT, NoMemory, PageUrl, Request};
 use esi_vars::{Part, substitute_within};
 use std::alloc::Global;
 
-/// The URL that a text stands for, its references replaced, in a template at this base; none as in
-/// `PageUrl::resolve`.
+/// The URL that a source stands for, its references replaced, in a template at this base; none as in
+/// `PageUrl::resolve`. `NoMemory` where a growth is refused.
+///
+/// Source: ESI Language Specification 1.0, "include" and "Variables".
 //
 // A text that is too long to be resolved is given up while it is made: a long field of the request
 // can be asked for many times in one text.
-pub(crate) fn leg_url(
+pub fn leg_url(
     alloc: Global,
     request: &Request,
     base: &PageUrl,
-    text: &[Part],
+    source: &[Part],
 ) -> Result<Option<PageUrl>, NoMemory>
-    ensures { IfOk result (λ found. found ≡ resolve base.now (substituted request.now text.now)) }
+    ensures { IfOk result (λ found. found ≡ resolve base.now (substituted request.now source.now)) }
 {
-    match substitute_within(alloc, request, text, MAX_TEXT)? {
+    match substitute_within(alloc, request, source, MAX_TEXT)? {
         Some(text) => base.resolve(alloc, text.as_slice()),
         None => Ok(None),
     }
