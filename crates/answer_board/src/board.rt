@@ -8,15 +8,19 @@ use plan_compiler::Prepared;
 use std::alloc::Global;
 use std::collections::BTreeMap;
 use std::marker::Model;
+use thiserror::Error;
 
 /// Why a board doesn't take a receipt.
-#[derive(Clone, Copy, Debug, Drop, PartialEq, Eq)]
+#[derive(Clone, Copy, Debug, Drop, PartialEq, Eq, Error)]
 pub enum FillFault {
     /// There is no slot of that number with that URL.
+    #[error("no slot has this number and URL: fill the board that gave the ticket")]
     Stranger,
     /// Nobody has claimed the slot.
+    #[error("nobody has claimed the slot: claim it first")]
     NotClaimed,
     /// The slot has its answer.
+    #[error("the slot has its answer: give the receipt up")]
     Filled,
 }
 

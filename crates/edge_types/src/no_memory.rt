@@ -1,9 +1,11 @@
 //! Want of memory: what every call that allocates may tell, by itself or among its refusals.
 
 use std::alloc::{AllocError, AllocFailed};
+use thiserror::Error;
 
 /// Memory ran out: a growth was refused.
-#[derive(Clone, Copy, Debug, Drop, PartialEq, Eq)]
+#[derive(Clone, Copy, Debug, Drop, PartialEq, Eq, Error)]
+#[error("out of memory: try again with more of it")]
 pub struct NoMemory;
 
 impl From<AllocError> for NoMemory {

@@ -13,6 +13,7 @@ use std::collections::BTreeMap;
 use std::hash::{FoldHasher, Hasher};
 use std::marker::Model;
 use std::sync::Arc;
+use thiserror::Error;
 
 /// Answers by their URLs.
 //
@@ -40,11 +41,13 @@ impl Model for Table {
 }
 
 /// Why a table doesn't take an answer.
-#[derive(Clone, Copy, Debug, Drop, PartialEq, Eq)]
+#[derive(Clone, Copy, Debug, Drop, PartialEq, Eq, Error)]
 pub enum InsertFault {
     /// The table has an answer of that URL.
+    #[error("the table has an answer of this URL: insert one answer of each")]
     Twice,
     /// A growth was refused.
+    #[error("out of memory: try again with more of it")]
     NoMemory,
 }
 

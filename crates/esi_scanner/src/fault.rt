@@ -2,13 +2,16 @@
 
 use edge_types::NoMemory;
 use std::alloc::AllocFailed;
+use thiserror::Error;
 
 /// Why a text could not be cut into tokens.
-#[derive(Clone, Copy, Debug, Drop, PartialEq, Eq)]
+#[derive(Clone, Copy, Debug, Drop, PartialEq, Eq, Error)]
 pub enum ScanFault {
     /// No token begins at the opener at this place, or the block that begins there has no end.
+    #[error("no token begins at byte {0}, or the block there has no end: correct it there")]
     Malformed(usize),
     /// Memory ran out.
+    #[error("out of memory: try again with more of it")]
     NoMemory,
 }
 

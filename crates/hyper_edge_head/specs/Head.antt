@@ -1,5 +1,6 @@
 -- What the head of a request asks for: a page's URL, and what templates may ask of the request.
 use Rattle.std.specs.Prelude.{◌≡◌, IsTrue, ℕ, Bool, ◌&&◌, ◌||◌, ◌==◌, nat_lt, bytes_eq, List, [], ◌∷◌, ◌++◌, map, filter, length, codes, None, Some, if◌then◌else◌}
+use Rattle.std.specs.Str.{byte}
 use Rattle.std.specs.List.{join_by, list_all, list_any}
 use Rattle.std.specs.Char.{is_ascii_alphanumeric}
 use Rattle.edge_types.specs.Asked.{asked}
@@ -36,11 +37,11 @@ is_host_byte b = is_ascii_alphanumeric b || list_any (λ mark. mark == b) (codes
 unfoldable pub is_host : List ℕ → Bool
 is_host text = nat_lt 0 (length text) && list_all is_host_byte text
 
--- the target as a whole URL: one that begins with `/` (47) stands behind the scheme and the host,
+-- the target as a whole URL: one that begins with `/` stands behind the scheme and the host,
 -- any other stands for itself (RFC 9112, sections 3.2 and 3.3)
 abbrev pub absolute_form : List ℕ → List ℕ → List ℕ
 absolute_form host [] = []
-absolute_form host (byte ∷ rest) = if byte == 47 then codes "http://" ++ host ++ byte ∷ rest else byte ∷ rest
+absolute_form host (first ∷ rest) = if first == byte "/" then codes "http://" ++ host ++ first ∷ rest else first ∷ rest
 
 -- what templates may ask of a request
 abbrev pub said : List ℕ → List ℕ → List Field → Request

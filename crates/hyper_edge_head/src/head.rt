@@ -9,16 +9,20 @@ ghost use Rattle.hyper_edge_head.specs.Head as spec;
 use crate::field::{Field, first_value, next_value};
 use edge_types::{NoMemory, Octets, PageUrl, Request, query_of};
 use std::alloc::Global;
+use thiserror::Error;
 
 /// Why a head asks for no page.
-#[derive(Clone, Copy, Debug, Drop, PartialEq, Eq)]
+#[derive(Clone, Copy, Debug, Drop, PartialEq, Eq, Error)]
 pub enum HeadFault {
     /// The method is another than `GET`.
+    #[error("the method isn't GET: ask for pages by GET")]
     Method,
     /// There isn't exactly one `Host`, or it isn't a host's, or the target names no URL that is
     /// asked.
+    #[error("the request names no page: send one Host, and a target that names an http URL")]
     Unreadable,
     /// A growth was refused.
+    #[error("out of memory: try again with more of it")]
     NoMemory,
 }
 

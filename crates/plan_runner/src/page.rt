@@ -31,8 +31,9 @@ use answer_board::{Board, FillFault, Receipt, Ticket};
 use edge_types::{Answer, NoMemory, Outcome, PageUrl, Request};
 use std::alloc::Global;
 use std::marker::Model;
-use std::mem;
 use std::sync::Arc;
+use std::{fmt, mem};
+use thiserror::Error;
 
 /// The most slots that the posts of a page may open ahead.
 ///
@@ -49,11 +50,13 @@ pub enum State {
 }
 
 /// Why a page doesn't tell where it stands.
-#[derive(Clone, Copy, Debug, Drop, PartialEq, Eq)]
+#[derive(Clone, Copy, Debug, Drop, PartialEq, Eq, Error)]
 pub enum PageError {
     /// A growth was refused: a page that wasn't done is broken.
+    #[error("out of memory: accept the page anew with more of it")]
     NoMemory,
     /// A growth was refused earlier, before the page was done.
+    #[error("the page ran out of memory before: accept it anew")]
     Broken,
 }
 
@@ -70,6 +73,21 @@ pub enum PostFault {
     NoMemory,
     /// A growth was refused earlier, before the page was done.
     Broken(Receipt),
+}
+
+// By hand: what hands a receipt back can't be let go, as an `Error` can.
+impl fmt::Display for PostFault {
+    fn fmt<W: fmt::Write>(&self, f: &mut fmt::Formatter<W>) -> fmt::Result {
+        f.write_str(match self {
+            PostFault::Stranger(_) =>
+                "no slot has this number and URL: post to the page that gave the ticket",
+            PostFault::NotClaimed(_) => "nobody has claimed the slot: claim it first",
+            PostFault::Filled(_) => "the slot has its answer: give the receipt up",
+            PostFault::NoMemory => "out of memory: accept the page anew with more of it",
+            PostFault::Broken(_) =>
+                "the page ran out of memory before: give the receipt up, and accept the page anew",
+        })
+    }
 }
 
 // How far a page is.
