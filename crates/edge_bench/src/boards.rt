@@ -1,8 +1,8 @@
 //! Boards: a slot of many costs no more than one of few.
 
-use crate::inputs::{or_io_error, url};
-use crate::timing::{Least, nanoseconds_each};
 use answer_board::{Board, Receipt};
+use bench_tools::inputs::{or_io_error, url};
+use bench_tools::timing::{Least, nanoseconds_each};
 use edge_types::Answer;
 use plan_compiler::Prepared;
 use std::alloc::Global;

@@ -1,8 +1,8 @@
 //! The cache: the calls of a shard beside `lru` alone, and flights beside fewer flights.
 
-use crate::inputs;
-use crate::inputs::{or_io_error, url};
-use crate::timing::{Least, nanoseconds_each, ratio};
+use bench_tools::inputs;
+use bench_tools::inputs::{or_io_error, url};
+use bench_tools::timing::{Least, nanoseconds_each, ratio};
 use edge_types::{Answer, Control, PageUrl, SharedAnswer, SharedBytes};
 use fragment_cache::{Begun, Flight, MAX_CAPACITY, MAX_FLIGHTS, Picked, Shard};
 use lru::LruCache;
@@ -168,8 +168,10 @@ fn turn<S: Store>(
 // How many of the answers that are asked for are stored.
 fn hits<S: Store>(store: &mut S, answers: &[Arc<Answer>], asked: &[usize]) -> io::Result<usize> {
     let mut hits: usize = 0;
-    for answer in asked.iter().filter_map(|at| answers.get(*at)) {
-        hits = hits.wrapping_add(usize::from(store.ask(answer)?));
+    for at in asked.iter() {
+        if let Some(answer) = answers.get(*at) {
+            hits = hits.wrapping_add(usize::from(store.ask(answer)?));
+        }
     }
     Ok(hits)
 }
@@ -302,8 +304,11 @@ fn join(
 }
 
 fn land(shard: &mut Shard, led: Vec<Flight>, answers: &[Arc<Answer>], now: u64) -> io::Result<()> {
-    for (flight, answer) in led.into_iter().zip(answers.iter()) {
-        if *answer.url() == *flight.url() {
+    let mut rest = answers.iter();
+    for flight in led {
+        if let Some(answer) = rest.next()
+            && *answer.url() == *flight.url()
+        {
             shard.land(flight, Arc::try_clone(answer)?, now);
         }
     }

@@ -1,7 +1,7 @@
 //! `Surrogate-Control`: long values of one unit again and again cost no more a byte than short ones.
 
-use crate::inputs::repeated;
-use crate::timing::{Least, nanoseconds_each, ratio};
+use bench_tools::inputs::repeated;
+use bench_tools::timing::{Least, nanoseconds_each, ratio};
 use std::io;
 use std::time::Duration;
 use surrogate_headers::control;

@@ -7,16 +7,13 @@ use std::{env, io};
 mod boards;
 mod caching;
 mod headers;
-mod inputs;
-mod pages;
 mod plans;
 mod references;
 mod scanning;
 mod tables;
 mod templates;
-mod timing;
 
-const NAMES: [&str; 10] = [
+const NAMES: [&str; 9] = [
     "tables",
     "headers",
     "scanning",
@@ -26,7 +23,6 @@ const NAMES: [&str; 10] = [
     "plans",
     "held-plans",
     "boards",
-    "pages",
 ];
 
 fn main(rt: HostRuntime) -> io::Result<()> {
@@ -66,7 +62,6 @@ fn run(rt: &HostRuntime, name: &str) -> io::Result<()> {
         "plans" => plans::run(rt),
         "held-plans" => plans::hold(rt),
         "boards" => boards::run(rt),
-        "pages" => pages::run(rt),
         _ => Ok(()),
     }
 }

@@ -1,7 +1,7 @@
 //! Speed of references: `parts` and `substitute` beside a plain copy of the same bytes.
 
-use crate::inputs::{or_io_error, repeated};
-use crate::timing::{Least, ratio};
+use bench_tools::inputs::{or_io_error, repeated};
+use bench_tools::timing::{Least, ratio};
 use edge_types::{NoMemory, Octets, Request, SharedBytes};
 use esi_vars::{parts, substitute};
 use std::alloc::{AllocError, Global};

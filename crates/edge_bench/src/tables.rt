@@ -1,7 +1,7 @@
 //! Tables of answers: ten times as many answers are to cost little more than ten times as much.
 
-use crate::inputs::{or_io_error, url};
-use crate::timing::{Least, ratio};
+use bench_tools::inputs::{or_io_error, url};
+use bench_tools::timing::{Least, ratio};
 use edge_types::{Answer, PageUrl, Table};
 use std::alloc::Global;
 use std::io;

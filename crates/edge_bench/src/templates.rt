@@ -1,7 +1,7 @@
 //! Templates, beside the scan alone of the same text.
 
-use crate::inputs::{CHOOSE, or_input_error, or_io_error, page_of_includes};
-use crate::timing::{Least, ratio};
+use bench_tools::inputs::{CHOOSE, or_input_error, or_io_error, page_of_includes};
+use bench_tools::timing::{Least, ratio};
 use edge_types::SharedBytes;
 use esi_scanner::scan;
 use esi_tree::template;

@@ -1,6 +1,7 @@
 //! Times of work, the least of several, and ratios of them.
 
 use std::io;
+use std::rt::Clock;
 use std::time::{Duration, Instant};
 
 /// The least of the times that some work took.
@@ -18,7 +19,7 @@ impl Least {
     }
 
     /// Does the work, notes the time that it took, and gives what it gave.
-    pub fn time<T: Drop, F: FnOnce() -> T>(&mut self, rt: &HostRuntime, work: F) -> io::Result<T>
+    pub fn time<R: Clock, T: Drop, F: FnOnce() -> T>(&mut self, rt: &R, work: F) -> io::Result<T>
         requires { F.IsAlwaysCallable work }
     {
         let start = Instant::now(rt)?;

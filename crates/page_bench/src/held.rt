@@ -1,0 +1,68 @@
+//! What a page holds, beside its bodies alone: the memory of the program is looked at from outside.
+
+use crate::site::{Site, includes, page_url, table};
+use bench_tools::inputs::or_io_error;
+use edge_types::{PageUrl, Request, Table};
+use plan_runner::{Event, MAX_AHEAD, Page, run_events};
+use std::alloc::Global;
+use std::io;
+
+// How many fragments the page has, and how long each is.
+const FRAGMENTS: usize = 200;
+
+const LENGTH: usize = 262_144;
+
+// The answers of a page of so many plain fragments.
+fn answers(alloc: Global) -> io::Result<Table> {
+    let page = includes(alloc, FRAGMENTS)?;
+    let body = "x".repeat(alloc, LENGTH)?;
+    let site = Site {
+        page: page.as_str(),
+        body: body.as_str(),
+        fragments: FRAGMENTS,
+        is_processed: false,
+    };
+    table(alloc, site)
+}
+
+/// Holds the bodies alone.
+pub fn bodies(rt: &HostRuntime) -> io::Result<()> {
+    let _held = answers(rt.alloc())?;
+    println!(rt; "held bodies: {FRAGMENTS} of {LENGTH} bytes")
+}
+
+/// Holds a page that is done, and its bodies.
+pub fn page(rt: &HostRuntime) -> io::Result<()> {
+    let table = answers(rt.alloc())?;
+    held(rt, &table)
+}
+
+fn held(rt: &HostRuntime, table: &Table) -> io::Result<()> {
+    let alloc = rt.alloc();
+    let url = page_url(alloc)?;
+    let events = events(alloc)?;
+    let page = posted(alloc, url, table, events.as_slice())?;
+    println!(rt;
+        "held page: {} slots, {FRAGMENTS} bodies of {LENGTH} bytes",
+        page.slots()
+    )
+}
+
+// The page to which these events have come.
+fn posted(alloc: Global, url: PageUrl, table: &Table, events: &[Event]) -> io::Result<Page> {
+    let request = Request::empty(alloc);
+    match run_events(alloc, url, request, table, MAX_AHEAD, 4, events) {
+        Ok((page, _)) => Ok(page),
+        Err(_) => Err(io::Error::from(io::ErrorKind::OutOfMemory)),
+    }
+}
+
+// All is claimed and posted.
+fn events(alloc: Global) -> io::Result<Vec<Event>> {
+    let mut events = Vec::new(alloc);
+    for _ in 0..=FRAGMENTS {
+        events.push(Event::Claim)?;
+        events.push(Event::Post(0))?;
+    }
+    Ok(events)
+}

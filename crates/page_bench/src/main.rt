@@ -1,0 +1,54 @@
+//! Benchmarks of whole pages, beside the sequential meaning's own evaluator. Without an argument the
+//! program lists their names; with names, or with `all`, it runs them. Each prints ratios of times
+//! taken in one run.
+#![tactic(auto)]
+
+use std::{env, io};
+
+mod cases;
+mod held;
+mod orders;
+mod site;
+mod workers;
+
+const NAMES: [&str; 5] = ["pages", "orders", "workers", "held-bodies", "held-page"];
+
+fn main(rt: HostRuntime) -> io::Result<()> {
+    let mut named = false;
+    for word in env::args(&rt)?.skip(1) {
+        named = true;
+        match word.as_str() {
+            "all" => {
+                run_all(&rt)?;
+                workers::run(&rt, rt.alloc())?
+            }
+            "workers" => workers::run(&rt, rt.alloc())?,
+            name => run(&rt, name)?,
+        }
+    }
+    if named { Ok(()) } else { list(&rt) }
+}
+
+fn list(rt: &HostRuntime) -> io::Result<()> {
+    for name in NAMES {
+        println!(rt; "{name}")?;
+    }
+    Ok(())
+}
+
+fn run_all(rt: &HostRuntime) -> io::Result<()> {
+    for name in NAMES {
+        run(rt, name)?;
+    }
+    Ok(())
+}
+
+fn run(rt: &HostRuntime, name: &str) -> io::Result<()> {
+    match name {
+        "pages" => cases::run(rt),
+        "orders" => orders::run(rt),
+        "held-page" => held::page(rt),
+        "held-bodies" => held::bodies(rt),
+        _ => Ok(()),
+    }
+}

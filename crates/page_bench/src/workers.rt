@@ -1,0 +1,150 @@
+//! Pages that several threads assemble: beside the time that their fetches need, and beside the page
+//! core alone where nothing has to be waited for.
+
+use crate::site::{Site, includes, page_url, ran, table};
+use bench_tools::inputs::or_input_error;
+use bench_tools::timing::{Least, ratio};
+use edge_types::{Answer, NoMemory, PageUrl, Request, Table};
+use fetch_workers::{MAX_WORKERS, Source, TableSource, assemble};
+use plan_runner::MAX_AHEAD;
+use std::alloc::Global;
+use std::rt::Clock;
+use std::sync::{Arc, Wait};
+use std::thread::Threads;
+use std::time::Duration;
+use std::{io, thread};
+
+const FRAGMENTS: usize = 20;
+// How many milliseconds a fetch takes.
+const FETCH: u64 = 2;
+
+const TURNS: u32 = 15;
+// How many pages whose answers are ready are assembled in a turn.
+const PAGES: u32 = 200;
+
+// What has the page at once, and each fragment after a while.
+#[derive(Drop)]
+struct Slow {
+    page: PageUrl,
+    table: TableSource,
+}
+
+impl<R: Clock> Source<R> for Slow {
+    ghost use Rattle.std.specs.Prelude.{◌≡◌};
+
+    ghost gives = { λ slow url answer. answer.url ≡ url };
+
+    ghost names_url = { λ slow url answer given. given };
+
+    fn fetch(&self, rt: &R, alloc: Global, url: &PageUrl) -> Result<Arc<Answer>, NoMemory> {
+        thread::sleep(rt, Duration::from_millis(FETCH));
+        self.table.fetch(rt, alloc, url)
+    }
+
+    fn ready(&self, rt: &R, alloc: Global, url: &PageUrl) -> Result<Option<Arc<Answer>>, NoMemory> {
+        if *url == self.page {
+            self.table.ready(rt, alloc, url)
+        } else {
+            Ok(None)
+        }
+    }
+}
+
+/// Prints how long pages take by so many workers.
+pub fn run<R: Wait + Threads + Clock + Print + Sync>(rt: &R, alloc: Global) -> io::Result<()> {
+    let page = includes(alloc, FRAGMENTS)?;
+    let site = Site {
+        page: page.as_str(),
+        body: "plain",
+        fragments: FRAGMENTS,
+        is_processed: false,
+    };
+    slow_told(rt, alloc, site)?;
+    ready_told(rt, alloc, site)
+}
+
+// Each fetch takes a while.
+fn slow_told<R: Wait + Threads + Clock + Print + Sync>(
+    rt: &R,
+    alloc: Global,
+    site: Site<'_>,
+) -> io::Result<()> {
+    let slow = Slow {
+        page: page_url(alloc)?,
+        table: TableSource::new(table(alloc, site)?),
+    };
+    rounds_told(rt, alloc, &slow, 1, 20)?;
+    rounds_told(rt, alloc, &slow, 4, 5)?;
+    rounds_told(rt, alloc, &slow, 16, 2)
+}
+
+// Prints the time beside that of the rounds in which so many workers fetch.
+fn rounds_told<R: Wait + Threads + Clock + Print + Sync>(
+    rt: &R,
+    alloc: Global,
+    slow: &Slow,
+    workers: u8,
+    rounds: u64,
+) -> io::Result<()> {
+    let mut least = Least::new();
+    for _ in 0..TURNS {
+        least.time(rt, || assembled(rt, alloc, slow, workers))??;
+    }
+    let bound = Duration::from_millis(FETCH.wrapping_mul(rounds));
+    println!(rt;
+        "workers, {FRAGMENTS} fetches of {FETCH} ms by {workers}: {} us = {:.2} times {rounds} rounds",
+        least.get().as_micros(),
+        ratio(least.get(), bound)
+    )
+}
+
+fn assembled<R: Wait + Threads + Sync, S: Source<R> + Sync>(
+    rt: &R,
+    alloc: Global,
+    source: &S,
+    workers: u8,
+) -> io::Result<()> {
+    let url = page_url(alloc)?;
+    let request = Request::empty(alloc);
+    let workers = workers.clamp(1, MAX_WORKERS);
+    or_input_error(assemble(rt, alloc, source, url, request, MAX_AHEAD, workers, 4))
+}
+
+// Each answer is ready.
+fn ready_told<R: Wait + Threads + Clock + Print + Sync>(
+    rt: &R,
+    alloc: Global,
+    site: Site<'_>,
+) -> io::Result<()> {
+    let answers = table(alloc, site)?;
+    let source = TableSource::new(table(alloc, site)?);
+    let mut alone = Least::new();
+    let mut by_workers = Least::new();
+    for _ in 0..TURNS {
+        alone.time(rt, || ran_many(alloc, &answers))??;
+        by_workers.time(rt, || assembled_many(rt, alloc, &source))??;
+    }
+    println!(rt;
+        "workers, {FRAGMENTS} ready answers: {PAGES} pages in {} us = {:.2} times the page core alone",
+        by_workers.get().as_micros(),
+        ratio(by_workers.get(), alone.get())
+    )
+}
+
+fn ran_many(alloc: Global, table: &Table) -> io::Result<()> {
+    for _ in 0..PAGES {
+        ran(alloc, table, MAX_AHEAD, 4, &[])?;
+    }
+    Ok(())
+}
+
+fn assembled_many<R: Wait + Threads + Sync>(
+    rt: &R,
+    alloc: Global,
+    source: &TableSource,
+) -> io::Result<()> {
+    for _ in 0..PAGES {
+        assembled(rt, alloc, source, 4)?;
+    }
+    Ok(())
+}
