@@ -8,8 +8,8 @@ use Rattle.edge_types.specs.declared.answer.Reply.TheVariants.{Failed, Got}
 use Rattle.edge_types.specs.Answered.{Answered, is_success}
 use Rattle.fragment_cache.specs.Times.{second_after, expiry_of, expiry_of_reply, fresh_until, extension_of, is_failing}
 use Rattle.fragment_cache.specs.Machine.{Entry, Entries, Flight, Airspace, Kept, State, Flights, empty, flying, entry_of, others, used, stored, fresh, bridge_end, bridging, answer_before, same_number, kept_at, flying_at, landed_at, picks_at, NoneFlies, changed, without, departed, one_more, one_fewer, landed_with, picked}
-use Rattle.fragment_cache.specs.Steps.{PicksUp, Arrives, LandsSomehow, Hit, Join, Lead, Bypass, Here, Flying, Unknown}
-use Rattle.fragment_cache.specs.Runs.{Event, Began, Landed, PickedUp, Step, Run}
+use Rattle.fragment_cache.specs.Steps.{PicksUp, Arrives, LandsSomehow, Hit, Join, Lead, Bypass, LookAnswer, Found, Missing, Refused, Here, Flying, Unknown}
+use Rattle.fragment_cache.specs.Runs.{Event, Began, Looked, Landed, PickedUp, Step, Run}
 use Rattle.fragment_cache.specs.Law.{History, is_of, flies_in, is_bridged, latest, flying_in, landed_in, leads, joins, heres, IsLatest, NoneFlew, Follows, Keeps, OneFlies, CacheLaw}
 use Rattle.fragment_cache.proofs.EntryLemmas.{same_bytes, each_filter, each_append}
 use Rattle.fragment_cache.proofs.FlightLemmas.{exact_number, kept_at-next, each_changed, flying_at-changed, flying_at-arrives, flying_at-push, landed_flies_not, flying_at-without}
@@ -62,6 +62,16 @@ latest_bridging h s url now answer told is = by_entry (entry_of s.entries url) r
 
 told_hit : (h : History) (s : State) (url : List ℕ) (now : ℕ) (answer : Answered) → Told h s → Told (Began url now (Hit answer) ∷ h) (record s { entries = used url s.entries })
 told_hit h s url now answer told = record {
+  flying = told.flying;
+  tells = told.tells;
+  below = told.below;
+  number = told.number;
+  latest = λ u e is. told.latest u e (sym (entry_of-used url s.entries u) ∙ is);
+  one = told.one;
+}
+
+told_found : (h : History) (s : State) (url : List ℕ) (now : ℕ) (answer : Answered) → Told h s → Told (Looked url now (Found answer) ∷ h) (record s { entries = used url s.entries })
+told_found h s url now answer told = record {
   flying = told.flying;
   tells = told.tells;
   below = told.below;
@@ -334,6 +344,9 @@ module _ (h : History) (s : State) (number : ℕ) (told : Told h s) (landed : Is
 told_bypass : (h : History) (s : State) (url : List ℕ) (now : ℕ) → Told h s → Told (Began url now Bypass ∷ h) s
 told_bypass h s url now told = record { flying = told.flying; tells = told.tells; below = told.below; number = told.number; latest = told.latest; one = told.one }
 
+told_looked : (h : History) (s : State) (url : List ℕ) (now : ℕ) (answer : LookAnswer) → Told h s → Told (Looked url now answer ∷ h) s
+told_looked h s url now answer told = record { flying = told.flying; tells = told.tells; below = told.below; number = told.number; latest = told.latest; one = told.one }
+
 told_missed : (h : History) (s : State) (flight : Flight) (answer : Answered) (now : ℕ) (given : Answered) → Told h s → flying_in h flight.number ≢ Some flight.url → Told (Landed flight answer now given ∷ h) s
 told_missed h s flight answer now given told other = record {
   flying = λ m. told.flying m ∙ ap (λ (b : Bool). cond (b && same_number flight.number m) None (flying_in h m)) (sym misses);
@@ -407,6 +420,10 @@ told_step h old new (Began url now (Lead flight ready)) step told =
     ((ap (λ (f : Flight). f.url) step.2.2, ap (λ (f : Flight). f.number) step.2.2 ∙ told.number, step.2.3, none_flew h old url told step.1), led h old new url now flight ready step told)
 told_step h old new (Began url now Bypass) step told =
     (tt, subst (Told (Began url now Bypass ∷ h)) (sym step.0) (told_bypass h old url now told))
+told_step h old new (Looked url now (Found answer)) step told =
+    (latest_fresh h old url now answer told step.0, subst (Told (Looked url now (Found answer) ∷ h)) (sym step.1) (told_found h old url now answer told))
+told_step h old new (Looked url now Missing) step told = (tt, subst (Told (Looked url now Missing ∷ h)) (sym step.1) (told_looked h old url now Missing told))
+told_step h old new (Looked url now Refused) step told = (tt, subst (Told (Looked url now Refused ∷ h)) (sym step.1) (told_looked h old url now Refused told))
 told_step h old new (Landed flight answer now given) step told = landed h old new flight answer now given told step.1
 told_step h old new (PickedUp number (Here answer)) step told = here h old new number answer step told
 told_step h old new (PickedUp number Flying) step told =

@@ -4,8 +4,8 @@ use Rattle.std.specs.Option.{option_map_or}
 use Rattle.edge_types.specs.Answered.{Answered, failed}
 use Rattle.fragment_cache.specs.Times.{second_after, expiry_of, extension_of, is_failing}
 use Rattle.fragment_cache.specs.Machine.{Flight, State, same_number}
-use Rattle.fragment_cache.specs.Steps.{Hit, Join, Lead, Bypass, Here, Flying, Unknown}
-use Rattle.fragment_cache.specs.Runs.{Event, Began, Landed, PickedUp, Run}
+use Rattle.fragment_cache.specs.Steps.{Hit, Join, Lead, Bypass, Found, Missing, Refused, Here, Flying, Unknown}
+use Rattle.fragment_cache.specs.Runs.{Event, Began, Looked, Landed, PickedUp, Run}
 
 abbrev pub History : Type 0
 History = List Event
@@ -21,6 +21,7 @@ flying_in (Began url now (Lead flight ready) ∷ earlier) number = if same_numbe
 flying_in (Began url now (Hit answer) ∷ earlier) number = flying_in earlier number
 flying_in (Began url now (Join joined) ∷ earlier) number = flying_in earlier number
 flying_in (Began url now Bypass ∷ earlier) number = flying_in earlier number
+flying_in (Looked url now answer ∷ earlier) number = flying_in earlier number
 flying_in (Landed flight answer now given ∷ earlier) number = if is_of flight.url (flying_in earlier flight.number) && same_number flight.number number then None else flying_in earlier number
 flying_in (PickedUp picked answer ∷ earlier) number = flying_in earlier number
 
@@ -37,6 +38,7 @@ abbrev pub latest : List ℕ → History → Option (Answered × ℕ)
 latest url [] = None
 latest url (Landed flight answer now given ∷ earlier) = if flies_in earlier flight && (not (is_bridged answer given) && bytes_eq flight.url url) then Some (answer, now) else latest url earlier
 latest url (Began u now answer ∷ earlier) = latest url earlier
+latest url (Looked u now answer ∷ earlier) = latest url earlier
 latest url (PickedUp number answer ∷ earlier) = latest url earlier
 
 -- the answer with which the flight of a number landed
@@ -44,6 +46,7 @@ abbrev pub landed_in : History → ℕ → Option Answered
 landed_in [] number = None
 landed_in (Landed flight answer now given ∷ earlier) number = if flies_in earlier flight && same_number flight.number number then Some given else landed_in earlier number
 landed_in (Began url now answer ∷ earlier) number = landed_in earlier number
+landed_in (Looked url now answer ∷ earlier) number = landed_in earlier number
 landed_in (PickedUp picked answer ∷ earlier) number = landed_in earlier number
 
 -- how many flights were led
@@ -53,6 +56,7 @@ leads (Began url now (Lead flight ready) ∷ earlier) = leads earlier + 1
 leads (Began url now (Hit answer) ∷ earlier) = leads earlier
 leads (Began url now (Join joined) ∷ earlier) = leads earlier
 leads (Began url now Bypass ∷ earlier) = leads earlier
+leads (Looked url now answer ∷ earlier) = leads earlier
 leads (Landed flight answer now given ∷ earlier) = leads earlier
 leads (PickedUp picked answer ∷ earlier) = leads earlier
 
@@ -63,6 +67,7 @@ joins (Began url now (Join joined) ∷ earlier) number = if same_number joined n
 joins (Began url now (Hit answer) ∷ earlier) number = joins earlier number
 joins (Began url now (Lead flight ready) ∷ earlier) number = joins earlier number
 joins (Began url now Bypass ∷ earlier) number = joins earlier number
+joins (Looked url now answer ∷ earlier) number = joins earlier number
 joins (Landed flight answer now given ∷ earlier) number = joins earlier number
 joins (PickedUp picked answer ∷ earlier) number = joins earlier number
 
@@ -73,6 +78,7 @@ heres (PickedUp picked (Here answer) ∷ earlier) number = if same_number picked
 heres (PickedUp picked Flying ∷ earlier) number = heres earlier number
 heres (PickedUp picked Unknown ∷ earlier) number = heres earlier number
 heres (Began url now answer ∷ earlier) number = heres earlier number
+heres (Looked url now answer ∷ earlier) number = heres earlier number
 heres (Landed flight answer now given ∷ earlier) number = heres earlier number
 
 -- the answer is that of the latest landing for the URL that wasn't bridged; it was to be stored, and this is its expiry
@@ -96,6 +102,10 @@ Follows earlier (Began url now (Join number)) = flying_in earlier number ≡ Som
 -- a flight is led where none flies for the URL, with a failed answer; flights are numbered from 0, in turn
 Follows earlier (Began url now (Lead flight ready)) = (flight.url ≡ url) × (flight.number ≡ leads earlier) × (ready ≡ failed url) × NoneFlew earlier url
 Follows earlier (Began url now Bypass) = ⊤
+-- an answer that is looked for and found is the latest one, before its expiry
+Follows earlier (Looked url now (Found answer)) = (expiry : ℕ) × IsLatest earlier url answer expiry × (now < expiry)
+Follows earlier (Looked url now Missing) = ⊤
+Follows earlier (Looked url now Refused) = ⊤
 -- a landing that isn't bridged, and a `land` of a flight that doesn't fly, give back what is handed in
 Follows earlier (Landed flight answer now given) = (given ≡ answer) ⊎ Bridges earlier flight answer now given
 -- a pick-up gives the answer with which the flight landed, and there was a join for it

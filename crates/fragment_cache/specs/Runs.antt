@@ -2,17 +2,19 @@
 use Rattle.std.specs.Prelude.{◌≡◌, ℕ, List, [], ◌∷◌}
 use Rattle.edge_types.specs.Answered.{Answered}
 use Rattle.fragment_cache.specs.Machine.{Flight, State, empty}
-use Rattle.fragment_cache.specs.Steps.{BeginAnswer, PickAnswer, Begins, LandsSomehow, Picks}
+use Rattle.fragment_cache.specs.Steps.{BeginAnswer, LookAnswer, PickAnswer, Begins, Looks, LandsSomehow, Picks}
 
 -- one call of a shard, with the second at which it was made, and what it answered
 pub data Event : Type 0 where
   Began : (url : List ℕ) (now : ℕ) (answer : BeginAnswer) → Event
+  Looked : (url : List ℕ) (now : ℕ) (answer : LookAnswer) → Event
   Landed : (flight : Flight) (answer : Answered) (now : ℕ) (given : Answered) → Event
   PickedUp : (number : ℕ) (answer : PickAnswer) → Event
 
 -- the call may go so from old to new; an answer lands only for the URL that it names
 abbrev pub Step : State → Event → State → Type 0
 Step old (Began url now answer) new = Begins old url now answer new
+Step old (Looked url now answer) new = Looks old url now answer new
 Step old (Landed flight answer now given) new = (answer.url ≡ flight.url) × LandsSomehow old flight answer now given new
 Step old (PickedUp number answer) new = Picks old number answer new
 

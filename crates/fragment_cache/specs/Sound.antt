@@ -30,9 +30,9 @@ pub record IsSound (s : State) : Type 0 where
   pub entries : AreEntries s.capacity s.entries
   pub flights : AreFlights s.flights s.next
 
--- a stored answer that `begin` gives names the URL that was asked
+-- what `begin` gives names the URL that was asked: a stored answer, a flight and the failed answer for it
 abbrev pub NamesUrl : List ℕ → BeginAnswer → Type 0
 NamesUrl url (Hit answer) = answer.url ≡ url
 NamesUrl url (Join number) = ⊤
-NamesUrl url (Lead flight ready) = ⊤
+NamesUrl url (Lead flight ready) = (flight.url ≡ url) × (ready.url ≡ url)
 NamesUrl url Bypass = ⊤

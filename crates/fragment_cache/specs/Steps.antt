@@ -13,6 +13,12 @@ pub data BeginAnswer : Type 0 where
   Lead : (flight : Flight) (ready : Answered) → BeginAnswer
   Bypass : BeginAnswer
 
+-- what `look` answers: an answer, none, or that a growth was refused
+pub data LookAnswer : Type 0 where
+  Found : (answer : Answered) → LookAnswer
+  Missing : LookAnswer
+  Refused : LookAnswer
+
 -- how a `land` goes
 pub data Landing : Type 0 where
   NoFlight : Landing
@@ -45,6 +51,15 @@ Begins old url now (Join number) new = (fresh old.entries url now ≡ None) × (
 Begins old url now (Lead flight ready) new = (fresh old.entries url now ≡ None) × NoneFlies old.flights url × Departs (airspace old) url flight ready (airspace new) × (new ≡ record old { flights = new.flights; next = new.next })
 -- nothing changes: in place of a hit or of a lead at any time, since no clause can tell that a growth was refused; in place of a join only where the flight has all the pick-ups that it may have
 Begins old url now Bypass new = (new ≡ old) × (fresh old.entries url now ≡ None → (number : ℕ) → flying_at old.flights number ≡ Some url → picks_at old.flights number ≡ MAX_PICKS)
+
+-- From old, a `look` for the URL may answer this and leave new. No flight is begun or joined.
+abbrev pub Looks : State → List ℕ → ℕ → LookAnswer → State → Type 0
+-- the entry is fresh: its answer is given, and it becomes the newest
+Looks old url now (Found answer) new = (fresh old.entries url now ≡ Some answer) × (new ≡ record old { entries = used url old.entries })
+-- no entry is: nothing changes
+Looks old url now Missing new = (fresh old.entries url now ≡ None) × (new ≡ old)
+-- nothing changes where a growth is refused, which only an entry that is fresh needs
+Looks old url now Refused new = IsSome (fresh old.entries url now) × (new ≡ old)
 
 -- The flight of this number lands with the answer and keeps its pick-ups; it may be gone, and is where it has none.
 abbrev pub Arrives : Flights → ℕ → Answered → Flights → Type 0

@@ -12,9 +12,10 @@ use std::sync::Arc;
 /// The most flights that a shard keeps: those that fly, and those that wait for pick-ups.
 pub const MAX_FLIGHTS: usize = 1024;
 
-/// The right and the duty to fetch a URL and to land the answer. It can't be copied. Clauses see
-/// its number and its URL.
-#[derive(Drop)]
+/// The right and the duty to fetch a URL and to land the answer. It can be neither copied nor let
+/// go: `Shard::land` alone takes it, so nobody who joins a flight waits for one that was forgotten.
+/// Clauses see its number and its URL.
+#[must_use]
 pub struct Flight {
     number: u64,
     url: PageUrl,
@@ -42,6 +43,11 @@ impl Flight {
         ensures { result ≡ self.now.number }
     {
         self.number
+    }
+
+    // Ends the duty of a flight that was landed.
+    pub(crate) fn end(self) {
+        let Flight { number: _, url: _ } = self;
     }
 }
 
@@ -163,13 +169,10 @@ impl Flights {
     {
         let number = self.next;
         let ready = Arc::new(alloc, Answer::failed(url.share()?))?;
-        let flight = Flight {
-            number,
-            url: url.share()?,
-        };
+        let own = url.share()?;
         open(&mut self.flying, &mut self.kept, url, number)?;
         self.next = number + 1;
-        Ok((flight, ready))
+        Ok((Flight { number, url: own }, ready))
     }
 
     // Lands a flight that flies, with its pick-ups; it is gone where it has none, or a second

@@ -13,8 +13,8 @@ use std::sync::Arc;
 /// The most entries that a shard can have.
 pub const MAX_CAPACITY: usize = 1024;
 
-/// What `begin` answers.
-#[derive(Drop)]
+/// What `begin` answers. It can't be let go, since a flight can't.
+#[must_use]
 pub enum Begun {
     /// The stored answer.
     Hit(Arc<Answer>),
@@ -29,6 +29,7 @@ pub enum Begun {
 /// Stored answers, and the flights of those that are to come.
 ///
 /// ```text
+///  look  --         the stored answer, before its expiry, or nothing
 ///  begin -- Hit     the stored answer, before its expiry
 ///        -- Join    a flight of the URL flies: pick its answer up later
 ///        -- Lead    none does: fetch, and land --+-- stored, or not
@@ -50,10 +51,10 @@ impl Model for Shard {
 }
 
 impl Shard {
-    ghost use Rattle.std.specs.Prelude.{◌≡◌, ◌<◌, ◌≤◌, ◌+◌, ◌++◌, ◌∷◌, [], ℕ, None, Some, IfOk};
+    ghost use Rattle.std.specs.Prelude.{◌≡◌, ◌<◌, ◌≤◌, ◌+◌, ◌++◌, ◌∷◌, [], ℕ, None, Some, IfOk, IfSome, OnErr, MatchOption};
     ghost use Rattle.std.specs.Arc.{arc_value};
     ghost use Rattle.fragment_cache.specs.Machine.{empty, fresh};
-    ghost use Rattle.fragment_cache.specs.Steps.{Begins, LandsSomehow, Picks};
+    ghost use Rattle.fragment_cache.specs.Steps.{Begins, Looks, Found, Missing, Refused, LandsSomehow, Picks};
     ghost use Rattle.fragment_cache.specs.Shown.{begun_answer, picked_answer};
     ghost use Rattle.fragment_cache.specs.Sound.{IsSound, NamesUrl};
 
@@ -74,6 +75,26 @@ impl Shard {
             flights: Flights::new(alloc),
             alloc,
         })
+    }
+
+    /// Gives the stored answer of a URL where now is before its expiry, and makes its entry the
+    /// newest; none where no entry is so, which changes nothing. No flight is begun or joined.
+    ///
+    /// `NoMemory` where a second owner of the answer is refused; nothing changes then.
+    ///
+    /// Our profile.
+    pub fn look(&mut self, url: &PageUrl, now: u64) -> Result<Option<Arc<Answer>>, NoMemory>
+        ensures ok { IfOk result (λ found. MatchOption found
+            (Looks self.old url.now now Missing self.new)
+            (λ answer. Looks self.old url.now now (Found (arc_value answer)) self.new)) }
+        ensures err { OnErr result (Looks self.old url.now now Refused self.new) }
+        ensures named { IfOk result (λ found. IfSome found (λ answer. (arc_value answer).url ≡ url.now)) }
+        ensures sound { IsSound self.new }
+    {
+        self.entries.sound();
+        let found = self.entries.hit(url, now);
+        self.sound();
+        found
     }
 
     /// Asks for a URL at a second of the clock, and answers in this order: `Hit` where an entry of
@@ -162,6 +183,7 @@ impl Shard {
     {
         self.sound();
         let answer = self.touch_down(&flight, SharedAnswer::of(answer), now);
+        flight.end();
         self.sound();
         answer.into_arc()
     }

@@ -1,5 +1,6 @@
 //! Tables of calls on a new shard and what each answers.
-ghost use Rattle.std.specs.Prelude.{◌≤◌};
+ghost use Rattle.std.specs.Prelude.{◌≡◌, ◌≤◌};
+ghost use Rattle.std.specs.Arc.{arc_value};
 
 use edge_types::{Answer, Control, Octets, PageUrl, SharedBytes};
 use fragment_cache::{Begun, Flight, Picked, Shard};
@@ -37,6 +38,7 @@ const fn answered(status: u16, max_age: u32, extension: u32, body: u8) -> Told {
 #[derive(Clone, Copy, Debug, Drop, PartialEq, Eq)]
 enum Call {
     Begin(&'static str, u64),
+    Look(&'static str, u64),
     // The flight of this number lands with what was told, or with the failed answer.
     Land(u64, Option<Told>, u64),
     Pick(u64),
@@ -49,6 +51,7 @@ enum Says {
     Join(u64),
     Lead(u64),
     Bypass,
+    Missing,
     Gives(Option<u8>),
     Here(Option<u8>),
     Flying,
@@ -83,12 +86,45 @@ fn body(answer: &Answer) -> Option<u8> {
     answer.body().first().copied()
 }
 
-// A flight that a leader holds, by its number, with its ready made failed answer.
-#[derive(Drop)]
+// A flight that a leader holds, by its number, with its ready made failed answer. It lands in a shard
+// of its own where a test lets it go.
 struct Held {
     number: u64,
     flight: Flight,
     ready: Arc<Answer>,
+    spare: Shard,
+    ghost named: { (arc_value ready).url ≡ flight.url },
+}
+
+impl Drop for Held {
+    fn drop(self) {
+        let Held {
+            number: _,
+            flight,
+            ready,
+            mut spare,
+        } = self;
+        spare.land(flight, ready, 0);
+    }
+}
+
+impl Held {
+    fn land(
+        self,
+        rt: &impl Abort,
+        shard: &mut Shard,
+        answer: Arc<Answer>,
+        now: u64,
+    ) -> Arc<Answer> {
+        let Held {
+            number: _,
+            flight,
+            ready: _,
+            spare: _,
+        } = self;
+        assert!(rt; *answer.url() == *flight.url());
+        shard.land(flight, answer, now)
+    }
 }
 
 // A shard, what its leaders hold, and how many of them there were: a flight is told by how many left
@@ -105,7 +141,14 @@ impl Desk {
         match call {
             Call::Begin(text, now) => {
                 let url = url(alloc, text)?;
-                self.begin(&url, now)
+                self.begin(alloc, &url, now)
+            }
+            Call::Look(text, now) => {
+                let url = url(alloc, text)?;
+                Ok(match self.shard.look(&url, now)? {
+                    Some(answer) => Says::Hit(body(&answer)),
+                    None => Says::Missing,
+                })
             }
             Call::Land(number, told, now) => self.land(rt, alloc, number, told, now),
             Call::Pick(number) => Ok(match self.shard.pick(number) {
@@ -116,7 +159,8 @@ impl Desk {
         }
     }
 
-    fn begin(&mut self, url: &PageUrl, now: u64) -> Result<Says, Fail> {
+    fn begin(&mut self, alloc: Global, url: &PageUrl, now: u64) -> Result<Says, Fail> {
+        let spare = Shard::new(alloc, 1)?;
         match self.shard.begin(url, now) {
             Begun::Hit(answer) => Ok(Says::Hit(body(&answer))),
             Begun::Join(number) => Ok(Says::Join(number)),
@@ -126,6 +170,7 @@ impl Desk {
                     number,
                     flight,
                     ready,
+                    spare,
                 })?;
                 self.led = number.wrapping_add(1);
                 Ok(Says::Lead(number))
@@ -145,13 +190,13 @@ impl Desk {
         let Some(at) = self.held.iter().position(|held| held.number == number) else {
             return Ok(Says::NoFlight);
         };
-        let Held { flight, ready, .. } = self.held.swap_remove(at);
+        let held = self.held.swap_remove(at);
         let answer = match told {
-            Some(told) => answer(alloc, flight.url().share()?, told)?,
-            None => ready,
+            Some(told) => answer(alloc, held.flight.url().share()?, told)?,
+            None => Arc::try_clone(&held.ready)?,
         };
-        assert!(rt; *answer.url() == *flight.url());
-        Ok(Says::Gives(body(&self.shard.land(flight, answer, now))))
+        let landed = held.land(rt, &mut self.shard, answer, now);
+        Ok(Says::Gives(body(&landed)))
     }
 }
 
@@ -185,8 +230,8 @@ fn play(
     Ok(())
 }
 
-use Call::{Begin, Land, Pick};
-use Says::{Flying, Gives, Here, Hit, Join, Lead, Unknown};
+use Call::{Begin, Land, Look, Pick};
+use Says::{Flying, Gives, Here, Hit, Join, Lead, Missing, Unknown};
 
 #[test]
 fn one_fetch_serves_all(rt: HostRuntime) -> Result<(), Fail> {
@@ -265,6 +310,35 @@ fn entries_go_by_their_last_use(rt: HostRuntime) -> Result<(), Fail> {
     play(&rt, alloc, "the last one is dropped", 1, &dropped)?;
     play(&rt, alloc, "hits between", 2, &hits_between)?;
     play(&rt, alloc, "an expired entry", 2, &expired)
+}
+
+#[test]
+fn a_look_is_a_hit_or_nothing(rt: HostRuntime) -> Result<(), Fail> {
+    let fresh = |body: u8| Some(answered(200, 10, 0, body));
+    // It neither begins a flight nor joins one.
+    let alone = [
+        (Look(A, 100), Missing),
+        (Begin(A, 100), Lead(0)),
+        (Look(A, 100), Missing),
+        (Land(0, fresh(1), 100), Gives(Some(1))),
+        (Pick(0), Unknown),
+        (Look(A, 109), Hit(Some(1))),
+        (Look(A, 110), Missing),
+    ];
+    let used = [
+        (Begin(A, 5), Lead(0)),
+        (Land(0, fresh(1), 5), Gives(Some(1))),
+        (Begin(B, 5), Lead(1)),
+        (Land(1, fresh(2), 5), Gives(Some(2))),
+        (Look(A, 6), Hit(Some(1))),
+        (Begin(C, 6), Lead(2)),
+        (Land(2, fresh(3), 6), Gives(Some(3))),
+        (Look(A, 7), Hit(Some(1))),
+        (Look(B, 7), Missing),
+    ];
+    let alloc = rt.alloc();
+    play(&rt, alloc, "no flight", 1, &alone)?;
+    play(&rt, alloc, "the newest entry", 2, &used)
 }
 
 // What lands on an entry that has expired; the clock then goes back, to tell whether it is there.
@@ -382,11 +456,11 @@ fn pick_ups_have_a_limit(rt: HostRuntime) -> Result<(), Fail> {
     let alloc = rt.alloc();
     let url = url(alloc, A)?;
     let mut desk = new_desk(alloc, 1)?;
-    assert_eq!(rt; desk.begin(&url, 5)?, Lead(0));
+    assert_eq!(rt; desk.begin(alloc, &url, 5)?, Lead(0));
     for _ in 0..65_535 {
-        assert_eq!(rt; desk.begin(&url, 5)?, Join(0));
+        assert_eq!(rt; desk.begin(alloc, &url, 5)?, Join(0));
     }
-    assert_eq!(rt; desk.begin(&url, 5)?, Says::Bypass);
+    assert_eq!(rt; desk.begin(alloc, &url, 5)?, Says::Bypass);
     Ok(())
 }
 
@@ -396,9 +470,15 @@ fn flights_have_a_limit(rt: HostRuntime) -> Result<(), Fail> {
     let mut desk = new_desk(alloc, 1)?;
     for number in 0..1024 {
         let text = format!(in alloc; "http://a.test/{number}")?;
-        assert_eq!(rt; desk.begin(&url(alloc, text.as_str())?, 5)?, Lead(number));
+        assert_eq!(rt;
+            desk.begin(alloc, &url(alloc, text.as_str())?, 5)?,
+            Lead(number)
+        );
     }
-    assert_eq!(rt; desk.begin(&url(alloc, A)?, 5)?, Says::Bypass);
-    assert_eq!(rt; desk.begin(&url(alloc, "http://a.test/0")?, 5)?, Join(0));
+    assert_eq!(rt; desk.begin(alloc, &url(alloc, A)?, 5)?, Says::Bypass);
+    assert_eq!(rt;
+        desk.begin(alloc, &url(alloc, "http://a.test/0")?, 5)?,
+        Join(0)
+    );
     Ok(())
 }
