@@ -1,3 +1,4 @@
 pub mod Given
 pub mod Rests
 pub mod Laws
+pub mod Shards

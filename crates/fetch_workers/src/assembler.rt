@@ -3,6 +3,7 @@
 ghost use Rattle.std.specs.Prelude.{◌≡◌, ◌≤◌, map, IfOk, IsTrue};
 ghost use Rattle.std.specs.Arc.{arc_value};
 ghost use Rattle.edge_types.specs.Outcome.{shown};
+ghost use Rattle.esi_meaning.specs.Ahead.{IsLegal};
 ghost use Rattle.esi_meaning.specs.Meaning.{AreLevels};
 ghost use Rattle.answer_board.specs.Board.{log_of};
 ghost use Rattle.fetch_workers.specs.declared.log.Own.{Own};
@@ -32,7 +33,7 @@ pub const MAX_WORKERS: u8 = 16;
 pub struct Assembled {
     /// What the page comes to.
     pub outcome: Arc<Outcome>,
-    /// The answers that were posted, in order of posting.
+    /// The answers that were posted, in order of posting: a legal log.
     pub log: Vec<Arc<Answer>>,
 }
 
@@ -60,6 +61,7 @@ where
     requires workers { AreWorkers workers }
     requires levels { AreLevels levels }
     ensures given { IfOk result (λ page. AllGiven (S.gives source.now) (map arc_value page.log.items)) }
+    ensures legal { IfOk result (λ page. IsLegal request url (map arc_value page.log.items)) }
     ensures outcome { IfOk result (λ page. RestsOn request levels url (map arc_value page.log.items) (shown (arc_value page.outcome))) }
 {
     assemble_gated(
@@ -89,6 +91,7 @@ where
     requires workers { AreWorkers workers }
     requires levels { AreLevels levels }
     ensures given { IfOk result (λ page. AllGiven (S.gives source.now) (map arc_value page.log.items)) }
+    ensures legal { IfOk result (λ page. IsLegal request url (map arc_value page.log.items)) }
     ensures outcome { IfOk result (λ page. RestsOn request levels url (map arc_value page.log.items) (shown (arc_value page.outcome))) }
 {
     let page = Page::accept(alloc, url.share()?, request.copy(alloc)?, ahead, levels)?;
@@ -109,12 +112,14 @@ fn compared(
     levels: u8,
 ) -> Result<Assembled, AssembleFault>
     ensures own { IfOk result (λ page. map arc_value page.log.items ≡ map (λ (o : Own). o.answer) own.items) }
+    ensures legal { IfOk result (λ page. IsLegal request.now url.now (map arc_value page.log.items)) }
     ensures outcome { IfOk result (λ page. RestsOn request.now levels url.now (map arc_value page.log.items) (shown (arc_value page.outcome))) }
 {
     let outcome = told(&mut page)?;
     if !is_asked_for(&page, url, request, levels) || !is_log_of(&page, own.as_slice()) {
         return Err(AssembleFault::Torn);
     }
+    legal(&page);
     let log = answers_of(alloc, own)?;
     Ok(Assembled { outcome, log })
 }
@@ -128,6 +133,13 @@ fn told(page: &mut Page) -> Result<Arc<Outcome>, AssembleFault>
         Ok(State::Waiting(_)) => Err(AssembleFault::Torn),
         Err(_) => Err(AssembleFault::NoMemory),
     }
+}
+
+// What holds of the log of each page.
+fn legal(page: &Page)
+    ensures { IsLegal page.now.request page.now.url (log_of page.now.board) }
+{
+    let _ = page.logged(0);
 }
 
 // Whether it is the page at this URL, for this request and at these levels.

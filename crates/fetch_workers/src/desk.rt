@@ -1,6 +1,7 @@
 //! What lies under a page's lock, and every decision about it.
 
-ghost use Rattle.std.specs.Prelude.{◌≡◌, ◌+◌, ◌<◌, ◌≤◌, MatchBool};
+ghost use Rattle.std.specs.Prelude.{◌≡◌, ◌↔◌, ◌+◌, ◌<◌, ◌≤◌, IsTrue, MatchBool};
+ghost use Rattle.std.specs.VecDeque.{deque_len};
 
 use crate::fault::AssembleFault;
 use answer_board::{Receipt, Ticket};
@@ -114,9 +115,11 @@ impl Desk {
         }
     }
 
-    // Counts one more thread, if it would find something to fetch and may be started.
+    // Counts one more thread: where a ticket is left for it, nobody sleeps who could take that one,
+    // and it may be started; and only there.
     fn take_place(&mut self) -> bool
-        ensures { MatchBool result (self.new.threads ≡ self.old.threads + 1) (self.new.threads ≡ self.old.threads) }
+        ensures count { MatchBool result (self.new.threads ≡ self.old.threads + 1) (self.new.threads ≡ self.old.threads) }
+        ensures start { IsTrue result ↔ ((0 < deque_len self.old.aside) × (self.old.asleep ≡ 0) × (self.old.threads < self.old.limit)) }
     {
         if self.aside.is_empty() || self.asleep > 0 || self.threads >= self.limit {
             return false;

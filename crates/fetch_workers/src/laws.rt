@@ -1,10 +1,11 @@
-//! What follows from the contract of `assemble`: each is the contract of a function that does
-//! nothing.
+//! What follows from the contract of `assemble`, and the limits in figures: each is the contract of a
+//! function that does nothing.
 
 ghost use Rattle.std.specs.Prelude.{◌≡◌};
 ghost use Rattle.fetch_workers.specs.Laws.{TablesGiveThePage};
 
 use crate::assembler::MAX_WORKERS;
+use crate::cache::SHARDS;
 
 /// Over a `TableSource` a page has the outcome that `plain_page` answers over its table, for every
 /// number of workers and every number of slots ahead. Takes no memory.
@@ -19,4 +20,11 @@ pub fn tables_give_the_page()
 /// Our profile.
 pub fn limit_of_workers()
     ensures { MAX_WORKERS ≡ 16 }
+{}
+
+/// A cache has eight shards. Takes no memory.
+///
+/// Our profile.
+pub fn number_of_shards()
+    ensures { SHARDS ≡ 8 }
 {}

@@ -1,8 +1,10 @@
 //! Pages that several threads assemble. What is asked for an answer is a `Source`; `assemble` makes
-//! of its answers the page that one thread would make.
+//! of its answers the page that one thread would make. A `Cache` is a source that pages share.
 #![tactic(auto)]
 
 mod assembler;
+mod cache;
+mod clock;
 mod crew;
 mod desk;
 mod fault;
@@ -11,11 +13,14 @@ pub mod laws;
 mod log;
 mod same;
 mod shared_desk;
+mod shared_shard;
 mod source;
 mod table_source;
 mod worker;
 
 pub use assembler::{Assembled, MAX_WORKERS, assemble, assemble_gated};
+pub use cache::{Cache, SHARDS};
+pub use clock::Clock;
 pub use fault::AssembleFault;
 pub use gate::{Gate, OpenGate};
 pub use source::Source;
