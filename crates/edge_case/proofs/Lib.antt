@@ -1,11 +1,13 @@
 pub mod AcceptableLemmas
 pub mod Steps
 pub mod Lines
+pub mod Decimals
 pub mod Numbers
 pub mod Headings
 pub mod Entries
 pub mod AnswersLemmas
 pub mod CaseLemmas
 pub mod Writes
+pub mod Orders
 pub mod Takes
 pub mod Runs

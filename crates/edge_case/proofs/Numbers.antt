@@ -1,27 +1,16 @@
 -- Numbers as lines write them: what is read is written so, and what is written so is read.
-use Rattle.std.proofs.Common.{◌≡◌, ◌≢◌, ℕ, ◌+◌, ◌*◌, ◌^◌, ◌<◌, ◌≤◌, true, false, List, [], ◌∷◌, length, get_or, refl, sym, ◌∙◌, ap, Some, None, arith, rules, decimal, inl, inr}
-use Rattle.std.proofs.lemmas.Grind.{pow_more}
-use Rattle.std.proofs.lemmas.Bool.{and_parts, and_from, not-true, not_from_false, ltb-true, lt-ltb, leb-true, le-leb, eqb-false, ne_eqb, cond-true, cases_eq}
+use Rattle.std.proofs.Common.{◌≡◌, ◌≢◌, ℕ, ◌^◌, ◌<◌, ◌≤◌, ◌&&◌, Bool, true, false, cond, nat_le, nat_lt, not, List, [], ◌∷◌, length, get_or, refl, sym, ◌∙◌, ap, Some, None, arith, rules, decimal, inl, inr}
+use Rattle.std.proofs.lemmas.Bool.{and_parts, and_from, not-true, not_from_false, ltb-true, lt-ltb, lt-leb, leb-true, le-leb, eqb-false, ne_eqb, cond-true, cases_eq}
 use Rattle.std.proofs.lemmas.Fmt.{decimal-digits_value, digits_decimal, digits_value-decimal, decimal_nonempty, length-decimal-le, first_decimal, decimal_digit}
-use Rattle.std.proofs.lemmas.Str.Parse.{IsNumeralModel, IsDigitsTest, numerals_by_value, digits_value_short, not_in_digits}
+use Rattle.std.proofs.lemmas.Str.Parse.{digits_value_short, not_in_digits}
 use Rattle.std.specs.Char.{is_ascii_digit}
 use Rattle.std.specs.List.{list_all}
 use Rattle.std.specs.Str.Parse.{digits_value}
+use Rattle.edge_case.specs.declared.number.TheConstants.{MAX_DIGITS, MAX_NUMBER}
+use Rattle.edge_case.specs.Decimal.{decimal_of}
 use Rattle.edge_case.specs.Reading.{has_needless_zero, is_number, number_of}
+use Rattle.edge_case.proofs.Decimals.{AreDigits, own, short_digits}
 use Rattle.edge_case.proofs.Steps.{guarded}
-
--- one more digit
-pub digits-grow : (i total d : ℕ) → total < 10 ^ i → d < 10 → total * 10 + d < 10 ^ (i + 1)
-digits-grow i total d h k = omega (arith, pow_more 10 i)
-
-abbrev AreDigits : List ℕ → Type 0
-AreDigits text = list_all is_ascii_digit text ≡ true
-
-digits_test : IsDigitsTest AreDigits
-digits_test = search rules
-
-own : IsNumeralModel AreDigits (digits_value 10)
-own = numerals_by_value AreDigits digits_test
 
 -- a zero alone is no needless one
 needless : (text : List ℕ) → has_needless_zero text ≡ false → 0 < length text → get_or text 0 0 ≡ 48 → length text ≡ 1
@@ -67,3 +56,34 @@ number_complete n small =
 -- a number has no byte but digits
 pub decimal_lacks : (n mark : ℕ) → n < 1000000 → mark < 48 → (i : ℕ) → i < length (decimal n) → get_or (decimal n) i 0 ≢ mark
 decimal_lacks n mark small low = not_in_digits own (decimal n) mark (digits_decimal own n (omega arith)) (λ range. omega (arith, range.0))
+
+-- ---- as the code reads them
+
+-- more digits than there may be
+pub too_long : (text : List ℕ) → MAX_DIGITS < length text → number_of text ≡ None
+unfolding number_of is_number
+too_long text long = by (nat_lt 0 (length text)) (nat_le (length text) MAX_DIGITS) (lt-leb _ _ long)
+  where
+    by : (b c : Bool) → c ≡ false → cond (b && (c && (not (has_needless_zero text) && list_all is_ascii_digit text))) (Some (digits_value 10 text)) None ≡ None
+    by true c e = rw e refl
+    by false c e = refl
+
+-- a needless zero
+pub zero_first : (text : List ℕ) → has_needless_zero text ≡ true → number_of text ≡ None
+unfolding number_of is_number
+zero_first text zero = rw zero (by (nat_lt 0 (length text)) (nat_le (length text) MAX_DIGITS))
+  where
+    by : (b c : Bool) → cond (b && (c && false)) (Some (digits_value 10 text)) None ≡ None
+    by true true = refl
+    by true false = refl
+    by false c = refl
+
+-- digits enough, and no needless zero
+pub plain_number : (text : List ℕ) → length text ≤ MAX_DIGITS → has_needless_zero text ≡ false → decimal_of text MAX_NUMBER ≡ number_of text
+unfolding number_of is_number decimal_of
+plain_number text short plain = rw (plain, le-leb _ _ short) (by (nat_lt 0 (length text)) (list_all is_ascii_digit text) refl)
+  where
+    by : (b d : Bool) → list_all is_ascii_digit text ≡ d → cond ((b && d) && nat_le (digits_value 10 text) MAX_NUMBER) (Some (digits_value 10 text)) None ≡ cond (b && d) (Some (digits_value 10 text)) None
+    by true true e = let small : digits_value 10 text < 10 ^ 6 = short_digits text 6 e short in rw (le-leb (digits_value 10 text) MAX_NUMBER (omega (arith, small))) refl
+    by true false e = refl
+    by false d e = refl

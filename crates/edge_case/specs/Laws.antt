@@ -1,8 +1,11 @@
--- Laws of case texts, over the definitions alone.
-use Rattle.std.specs.Prelude.{◌≡◌, ◌↔◌, ℕ, List, Some}
+-- Laws of case texts, of lists of events and of numbers, over the definitions alone.
+use Rattle.std.specs.Prelude.{◌≡◌, ◌↔◌, ◌≤◌, ℕ, List, Some}
+use Rattle.plan_runner.specs.declared.events.Event.{Event}
 use Rattle.edge_case.specs.declared.case_text.Case.{Case}
 use Rattle.edge_case.specs.Case.{IsCaseText}
 use Rattle.edge_case.specs.Reading.{case_of}
+use Rattle.edge_case.specs.Decimal.{WritesNumber, decimal_of}
+use Rattle.edge_case.specs.Order.{Lists, events_of}
 
 -- what is read of a text is the case that it says, and what it says is read
 abbrev pub ReadsCases : Type 0
@@ -11,3 +14,15 @@ ReadsCases = (text : List ℕ) (case : Case) → (case_of text ≡ Some case) �
 -- a text says one case at most
 abbrev pub CasesAreOne : Type 0
 CasesAreOne = (text : List ℕ) (one other : Case) → IsCaseText text one → IsCaseText text other → one ≡ other
+
+-- what is read of a text is the number that it writes, where that is at most so large, and it is read
+abbrev pub ReadsNumbers : Type 0
+ReadsNumbers = (text : List ℕ) (most n : ℕ) → (decimal_of text most ≡ Some n) ↔ (WritesNumber text n × (n ≤ most))
+
+-- what is read of a text are the events that it lists, and what it lists is read
+abbrev pub ReadsOrders : Type 0
+ReadsOrders = (text : List ℕ) (events : List Event) → (events_of text ≡ Some events) ↔ Lists text events
+
+-- a text lists one order at most
+abbrev pub OrdersAreOne : Type 0
+OrdersAreOne = (text : List ℕ) (one other : List Event) → Lists text one → Lists text other → one ≡ other

@@ -1,6 +1,8 @@
 pub mod Document
 pub mod Case
 pub mod Reading
+pub mod Decimal
+pub mod Order
 pub mod Printed
 pub mod Bytes
 pub mod Run

@@ -1,10 +1,11 @@
 //! Case texts: a page's URL, a reader's request and the answers of origins in one text, which is
-//! read, evaluated and printed.
+//! read, evaluated and printed; and the lists of events and the numbers of the command line.
 #![tactic(auto)]
 
 mod answers;
 mod bytes;
 pub mod case_text;
+pub mod decimal;
 pub mod ending;
 mod entry;
 mod heading;
@@ -12,10 +13,13 @@ mod input;
 pub mod laws;
 mod line;
 mod number;
+mod order;
 mod printer;
 pub mod runner;
 mod writing;
 
 pub use case_text::Case;
+pub use decimal::decimal_of;
 pub use ending::{CaseEnd, CaseFault};
+pub use order::read_events;
 pub use runner::run_case;

@@ -10,6 +10,8 @@ use edge_types::around;
 pub(crate) const LINE_FEED: u8 = b'\n';
 /// The byte between the parts of a line.
 pub(crate) const SPACE: u8 = b' ';
+/// The byte between the items of a list.
+pub(crate) const COMMA: u8 = b',';
 
 /// What follows a word at the front.
 #[tactic(auto, unfolding(crate::specs::Reading::after_word))]

@@ -1,23 +1,14 @@
-use Rattle.std.proofs.Common.{◌≡◌, ◌<◌, true, get_or, sym, ◌∙◌, arith}
-use Rattle.std.specs.Char.{is_ascii_digit, digit_value}
-use Rattle.std.proofs.lemmas.Bool.{and_from}
-use Rattle.std.proofs.lemmas.Bool.Decides.{nat_tests}
-use Rattle.std.proofs.lemmas.Int.Digits.{digits_value_more}
-use Rattle.std.proofs.lemmas.List.Folds.{list_all_more}
-use Rattle.edge_case.proofs.Numbers.{digits-grow}
+use Rattle.std.proofs.Common.{sym, ◌∙◌}
+use Rattle.edge_case.proofs.Numbers.{too_long, zero_first, plain_number}
 use Rattle.edge_case.proofs.number.number_of.Goals as goal
+use Rattle.edge_case.proofs.number.number_of.Goals.{then-text-gt-MAX_DIGITS-via-then-text-gt-MAX_DIGITS, then-text-gt-MAX_DIGITS-via-else-text-gt-MAX_DIGITS+then-has_needless_zero}
 
-pub loop-digit-preserved : goal.loop-digit-preserved
-loop-digit-preserved c =
-    let text = c.args.text.now in
-    let i = c.loop-digit.digit-index in
-    let digit : digit_value (get_or text i 0) ≡ c.from.result = grind (arith, nat_tests) in
-    let below : c.from.result < 10 = grind (arith, nat_tests) in
-    let passes : is_ascii_digit (get_or text i 0) ≡ true = sym c.if-not-is_ascii_digit.ensures.value in
-    let more = digits_value_more 10 text i c.loop-digit-test.true in
-    let total = c.loop-digit.invariant.total in
-    record {
-      total = omega (arith, more, digit, total);
-      digits = list_all_more is_ascii_digit text i 0 c.loop-digit-test.true ∙ and_from _ _ c.loop-digit.invariant.digits passes;
-      small = digits-grow i c.loop-digit.total c.from.result c.loop-digit.invariant.small below;
-    }
+pub returns-then-text-gt-MAX_DIGITS : goal.returns-then-text-gt-MAX_DIGITS
+returns-then-text-gt-MAX_DIGITS c =
+    elim c.then-text-gt-MAX_DIGITS.branch [
+      | then-text-gt-MAX_DIGITS-via-then-text-gt-MAX_DIGITS w ↦ sym (too_long c.args.text.now w.if-text-gt-MAX_DIGITS.true)
+      | then-text-gt-MAX_DIGITS-via-else-text-gt-MAX_DIGITS+then-has_needless_zero w ↦ sym (zero_first c.args.text.now (sym w.if-has_needless_zero.ensures))
+    ]
+
+pub returns : goal.returns
+returns c = c.decimal_of.ensures.reading ∙ plain_number c.args.text.now c.if-text-gt-MAX_DIGITS.false (sym c.if-has_needless_zero.ensures)
