@@ -20,7 +20,7 @@ pieces_of (Fault fault) = []
 -- what clauses see of what a body keeps
 abbrev pub frames_in : Frames → List (List ℕ)
 frames_in held.Nothing = []
-frames_in (held.Text text) = text.now ∷ []
+frames_in (held.Text text) = text ∷ []
 frames_in (held.Page outcome) = pieces_of (arc_value outcome)
 
 -- the frame is the first of these, as data, and the others are left

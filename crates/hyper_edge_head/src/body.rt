@@ -59,7 +59,7 @@ impl EdgeBody {
         ensures { result ≡ text.now ∷ [] }
     {
         EdgeBody {
-            frames: Frames::Text(text),
+            frames: Frames::Text(Bytes::from_static(text.as_bytes())),
             next: 0,
             left: text.len(),
         }
@@ -142,7 +142,7 @@ impl Body for EdgeBody {
 #[derive(Drop)]
 enum Frames {
     Nothing,
-    Text(&'static str),
+    Text(Bytes),
     Page(Arc<Outcome>),
 }
 
@@ -168,7 +168,7 @@ impl Frames {
         }
         match self {
             Frames::Nothing => Ok(None),
-            Frames::Text(text) => Ok(Some(Bytes::from_static(text.as_bytes()))),
+            Frames::Text(text) => Ok(Some(text.clone()?)),
             Frames::Page(outcome) => frame_of(outcome, i),
         }
     }

@@ -1,0 +1,160 @@
+//! A source that asks origins.
+
+ghost use Rattle.std.specs.Prelude.{◌≡◌, IfOk};
+
+use crate::asking::Asking;
+use crate::exchange::exchange;
+use crate::fields::{content_type_of, control_of};
+use crate::gathered::Lost;
+use crate::origin::{Origin, address_of};
+use crate::seats::Seats;
+use bytes::Bytes;
+use edge_types::{Answer, NoMemory, Octets, PageUrl, SharedBytes};
+use fetch_workers::Source;
+use http::header::HOST;
+use http::response::Parts;
+use http::{Error, Request};
+use http_body_util::Empty;
+use std::alloc::{AllocGlobal, Global};
+use std::hash::RandomState;
+use std::net::{Net, SocketAddr, TcpStream};
+use std::random::RandomSource;
+use std::sync::{Arc, Wait};
+use std::time::{Clock, Duration, Instant};
+use std::{io, str};
+use surrogate_headers::own_capability;
+
+/// A source that asks origins over HTTP: for each URL one connection and one `GET`, which names the
+/// host and says what this edge can do, and nothing of the client.
+///
+/// An answer can't be had, and is a failed one, where no origin has the URL's authority, where the
+/// socket or HTTP fails, the limit of time included, where the body ends before its length or is
+/// longer than `MAX_BODY`, and where no answer may have the status.
+///
+/// A content type that no answer may have counts as empty; several lines of `Surrogate-Control` count
+/// as one, joined by `, `.
+///
+/// Source: RFC 9110, "GET" and "Host and :authority"; Edge Architecture Specification 1.0,
+/// "Surrogate-Capability Request Header" and "Surrogate-Control Header"; our profile.
+#[derive(Drop)]
+pub struct HyperSource {
+    origins: Vec<Origin>,
+    limit: Duration,
+    keys: RandomState,
+    seats: Seats,
+}
+
+impl HyperSource {
+    /// A source that asks these origins, of an authority the first. A fetch may take this long from
+    /// connecting to the last byte.
+    ///
+    /// Refused where the system has no keys for the maps of fields.
+    pub fn new(
+        rt: &impl RandomSource,
+        alloc: Global,
+        origins: Vec<Origin>,
+        limit: Duration,
+    ) -> io::Result<HyperSource> {
+        Ok(HyperSource {
+            origins,
+            limit,
+            keys: RandomState::new(rt)?,
+            seats: Seats::new(alloc),
+        })
+    }
+
+    // What the URL's origin answers.
+    fn asked<R>(&self, rt: &R, alloc: Global, url: &PageUrl) -> Result<(Parts, Vec<u8>), Lost>
+    where
+        R: Wait + Net<Stream = TcpStream> + Clock + RandomSource + AllocGlobal + Clone + Drop,
+    {
+        let Some(address) = address_of(self.origins.as_slice(), url.authority()) else {
+            return Err(Lost::Fault);
+        };
+        let request = request_of(alloc, url)?;
+        let Ok(io) = connected(rt, address, self.limit) else {
+            return Err(Lost::Fault);
+        };
+        let Some(mut seat) = self.seats.take(rt) else {
+            return Err(Lost::Fault);
+        };
+        let got = exchange(rt, alloc, &mut seat, self.keys, io, request);
+        self.seats.leave(rt, seat);
+        got
+    }
+}
+
+impl<R> Source<R> for HyperSource
+where
+    R: Wait + Net<Stream = TcpStream> + Clock + RandomSource + AllocGlobal + Clone + Drop,
+{
+    ghost use Rattle.std.specs.Prelude.{◌≡◌};
+
+    ghost gives = { λ _ url answer. answer.url ≡ url };
+
+    ghost names_url = { λ _ _ _ named. named };
+
+    fn fetch(&self, rt: &R, alloc: Global, url: &PageUrl) -> Result<Arc<Answer>, NoMemory> {
+        let answer = match self.asked(rt, alloc, url) {
+            Ok((head, body)) => answer_of(alloc, url, &head, body)?,
+            Err(Lost::Fault) => Answer::failed(url.share()?),
+            Err(Lost::NoMemory) => return Err(NoMemory),
+        };
+        Ok(Arc::new(alloc, answer)?)
+    }
+}
+
+// The answer that a response is; a failed one where no answer may be like that.
+fn answer_of(alloc: Global, url: &PageUrl, head: &Parts, body: Vec<u8>) -> Result<Answer, NoMemory>
+    ensures { IfOk result (λ answer. answer.url ≡ url.now) }
+{
+    let fields = &head.headers;
+    let got = Answer::got(
+        url.share()?,
+        head.status.as_u16(),
+        Octets::copy_of(alloc, content_type_of(fields))?,
+        control_of(alloc, fields)?,
+        SharedBytes::of(body)?,
+    );
+    match got {
+        Some(answer) => Ok(answer),
+        None => Ok(Answer::failed(url.share()?)),
+    }
+}
+
+// A connection to an origin, for a fetch that has to end by the limit.
+fn connected<R>(rt: &R, address: SocketAddr, limit: Duration) -> io::Result<Asking<R>>
+where
+    R: Net<Stream = TcpStream> + Clock + Clone + Drop,
+{
+    let Some(deadline) = Instant::now(rt)?.checked_add(limit) else {
+        return Err(io::ErrorKind::InvalidInput.into());
+    };
+    let socket = TcpStream::connect_timeout(rt, &address, limit)?;
+    Ok(Asking::new(socket, rt.clone()?, deadline))
+}
+
+// The request for a URL: it says nothing of the client.
+fn request_of(alloc: Global, url: &PageUrl) -> Result<Request<Empty<Bytes>>, Lost> {
+    let Some((authority, target)) = parts_of(url) else {
+        return Err(Lost::Fault);
+    };
+    let (name, value) = own_capability();
+    let request = Request::get(alloc, target)
+        .header(HOST, authority)
+        .header(name, value)
+        .body(Empty::new());
+    match request {
+        Ok(request) => Ok(request),
+        Err(Error::OutOfMemory) => Err(Lost::NoMemory),
+        Err(_) => Err(Lost::Fault),
+    }
+}
+
+// The authority of a URL, and its path with its query.
+fn parts_of(url: &PageUrl) -> Option<(&str, &str)> {
+    let text = str::from_utf8(url.as_bytes()).ok()?;
+    let authority = str::from_utf8(url.authority()).ok()?;
+    let target = text.strip_prefix("http://")?.strip_prefix(authority)?;
+    Some((authority, target))
+}
