@@ -1,2 +1,4 @@
-pub mod CommandLineLemmas
+pub mod Matches
+pub mod WrittenOut
+pub mod Asking
 pub mod ProgramLemmas

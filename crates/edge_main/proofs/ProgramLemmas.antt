@@ -1,5 +1,5 @@
 -- How the program ends, by how the run of the case ends.
-use Rattle.std.proofs.Common.{◌≢◌, ℕ, List, Option, Result, Ok, Err, IfOk, IfErr, IsErrOf, refl, inl, inr}
+use Rattle.std.proofs.Common.{◌≡◌, ◌≢◌, subst, ℕ, List, Option, Result, Ok, Err, IfOk, IfErr, IsErrOf, refl, inl, inr}
 use Rattle.std.specs.Io.KnownBytes.{Keeps}
 use Rattle.clap.specs.Words.{Text}
 use Rattle.edge_case.specs.declared.ending.CaseEnd.{CaseEnd}
@@ -7,16 +7,25 @@ use Rattle.edge_case.specs.declared.ending.CaseEnd.TheVariants.{PagePrinted, Fau
 use Rattle.edge_case.specs.declared.ending.CaseFault.{CaseFault}
 use Rattle.edge_case.specs.declared.ending.CaseFault.TheVariants.{BadCase, NoMemory, Read, Write}
 use Rattle.edge_case.specs.Run.{IsNoCase, Prints, PrintsPart}
+use Rattle.edge_main.specs.declared.asked.Asked.{Asked}
+use Rattle.edge_main.specs.declared.asked.Asked.TheVariants.{Case}
 use Rattle.edge_main.specs.CommandLine.{Asks}
-use Rattle.edge_main.specs.Program.{Ends}
+use Rattle.edge_main.specs.Program.{AsksLevels, Ends}
 use Rattle.edge_main.specs.Status.{status_of}
 
-pub ends : (words : List Text) (levels : ℕ) (input before after : Option (List ℕ)) (ended : Result CaseEnd CaseFault) → Asks words levels → IfOk ended (λ end. Prints levels input before after end)
-    → (IsErrOf ended BadCase → IsNoCase input) → IfErr ended (λ e. e ≢ Write → Keeps before after) → (IsErrOf ended Write → PrintsPart levels input before after)
+-- the levels that are asked for
+abbrev pub levels_in : Asked → ℕ
+levels_in (Case order ahead levels) = levels
+
+pub asks_levels : (words : List Text) (levels : ℕ) (asked : Asked) → Asks words asked → levels_in asked ≡ levels → AsksLevels words levels
+asks_levels words levels (Case order ahead n) asks same = subst (AsksLevels words) same (order.items, ahead, asks)
+
+pub ends : (words : List Text) (levels : ℕ) (input before after : Option (List ℕ)) (ended : Result CaseEnd CaseFault) → IfOk ended (λ end. Prints levels input before after end)
+    → (IsErrOf ended BadCase → IsNoCase input) → IfErr ended (λ e. e ≢ Write → Keeps before after) → (IsErrOf ended Write → PrintsPart levels input before after) → AsksLevels words levels
     → Ends words input before after (status_of ended)
-ends words levels input before after (Ok PagePrinted) asks printed bad nothing part = (levels, asks, printed)
-ends words levels input before after (Ok FaultPrinted) asks printed bad nothing part = (levels, asks, printed)
-ends words levels input before after (Err BadCase) asks printed bad nothing part = (bad refl, nothing (λ e. absurd (cc)))
-ends words levels input before after (Err NoMemory) asks printed bad nothing part = nothing (λ e. absurd (cc))
-ends words levels input before after (Err Read) asks printed bad nothing part = inl (nothing (λ e. absurd (cc)))
-ends words levels input before after (Err Write) asks printed bad nothing part = inr (levels, asks, part refl)
+ends words levels input before after (Ok PagePrinted) printed bad nothing part asks = (levels, asks, printed)
+ends words levels input before after (Ok FaultPrinted) printed bad nothing part asks = (levels, asks, printed)
+ends words levels input before after (Err BadCase) printed bad nothing part asks = (bad refl, nothing (λ e. absurd (cc)))
+ends words levels input before after (Err NoMemory) printed bad nothing part asks = nothing (λ e. absurd (cc))
+ends words levels input before after (Err Read) printed bad nothing part asks = inl (nothing (λ e. absurd (cc)))
+ends words levels input before after (Err Write) printed bad nothing part asks = inr (levels, asks, part refl)

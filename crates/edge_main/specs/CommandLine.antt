@@ -1,75 +1,98 @@
 -- The command line of the program, by `clap`'s definitions of commands.
-use Rattle.std.specs.Prelude.{◌≡◌, ◌+◌, ◌-◌, ◌&&◌, ℕ, true, nat_le, unwrap_or, List, [], ◌∷◌, map, codes, Option, Some, None, option_and_then, Result, MatchResult, if◌then◌else◌}
-use Rattle.std.specs.Borrow.{Bor}
+use Rattle.std.specs.Prelude.{◌≡◌, ◌≤◌, ℕ, true, nat_le, List, [], ◌∷◌, codes, Option, Some, None, option_and_then, if◌then◌else◌}
 use Rattle.std.specs.Str.{bytes_eq}
-use Rattle.clap.specs.Words.{App, app_of, Row, Rule, Text, FailsBy, fault_of, first_of, kind_of, new_app, new_rule, subcommand_of, with_rule, with_subcommand}
+use Rattle.clap.specs.Words.{App, Row, Rule, Text, HasKind, fault_of, first_of, new_app, new_rule, subcommand_of, with_rule, with_subcommand}
 use Rattle.clap.specs.Simple.{on_top}
-use Rattle.clap.specs.declared.builder.value_parser.ValueParser.TheVariants.{Names}
-use Rattle.clap.specs.declared.builder.command.Command.{Command}
-use Rattle.clap.specs.declared.error.Error.{Error}
-use Rattle.clap.specs.declared.error.kind.ErrorKind.TheVariants.{OutOfMemory}
+use Rattle.esi_meaning.specs.declared.limits.TheConstants.{MIN_LEVELS, MAX_LEVELS}
+use Rattle.esi_meaning.specs.Meaning.{AreLevels}
+use Rattle.plan_runner.specs.declared.events.Event.{Event}
+use Rattle.plan_runner.specs.declared.page.TheConstants.{MAX_AHEAD}
+use Rattle.edge_case.specs.Decimal.{decimal_of}
+use Rattle.edge_case.specs.Order.{events_of}
+use Rattle.edge_main.specs.declared.asked.Asked.{Asked}
+use Rattle.edge_main.specs.declared.asked.Asked.TheVariants.{Case}
+use Rattle.edge_main.specs.declared.asked.Refusal.{Refusal}
+use Rattle.edge_main.specs.declared.asked.Refusal.TheVariants.{Words, Order, Ahead, Levels, NoMemory}
 
--- what `--levels` may say
-abbrev pub level_words : List Text
-level_words = codes "1" ∷ codes "2" ∷ codes "3" ∷ codes "4" ∷ codes "5" ∷ codes "6" ∷ codes "7" ∷ codes "8" ∷ []
+-- ---- the command
 
--- the option `--levels`, which says one of these names, and 4 where it isn't there
-abbrev pub levels_option : Bor (List (Bor Text)) → Rule
-levels_option names = record (new_rule (codes "levels")) {
-  long = Some (codes "levels");
-  value_names = 1;
-  defaults = codes "4" ∷ [];
-  parser = Some (Names names);
-}
+-- an option `--NAME` with one word
+abbrev pub named_option : Text → Rule
+named_option name = record (new_rule name) { long = Some name; value_names = 1 }
 
--- the subcommand `case`, with that option
-abbrev pub case_command : Bor (List (Bor Text)) → App
-case_command names = with_rule (new_app (codes "case")) (levels_option names)
+-- the same, with what it says where it isn't there
+abbrev pub with_default : Text → Rule → Rule
+with_default word option = record option { defaults = word ∷ [] }
+
+-- the subcommand `case`: `--order`, `--ahead`, which says 16, and `--levels`, which says 4 where it isn't there
+abbrev pub case_command : App
+case_command =
+    with_rule (with_rule (with_rule (new_app (codes "case"))
+    (named_option (codes "order")))
+    (with_default (codes "16") (named_option (codes "ahead"))))
+    (with_default (codes "4") (named_option (codes "levels")))
 
 -- the program, which wants its subcommand
-abbrev pub program : Bor (List (Bor Text)) → App
-program names =
-    with_subcommand (on_top (λ s. record s { subcommand_required = true }) (new_app (codes "esi_edge"))) (case_command names).top
+abbrev pub program : App
+program = with_subcommand (on_top (λ s. record s { subcommand_required = true }) (new_app (codes "esi_edge"))) case_command.top
 
--- the command is the program, with names that are what `--levels` may say
-pub record IsProgram (command : Command) : Type 0 where
-  pub names : Bor (List (Bor Text))
-  pub words_are : map (λ name. name.now) names.now ≡ level_words
-  pub is : app_of command ≡ program names
+-- ---- what the words say
 
--- the number that a word of `level_words` writes
-abbrev pub levels_of : Text → Option ℕ
-levels_of (digit ∷ []) = if nat_le 49 digit && nat_le digit 56 then Some (digit - 48) else None
-levels_of _ = None
+-- what an option says in a subcommand's matches, where that is `case`
+abbrev pub word_of : Text → Option (Text × List Row) → Option Text
+word_of name met = option_and_then (λ m. if bytes_eq m.0 (codes "case") then first_of name m.1 else None) met
 
--- what `--levels` says of a subcommand's matches, where that is `case`
-abbrev pub levels_word : Option (Text × List Row) → Option Text
-levels_word met = option_and_then (λ m. if bytes_eq m.0 (codes "case") then first_of (codes "levels") m.1 else None) met
+-- the events of `--order`; none where it isn't there
+abbrev pub order_of : Option Text → Option (List Event)
+order_of None = Some []
+order_of (Some word) = events_of word
 
--- the number that a word says, and 4 where there is none
-abbrev pub levels_or_default : Option Text → ℕ
-levels_or_default word = unwrap_or (option_and_then levels_of word) 4
+-- the number of `--ahead`, within its limits
+abbrev pub ahead_of : Option Text → Option ℕ
+ahead_of word = option_and_then (λ w. decimal_of w MAX_AHEAD) word
 
--- the words ask for so many levels
-pub record Asks (words : List Text) (levels : ℕ) : Type 0 where
-  pub names : Bor (List (Bor Text))
-  pub words_are : map (λ name. name.now) names.now ≡ level_words
-  pub says : levels ≡ levels_or_default (levels_word (subcommand_of (program names) words))
+-- a number of levels, within its limits
+abbrev pub levels_by : Option ℕ → Option ℕ
+levels_by number = option_and_then (λ n. if nat_le MIN_LEVELS n then Some n else None) number
 
--- the words are refused as `clap` defines it, and no others are; or memory ran out
-pub record IsJudged (words : List Text) (result : Result ℕ Error) : Type 0 where
-  pub names : Bor (List (Bor Text))
-  pub words_are : map (λ name. name.now) names.now ≡ level_words
-  pub fails : FailsBy (fault_of (program names) words) result
+-- the number of `--levels`, within its limits
+abbrev pub levels_of : Option Text → Option ℕ
+levels_of word = levels_by (option_and_then (λ w. decimal_of w MAX_LEVELS) word)
 
--- so many levels, or memory ran out
-abbrev pub Answers : ℕ → Result ℕ Error → Type 0
-Answers levels result = MatchResult result (λ n. n ≡ levels) (λ e. kind_of e ≡ OutOfMemory)
+-- what the matches of a subcommand, where that is `case`, ask for
+pub record AsksOf (met : Option (Text × List Row)) (order : List Event) (ahead levels : ℕ) : Type 0 where
+  pub order_is : order_of (word_of (codes "order") met) ≡ Some order
+  pub ahead_is : ahead_of (word_of (codes "ahead") met) ≡ Some ahead
+  pub levels_are : levels_of (word_of (codes "levels") met) ≡ Some levels
 
--- the words `NAME case`
-abbrev pub plain_words : Text → List Text
-plain_words name = name ∷ codes "case" ∷ []
+abbrev pub IsAsked : Option (Text × List Row) → Asked → Type 0
+IsAsked met (Case order ahead levels) = AsksOf met order.items ahead levels
 
--- the words `NAME case --levels N`, of one digit
-abbrev pub levels_words : Text → ℕ → List Text
-levels_words name levels = name ∷ codes "case" ∷ codes "--levels" ∷ ((48 + levels) ∷ []) ∷ []
+-- why they ask for nothing: what an option says, or want of memory
+abbrev pub IsRefusedBy : Option (Text × List Row) → Refusal → Type 0
+IsRefusedBy met (Words error) = ⊥
+IsRefusedBy met Order = order_of (word_of (codes "order") met) ≡ None
+IsRefusedBy met Ahead = ahead_of (word_of (codes "ahead") met) ≡ None
+IsRefusedBy met Levels = levels_of (word_of (codes "levels") met) ≡ None
+IsRefusedBy met NoMemory = Unit {0}
+
+-- ---- what the words ask for
+
+-- the words are those of `case`, and ask for its run by these events, with so many slots ahead and levels
+pub record AsksCase (words : List Text) (order : List Event) (ahead levels : ℕ) : Type 0 where
+  pub taken : fault_of program words ≡ []
+  pub says : AsksOf (subcommand_of program words) order ahead levels
+
+-- the words ask for this
+abbrev pub Asks : List Text → Asked → Type 0
+Asks words (Case order ahead levels) = AsksCase words order.items ahead levels
+
+-- the words are refused so: as `clap` defines it, or for what an option says, or memory ran out
+abbrev pub IsRefused : List Text → Refusal → Type 0
+IsRefused words (Words error) = HasKind (fault_of program words) error
+IsRefused words NoMemory = Unit {0}
+IsRefused words refusal = (fault_of program words ≡ []) × IsRefusedBy (subcommand_of program words) refusal
+
+-- the numbers are within their limits
+abbrev pub IsWithin : Asked → Type 0
+IsWithin (Case order ahead levels) = (ahead ≤ MAX_AHEAD) × AreLevels levels

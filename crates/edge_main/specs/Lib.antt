@@ -1,3 +1,4 @@
 pub mod Status
 pub mod CommandLine
+pub mod Laws
 pub mod Program

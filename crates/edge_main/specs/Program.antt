@@ -5,15 +5,23 @@ use Rattle.clap.specs.Words.{Text}
 use Rattle.edge_case.specs.declared.ending.CaseEnd.TheVariants.{PagePrinted, FaultPrinted}
 use Rattle.edge_case.specs.Run.{IsNoCase, Prints, PrintsPart}
 use Rattle.edge_main.specs.declared.status.Status.{Status}
-use Rattle.edge_main.specs.declared.status.Status.TheVariants.{Page, PageFault, Usage, NotText, BadCase, NoMemory, InputOutput}
-use Rattle.edge_main.specs.CommandLine.{Asks}
+use Rattle.edge_main.specs.declared.status.Status.TheVariants.{Page, PageFault, Usage, BadOrder, BadAhead, BadLevels, NotText, BadCase, NoMemory, InputOutput}
+use Rattle.plan_runner.specs.declared.events.Event.{Event}
+use Rattle.edge_main.specs.CommandLine.{AsksCase}
+
+-- the words ask for a case at so many levels, whatever its events and its slots ahead are
+abbrev pub AsksLevels : List Text → ℕ → Type 0
+AsksLevels words levels = (order : List Event) × (ahead : ℕ) × AsksCase words order ahead levels
 
 -- what was read and written, by the words of the command line, where the program ends so
 abbrev pub Ends : List Text → Option (List ℕ) → Option (List ℕ) → Option (List ℕ) → Status → Type 0
-Ends words input before after Page = (levels : ℕ) × Asks words levels × Prints levels input before after PagePrinted
-Ends words input before after PageFault = (levels : ℕ) × Asks words levels × Prints levels input before after FaultPrinted
+Ends words input before after Page = (levels : ℕ) × AsksLevels words levels × Prints levels input before after PagePrinted
+Ends words input before after PageFault = (levels : ℕ) × AsksLevels words levels × Prints levels input before after FaultPrinted
 Ends words input before after BadCase = IsNoCase input × Keeps before after
 Ends words input before after NoMemory = Keeps before after
-Ends words input before after InputOutput = Keeps before after ⊎ ((levels : ℕ) × Asks words levels × PrintsPart levels input before after)
+Ends words input before after InputOutput = Keeps before after ⊎ ((levels : ℕ) × AsksLevels words levels × PrintsPart levels input before after)
 Ends words input before after Usage = ⊥
+Ends words input before after BadOrder = ⊥
+Ends words input before after BadAhead = ⊥
+Ends words input before after BadLevels = ⊥
 Ends words input before after NotText = ⊥

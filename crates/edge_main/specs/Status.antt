@@ -6,14 +6,20 @@ use Rattle.edge_case.specs.declared.ending.CaseEnd.{CaseEnd}
 use Rattle.edge_case.specs.declared.ending.CaseEnd.TheVariants.{PagePrinted, FaultPrinted}
 use Rattle.edge_case.specs.declared.ending.CaseFault.{CaseFault}
 use Rattle.edge_case.specs.declared.ending.CaseFault.TheVariants as fault
+use Rattle.clap.specs.Words.{kind_of}
+use Rattle.edge_main.specs.declared.asked.Refusal.{Refusal}
+use Rattle.edge_main.specs.declared.asked.Refusal.TheVariants as refusal
 use Rattle.edge_main.specs.declared.status.Status.{Status}
-use Rattle.edge_main.specs.declared.status.Status.TheVariants.{Page, PageFault, Usage, NotText, BadCase, NoMemory, InputOutput}
+use Rattle.edge_main.specs.declared.status.Status.TheVariants.{Page, PageFault, Usage, BadOrder, BadAhead, BadLevels, NotText, BadCase, NoMemory, InputOutput}
 
 -- the exit status
 abbrev pub code_of : Status → ℕ
 code_of Page = 0
 code_of PageFault = 1
 code_of Usage = 2
+code_of BadOrder = 2
+code_of BadAhead = 2
+code_of BadLevels = 2
 code_of NotText = 2
 code_of BadCase = 3
 code_of NoMemory = 4
@@ -24,6 +30,9 @@ abbrev pub line_of : Status → Option (List ℕ)
 line_of Page = None
 line_of PageFault = None
 line_of Usage = None
+line_of BadOrder = Some (codes "error: --order takes events with commas between: c, a, or p and one to four digits")
+line_of BadAhead = Some (codes "error: --ahead takes a number from 0 to 256")
+line_of BadLevels = Some (codes "error: --levels takes a number from 1 to 8")
 line_of NotText = Some (codes "error: a word of the command line isn't UTF-8")
 line_of BadCase = Some (codes "bad case text")
 line_of NoMemory = Some (codes "no memory")
@@ -43,9 +52,17 @@ abbrev pub help_status : {T E : Type 0} → Result T E → Status
 help_status (Ok printed) = Page
 help_status (Err e) = InputOutput
 
--- how it may end where the command line runs no case
+-- how it may end where `clap` has something to say of the command line
 abbrev pub IsEndOf : ErrorKind → Status → Type 0
 IsEndOf OutOfMemory status = status ≡ NoMemory
 IsEndOf DisplayHelp status = (status ≡ Page) ⊎ (status ≡ InputOutput)
 IsEndOf DisplayVersion status = (status ≡ Page) ⊎ (status ≡ InputOutput)
 IsEndOf _ status = status ≡ Usage
+
+-- how it may end where the command line asks for nothing
+abbrev pub IsRefusedAs : Refusal → Status → Type 0
+IsRefusedAs (refusal.Words error) status = IsEndOf (kind_of error) status
+IsRefusedAs refusal.Order status = status ≡ BadOrder
+IsRefusedAs refusal.Ahead status = status ≡ BadAhead
+IsRefusedAs refusal.Levels status = status ≡ BadLevels
+IsRefusedAs refusal.NoMemory status = status ≡ NoMemory

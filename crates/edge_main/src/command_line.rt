@@ -1,52 +1,66 @@
 //! The command line, judged whole before anything is read.
-ghost use Rattle.std.specs.Prelude.{◌≡◌, ℕ, map, string_bytes, option_map, IfOk};
+ghost use Rattle.std.specs.Prelude.{◌≡◌, ◌≤◌, false, map, string_bytes, option_map, IfOk, IfSome, MatchResult};
 ghost use Rattle.esi_meaning.specs.Meaning.{AreLevels};
-ghost use Rattle.clap.specs.Words.{Text, subcommand_rows_of};
-ghost use Rattle.edge_main.specs.CommandLine.{IsProgram, Asks, IsJudged, Answers, levels_of, levels_word, levels_or_default, plain_words, levels_words};
+ghost use Rattle.clap.specs.Words.{app_of, rule_of, subcommand_rows_of};
+ghost use Rattle.clap.specs.declared.builder.command.Command.TheViews.{out-Command as fields_of};
+ghost use Rattle.edge_main.specs.CommandLine.{program, case_command, named_option, with_default, word_of, order_of, ahead_of, levels_of, Asks, IsRefused, IsAsked, IsRefusedBy, IsWithin};
 
-use clap::{Arg, ArgMatches, Command, Error};
+use crate::asked::{Asked, Refusal};
+use clap::{Arg, ArgMatches, Command};
+use edge_case::{decimal_of, read_events};
+use edge_types::NoMemory;
+use esi_meaning::{MAX_LEVELS, are_levels};
+use plan_runner::{Event, MAX_AHEAD};
 use std::alloc::{AllocError, Global};
 
-// What `--levels` may say.
-const LEVELS: [&str; 8] = ["1", "2", "3", "4", "5", "6", "7", "8"];
-
-// The levels where the command line names none.
-const DEFAULT_LEVELS: u8 = 4;
-
-// The number that a word of `LEVELS` writes.
-fn levels_of(word: &str) -> Option<u8>
-    ensures { result ≡ levels_of word.now }
+// An option `--NAME` with one word.
+fn option<'a>(alloc: Global, name: &'a str, value: &'a str, help: &'a str) -> Arg<'a>
+    ensures rule { rule_of result ≡ named_option name.entry.now }
+    ensures local { result.global ≡ false }
 {
-    match word.as_bytes() {
-        [digit @ b'1'..=b'8'] => Some(*digit - b'0'),
-        _ => None,
-    }
+    Arg::new(alloc, name)
+        .long(name)
+        .value_name(value)
+        .help(help)
 }
 
-// The levels that were named, or the default.
-fn levels_or_default(word: Option<&str>) -> u8
-    ensures value { result ≡ levels_or_default (option_map (λ w. w.now) word.entry) }
-    ensures within { AreLevels result }
+// The subcommand `case`.
+fn case_command<'a>(alloc: Global) -> Result<Command<'a>, AllocError>
+    ensures app { IfOk result (λ command. app_of command ≡ case_command) }
+    ensures local { IfOk result (λ command. (fields_of command).has_globals ≡ false) }
 {
-    match word {
-        Some(word) => levels_of(word).unwrap_or(DEFAULT_LEVELS),
-        None => DEFAULT_LEVELS,
-    }
+    let order = option(
+        alloc,
+        "order",
+        "LIST",
+        "Events that run first: c, a, or p and a place, with commas between",
+    );
+    let ahead = option(
+        alloc,
+        "ahead",
+        "N",
+        "Slots that posts may open ahead, from 0 to 256",
+    )
+    .default_value("16");
+    let levels = option(
+        alloc,
+        "levels",
+        "N",
+        "Levels of includes under the page, from 1 to 8",
+    )
+    .default_value("4");
+    Command::new(alloc, "case")
+        .about("Reads a case text from standard input and prints what its page comes to")
+        .arg(order)?
+        .arg(ahead)?
+        .arg(levels)
 }
 
 // The program's command line, by `clap`.
 fn command<'a>(alloc: Global) -> Result<Command<'a>, AllocError>
-    ensures { IfOk result IsProgram }
+    ensures { IfOk result (λ command. app_of command ≡ program) }
 {
-    let levels = Arg::new(alloc, "levels")
-        .long("levels")
-        .value_name("N")
-        .help("Levels of includes under the page")
-        .value_parser(LEVELS.as_slice())
-        .default_value("4");
-    let case = Command::new(alloc, "case")
-        .about("Reads a case text from standard input and prints what its page comes to")
-        .arg(levels)?;
+    let case = case_command(alloc)?;
     Command::new(alloc, "esi_edge")
         .bin_name("esi_edge")?
         .about("Assembles pages from templates of the ESI Language Specification 1.0")
@@ -54,23 +68,67 @@ fn command<'a>(alloc: Global) -> Result<Command<'a>, AllocError>
         .subcommand(case)
 }
 
-// The word of `--levels`, or its default.
-fn levels_word<'a>(matches: &ArgMatches<'a>) -> Option<&'a str>
-    ensures { option_map (λ word. word.now) result ≡ levels_word (subcommand_rows_of matches.now) }
+// What an option of `case` says.
+fn word_of<'a>(matches: &ArgMatches<'a>, name: &str) -> Option<&'a str>
+    ensures { option_map (λ word. word.now) result ≡ word_of name.now (subcommand_rows_of matches.now) }
 {
-    matches.subcommand_matches("case")?.get_str("levels")
+    matches.subcommand_matches("case")?.get_str(name)
 }
 
-/// The levels at which `esi_edge case` is to run.
-///
-/// The error is usage, a call for help, or want of memory.
-pub(crate) fn asked_levels(alloc: Global, words: &[String]) -> Result<u8, Error>
-    ensures within { IfOk result (λ levels. AreLevels levels) }
-    ensures asked { IfOk result (Asks (map string_bytes words.now)) }
-    ensures judged { IsJudged (map string_bytes words.now) result }
-    ensures default { (name : Text) → map string_bytes words.now ≡ plain_words name → Answers 4 result }
-    ensures named { (name : Text) (n : ℕ) → AreLevels n → map string_bytes words.now ≡ levels_words name n → Answers n result }
+// The events that `--order` names.
+fn order_of(alloc: Global, word: Option<&str>) -> Result<Option<Vec<Event>>, NoMemory>
+    ensures { IfOk result (λ order. option_map (λ events. events.items) order ≡ order_of (option_map (λ w. w.now) word.entry)) }
+{
+    match word {
+        Some(word) => read_events(alloc, word.as_bytes()),
+        None => Ok(Some(Vec::new(alloc))),
+    }
+}
+
+// The number that `--ahead` names, within its limits.
+fn ahead_of(word: Option<&str>) -> Option<u16>
+    ensures value { result ≡ ahead_of (option_map (λ w. w.now) word.entry) }
+    ensures within { IfSome result (λ ahead. ahead ≤ MAX_AHEAD) }
+{
+    let ahead = decimal_of(word?.as_bytes(), u32::from(MAX_AHEAD))?;
+    Some(ahead as u16)
+}
+
+// The number that `--levels` names, within its limits.
+fn levels_of(word: Option<&str>) -> Option<u8>
+    ensures value { result ≡ levels_of (option_map (λ w. w.now) word.entry) }
+    ensures within { IfSome result AreLevels }
+{
+    let levels = decimal_of(word?.as_bytes(), u32::from(MAX_LEVELS))? as u8;
+    if are_levels(levels) {
+        Some(levels)
+    } else {
+        None
+    }
+}
+
+// What the matches ask for.
+fn asked_by(alloc: Global, matches: &ArgMatches<'_>) -> Result<Asked, Refusal>
+    ensures judged { MatchResult result (IsAsked (subcommand_rows_of matches.now)) (IsRefusedBy (subcommand_rows_of matches.now)) }
+    ensures within { IfOk result IsWithin }
+{
+    let Some(order) = order_of(alloc, word_of(matches, "order"))? else {
+        return Err(Refusal::Order);
+    };
+    let ahead = ahead_of(word_of(matches, "ahead")).ok_or(Refusal::Ahead)?;
+    let levels = levels_of(word_of(matches, "levels")).ok_or(Refusal::Levels)?;
+    Ok(Asked::Case {
+        order,
+        ahead,
+        levels,
+    })
+}
+
+/// What the words of the command line ask for.
+pub(crate) fn asked(alloc: Global, words: &[String]) -> Result<Asked, Refusal>
+    ensures judged { MatchResult result (Asks (map string_bytes words.now)) (IsRefused (map string_bytes words.now)) }
+    ensures within { IfOk result IsWithin }
 {
     let matches = command(alloc)?.try_get_matches_from(words)?;
-    Ok(levels_or_default(levels_word(&matches)))
+    asked_by(alloc, &matches)
 }

@@ -1,11 +1,20 @@
 //! Laws of the command line. Each function's clauses are its laws; none of them does anything.
-ghost use Rattle.std.specs.Prelude.{◌≡◌, ℕ};
-ghost use Rattle.clap.specs.Words.{Text};
-ghost use Rattle.esi_meaning.specs.Meaning.{AreLevels};
-ghost use Rattle.edge_main.specs.CommandLine.{Asks, plain_words, levels_words};
+ghost use Rattle.edge_main.specs.Laws.{DefaultsAreAsked, OrderIsAsked, AheadIsAsked, LevelsAreAsked, AllAreAsked, OtherLevelsAreRefused, OptionsWantWords, OptionsStandOnce};
 
-/// The words `NAME case` ask for 4 levels, and `NAME case --levels N` for N.
+/// What words that are written out ask for. The law speaks of words of an option that don't begin
+/// with `-`; no others can be read.
 pub fn words_ask()
-    ensures default { (name : Text) (levels : ℕ) → Asks (plain_words name) levels → levels ≡ 4 }
-    ensures named { (name : Text) (n levels : ℕ) → AreLevels n → Asks (levels_words name n) levels → levels ≡ n }
+    ensures default { DefaultsAreAsked }
+    ensures order { OrderIsAsked }
+    ensures ahead { AheadIsAsked }
+    ensures levels { LevelsAreAsked }
+    ensures all { AllAreAsked }
+{}
+
+/// Words that ask for nothing: another number of levels, an option without its word, an option that
+/// stands twice.
+pub fn words_are_refused()
+    ensures levels { OtherLevelsAreRefused }
+    ensures without { OptionsWantWords }
+    ensures twice { OptionsStandOnce }
 {}

@@ -2,13 +2,15 @@
 #![tactic(auto)]
 
 ghost use Rattle.clap.specs.Words.{kind_of};
-ghost use Rattle.edge_main.specs.Status.{IsEndOf};
+ghost use Rattle.edge_main.specs.Status.{IsEndOf, IsRefusedAs};
 
+mod asked;
 mod command_line;
 pub mod laws;
 mod program;
 mod status;
 
+use asked::Refusal;
 use clap::error::ErrorKind;
 use program::run_words;
 use status::Status;
@@ -35,11 +37,24 @@ fn words(rt: &HostRuntime) -> Result<Vec<String>, Status> {
     }
 }
 
-// Judges the words, and runs the case over standard input and output.
+// Judges the words, and does what they ask for over standard input and output.
 fn run(rt: &HostRuntime, words: &[String]) -> Status {
     match run_words(rt.alloc(), words, &mut rt.reader(), &mut io::writer(rt)) {
         Ok(status) => status,
-        Err(error) => told(rt, &error),
+        Err(refusal) => refused(rt, &refusal),
+    }
+}
+
+// Tells why the words ask for nothing.
+fn refused(rt: &HostRuntime, refusal: &Refusal) -> Status
+    ensures { IsRefusedAs refusal.now result }
+{
+    match refusal {
+        Refusal::Words(error) => told(rt, error),
+        Refusal::Order => Status::BadOrder,
+        Refusal::Ahead => Status::BadAhead,
+        Refusal::Levels => Status::BadLevels,
+        Refusal::NoMemory => Status::NoMemory,
     }
 }
 

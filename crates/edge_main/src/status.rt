@@ -16,6 +16,12 @@ pub(crate) enum Status {
     PageFault,
     /// The command line is no use of the program.
     Usage,
+    /// What `--order` names is no list of events.
+    BadOrder,
+    /// What `--ahead` names is no number within the limits.
+    BadAhead,
+    /// What `--levels` names is no number within the limits.
+    BadLevels,
     /// A word of the command line isn't UTF-8.
     NotText,
     /// Standard input is no case text.
@@ -57,7 +63,11 @@ impl Status {
         ExitCode::from(match self {
             Status::Page => 0,
             Status::PageFault => 1,
-            Status::Usage | Status::NotText => 2,
+            Status::Usage
+            | Status::BadOrder
+            | Status::BadAhead
+            | Status::BadLevels
+            | Status::NotText => 2,
             Status::BadCase => 3,
             Status::NoMemory => 4,
             Status::InputOutput => 5,
@@ -70,6 +80,11 @@ impl Status {
     {
         match self {
             Status::NotText => Some("error: a word of the command line isn't UTF-8"),
+            Status::BadOrder => Some(
+                "error: --order takes events with commas between: c, a, or p and one to four digits",
+            ),
+            Status::BadAhead => Some("error: --ahead takes a number from 0 to 256"),
+            Status::BadLevels => Some("error: --levels takes a number from 1 to 8"),
             Status::BadCase => Some("bad case text"),
             Status::NoMemory => Some("no memory"),
             Status::InputOutput => Some("input or output failed"),

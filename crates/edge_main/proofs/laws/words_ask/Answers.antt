@@ -1,9 +1,19 @@
-use Rattle.std.proofs.Common.{◌∙◌}
-use Rattle.edge_main.proofs.CommandLineLemmas.{plain_levels, named_levels}
+use Rattle.edge_main.proofs.WrittenOut.{plain_say, order_say, ahead_say, levels_say, all_say}
+use Rattle.edge_main.proofs.Asking.{plain_asks, order_asks, ahead_asks, levels_ask, all_ask}
 use Rattle.edge_main.proofs.laws.words_ask.Goals as goal
 
 pub returns-clause-default : goal.returns-clause-default
-returns-clause-default c = λ name levels asks. asks.says ∙ plain_levels asks.names name
+returns-clause-default c = λ name order ahead levels. plain_asks name order ahead levels (plain_say name)
 
-pub returns-clause-named : goal.returns-clause-named
-returns-clause-named c = λ name n levels are asks. asks.says ∙ named_levels asks.names name n are
+pub returns-clause-order : goal.returns-clause-order
+returns-clause-order c = λ name word plain order ahead levels. order_asks name word order ahead levels (order_say name word plain)
+
+pub returns-clause-ahead : goal.returns-clause-ahead
+returns-clause-ahead c = λ name word plain order ahead levels. ahead_asks name word order ahead levels (ahead_say name word plain)
+
+pub returns-clause-levels : goal.returns-clause-levels
+returns-clause-levels c = λ name word plain order ahead levels. levels_ask name word order ahead levels (levels_say name word plain)
+
+pub returns-clause-all : goal.returns-clause-all
+returns-clause-all c = λ name list slots depth list_plain slots_plain depth_plain order ahead levels.
+    all_ask name list slots depth order ahead levels (all_say name list slots depth list_plain slots_plain depth_plain)

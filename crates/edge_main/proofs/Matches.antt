@@ -1,0 +1,46 @@
+-- What was matched, from the getters to the rows; and how the judgement of the words follows.
+use Rattle.std.proofs.Common.{◌≡◌, true, List, [], codes, refl, Option, Some, None, option_map, Result, Ok, Err}
+use Rattle.std.specs.Box.{box_value}
+use Rattle.std.specs.Prelude.{Box, MatchResult}
+use Rattle.clap.specs.Words.{Row, Text, fault_of, first_value, is_simple, is_simple_and_free, rows_of, subcommand_of, subcommand_rows}
+use Rattle.clap.specs.declared.parser.matches.ArgMatches.TheViews.{out-SubCommand}
+use Rattle.clap.specs.declared.parser.matches.Found.{Found}
+use Rattle.clap.specs.declared.parser.matches.SubCommand.{SubCommand}
+use Rattle.clap.proofs.WalkLemmas.{first_value-rows}
+use Rattle.clap.proofs.OnLiterals.{clap_on_literals}
+use Rattle.edge_main.specs.declared.asked.Asked.{Asked}
+use Rattle.edge_main.specs.declared.asked.Asked.TheVariants.{Case}
+use Rattle.edge_main.specs.declared.asked.Refusal.{Refusal}
+use Rattle.edge_main.specs.declared.asked.Refusal.TheVariants.{Words, Order, Ahead, Levels, NoMemory}
+use Rattle.edge_main.specs.CommandLine.{program, word_of, IsAsked, IsRefusedBy, Asks, IsRefused}
+
+pub name_of_rows : {Z : Type 0} (sub : Option (Box SubCommand Z)) → option_map (λ p. p.0) (subcommand_rows sub) ≡ option_map (λ b. (out-SubCommand (box_value b)).name.now) sub
+name_of_rows None = refl
+name_of_rows (Some b) = refl
+
+pub word_of_case : (name : Text) (met : Option (Text × List Row)) (f : Found) → option_map (λ p. p.0) met ≡ Some (codes "case") → option_map (λ p. p.1) met ≡ Some (rows_of f)
+    → first_value f name ≡ word_of name met
+word_of_case name None f is rows = absurd (cc)
+word_of_case name (Some p) f is rows =
+    let n : p.0 ≡ codes "case" = cc in
+    let r : p.1 ≡ rows_of f = cc in
+    rw (n, r) (first_value-rows f name)
+
+-- the command is one of which `clap` tells what the words give
+pub program_is_simple : is_simple program ≡ true
+unfolding clap_on_literals
+program_is_simple = refl
+
+pub program_is_free : is_simple_and_free program ≡ true
+unfolding clap_on_literals
+program_is_free = refl
+
+-- what the matches ask for, the words ask for
+pub judged : (words : List Text) (result : Result Asked Refusal) → fault_of program words ≡ []
+    → MatchResult result (IsAsked (subcommand_of program words)) (IsRefusedBy (subcommand_of program words)) → MatchResult result (Asks words) (IsRefused words)
+judged words (Ok (Case order ahead levels)) taken says = record { taken = taken; says = says }
+judged words (Err (Words error)) taken says = absurd says
+judged words (Err Order) taken says = (taken, says)
+judged words (Err Ahead) taken says = (taken, says)
+judged words (Err Levels) taken says = (taken, says)
+judged words (Err NoMemory) taken says = tt

@@ -1,0 +1,87 @@
+-- Laws of the command line: what words that are written out ask for.
+use Rattle.std.specs.Prelude.{◌≡◌, ◌≢◌, ◌↔◌, ◌≤◌, ℕ, List, [], ◌∷◌, codes}
+use Rattle.std.specs.Str.{byte}
+use Rattle.clap.specs.Words.{Text}
+use Rattle.esi_meaning.specs.Meaning.{AreLevels}
+use Rattle.plan_runner.specs.declared.events.Event.{Event}
+use Rattle.plan_runner.specs.declared.page.TheConstants.{MAX_AHEAD}
+use Rattle.edge_case.specs.Decimal.{WritesNumber}
+use Rattle.edge_case.specs.Order.{Lists}
+use Rattle.edge_main.specs.CommandLine.{AsksCase}
+
+-- the words `NAME case`
+abbrev pub plain_words : Text → List Text
+plain_words name = name ∷ codes "case" ∷ []
+
+-- the words `NAME case --order WORD`, and so on
+abbrev pub order_words : Text → Text → List Text
+order_words name word = name ∷ codes "case" ∷ codes "--order" ∷ word ∷ []
+
+abbrev pub ahead_words : Text → Text → List Text
+ahead_words name word = name ∷ codes "case" ∷ codes "--ahead" ∷ word ∷ []
+
+abbrev pub levels_words : Text → Text → List Text
+levels_words name word = name ∷ codes "case" ∷ codes "--levels" ∷ word ∷ []
+
+-- the words `NAME case --order LIST --ahead N --levels N`
+abbrev pub all_words : Text → Text → Text → Text → List Text
+all_words name list ahead levels = name ∷ codes "case" ∷ codes "--order" ∷ list ∷ codes "--ahead" ∷ ahead ∷ codes "--levels" ∷ levels ∷ []
+
+-- a word that doesn't begin with `-`
+abbrev pub IsPlain : Text → Type 0
+IsPlain [] = Unit {0}
+IsPlain (b ∷ bs) = b ≢ byte "-"
+
+-- the word writes a number of slots ahead
+abbrev pub IsAhead : Text → ℕ → Type 0
+IsAhead word ahead = WritesNumber word ahead × (ahead ≤ MAX_AHEAD)
+
+-- the word writes a number of levels
+abbrev pub IsLevels : Text → ℕ → Type 0
+IsLevels word levels = WritesNumber word levels × AreLevels levels
+
+-- the words ask for no case
+abbrev pub AskForNone : List Text → Type 0
+AskForNone words = (order : List Event) (ahead levels : ℕ) → AsksCase words order ahead levels → ⊥
+
+-- without an option: no event, 16 slots ahead, 4 levels
+abbrev pub DefaultsAreAsked : Type 0
+DefaultsAreAsked = (name : Text) (order : List Event) (ahead levels : ℕ)
+    → AsksCase (plain_words name) order ahead levels ↔ ((order ≡ []) × (ahead ≡ 16) × (levels ≡ 4))
+
+-- `--order` asks for the events that its word lists, and for no case where it lists none
+abbrev pub OrderIsAsked : Type 0
+OrderIsAsked = (name word : Text) → IsPlain word → (order : List Event) (ahead levels : ℕ)
+    → AsksCase (order_words name word) order ahead levels ↔ (Lists word order × (ahead ≡ 16) × (levels ≡ 4))
+
+-- `--ahead` asks for the number of slots that its word writes, and for no case where it writes none
+abbrev pub AheadIsAsked : Type 0
+AheadIsAsked = (name word : Text) → IsPlain word → (order : List Event) (ahead levels : ℕ)
+    → AsksCase (ahead_words name word) order ahead levels ↔ ((order ≡ []) × IsAhead word ahead × (levels ≡ 4))
+
+-- `--levels` asks for the number of levels that its word writes, and for no case where it writes none
+abbrev pub LevelsAreAsked : Type 0
+LevelsAreAsked = (name word : Text) → IsPlain word → (order : List Event) (ahead levels : ℕ)
+    → AsksCase (levels_words name word) order ahead levels ↔ ((order ≡ []) × (ahead ≡ 16) × IsLevels word levels)
+
+-- the three together
+abbrev pub AllAreAsked : Type 0
+AllAreAsked = (name list slots depth : Text) → IsPlain list → IsPlain slots → IsPlain depth → (order : List Event) (ahead levels : ℕ)
+    → AsksCase (all_words name list slots depth) order ahead levels ↔ (Lists list order × IsAhead slots ahead × IsLevels depth levels)
+
+-- a word that writes no number from 1 to 8 is refused
+abbrev pub OtherLevelsAreRefused : Type 0
+OtherLevelsAreRefused = (name word : Text) → IsPlain word → ((n : ℕ) → IsLevels word n → ⊥) → AskForNone (levels_words name word)
+
+-- an option without its word is refused
+abbrev pub OptionsWantWords : Type 0
+OptionsWantWords = (name : Text) → AskForNone (name ∷ codes "case" ∷ codes "--order" ∷ [])
+    × AskForNone (name ∷ codes "case" ∷ codes "--ahead" ∷ [])
+    × AskForNone (name ∷ codes "case" ∷ codes "--levels" ∷ [])
+
+-- an option that stands twice is refused
+abbrev pub OptionsStandOnce : Type 0
+OptionsStandOnce = (name one other : Text) → IsPlain one → IsPlain other
+    → AskForNone (name ∷ codes "case" ∷ codes "--order" ∷ one ∷ codes "--order" ∷ other ∷ [])
+    × AskForNone (name ∷ codes "case" ∷ codes "--ahead" ∷ one ∷ codes "--ahead" ∷ other ∷ [])
+    × AskForNone (name ∷ codes "case" ∷ codes "--levels" ∷ one ∷ codes "--levels" ∷ other ∷ [])
