@@ -2,7 +2,8 @@
 use edge_types::{
     Answer, Control, NoMemory, Octets, Outcome, PageUrl, Request, SharedBytes, Table,
 };
-use esi_meaning::{are_levels, plain_page};
+use esi_meaning::{are_levels, leg_url, plain_page};
+use esi_vars::parts;
 use std::alloc::Global;
 use std::sync::Arc;
 use std::test::Fail;
@@ -39,6 +40,17 @@ fn a_page_comes_to_its_outcome(rt: HostRuntime) -> Result<(), Fail> {
     let request = Request::empty(rt.alloc());
     let outcome = plain_page(rt.alloc(), &url, &request, &table, 4)?;
     assert_eq!(rt; first_piece(&outcome), Some(b"a".as_slice()));
+    Ok(())
+}
+
+#[test]
+fn a_leg_has_its_url(rt: HostRuntime) -> Result<(), Fail> {
+    let base = PageUrl::parse(rt.alloc(), b"http://a.test/p")?.ok_or("a URL")?;
+    let text = SharedBytes::copy_of(rt.alloc(), b"/$(HTTP_HOST|x)")?;
+    let source = parts(rt.alloc(), &text)?;
+    let request = Request::empty(rt.alloc());
+    let url = leg_url(rt.alloc(), &request, &base, source.as_slice())?.ok_or("a URL")?;
+    assert_eq!(rt; url.as_bytes(), b"http://a.test/x".as_slice());
     Ok(())
 }
 
