@@ -1,9 +1,12 @@
-//! Cases run by `run_case`: the printed form, bad texts, and readers and writers that fail.
+//! Cases run by `run_case`: the printed form, bad texts, and readers and writers that fail; lists of
+//! events and numbers.
 
-use edge_case::{CaseEnd, CaseFault, run_case};
+use edge_case::{CaseEnd, CaseFault, decimal_of, read_events, run_case};
+use plan_runner::Event;
 use std::alloc::Global;
 use std::io;
 use std::io::{Read, Write};
+use std::test::Fail;
 
 const FIRST_INCLUDE: &[u8] =
     b"page http://a.test/p\nanswer 200 25 http://a.test/p\ntype text/html\ncontrol content=\"ESI/1.0\"\nbody\nA<esi:include src=\"/x\"/>B\nanswer 200 1 http://a.test/x\nbody\n1\nend\n";
@@ -192,4 +195,62 @@ fn a_writer_that_fails_has_a_first_part(rt: HostRuntime) {
             assert!(rt; writer.taken.as_slice() == front, "after {room} bytes");
         }
     }
+}
+
+// Texts that list no events.
+const NO_LISTS: [&[u8]; 14] = [
+    b"", b",", b"c,", b",c", b"c,,a", b"p", b"p00000", b"p12345", b"p-1", b"p 1", b"C", b" c",
+    b"ca", b"c;a",
+];
+
+#[test]
+fn lists_of_events_are_read(rt: HostRuntime) {
+    let listed = [
+        Event::Claim,
+        Event::Post(0),
+        Event::Advance,
+        Event::Post(12),
+        Event::Post(9_999),
+    ];
+    match read_events(rt.alloc(), b"c,p0,a,p0012,p9999") {
+        Ok(Some(events)) => assert!(rt; events.as_slice() == listed.as_slice()),
+        _ => assert!(rt; false, "a list that can't be read"),
+    }
+}
+
+#[test]
+fn other_texts_list_no_events(rt: HostRuntime) {
+    for text in NO_LISTS {
+        assert!(rt;
+            matches!(read_events(rt.alloc(), text), Ok(None)),
+            "at {text:?}"
+        );
+    }
+}
+
+#[test]
+fn numbers_are_read(rt: HostRuntime) {
+    assert!(rt; decimal_of(b"000256", 256) == Some(256));
+    assert!(rt; decimal_of(b"257", 256).is_none());
+    assert!(rt; decimal_of(b"340282366920938463463374607431768211457", 256).is_none());
+    assert!(rt; decimal_of(b"", 256).is_none());
+    assert!(rt; decimal_of(b"+1", 256).is_none());
+}
+
+// The command line can't be so long; a caller's list can.
+#[test]
+fn a_list_of_a_hundred_thousand_items_is_read_and_run(rt: HostRuntime) -> Result<(), Fail> {
+    let mut text = Vec::new(rt.alloc());
+    for _ in 0..33_333 {
+        text.extend_from_slice(b"c,p0,a,")?;
+    }
+    text.push(b'c')?;
+    let events = read_events(rt.alloc(), &text)?.ok_or("a list")?;
+    assert!(rt; events.len() == 100_000);
+    let mut reader = FIRST_INCLUDE;
+    let mut written = Vec::new(rt.alloc());
+    let ended = run_case(rt.alloc(), &mut reader, &mut written, 0, 4, &events);
+    assert!(rt; ended == Ok(CaseEnd::PagePrinted));
+    assert!(rt; written.as_slice() == FIRST_PRINTED);
+    Ok(())
 }
