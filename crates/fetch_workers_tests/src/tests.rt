@@ -1,25 +1,28 @@
-// A case has a line for each answer: its path, `failed` or a status with `esi` or `plain`, and the
-// body. The page is at `/p`. In a body `{/x}` stands for an include of `/x`, `{/x!}` for one with
-// onerror="continue".
+// A case has a line for each answer: its path, `failed` or a status with what its control says, and
+// the body. A control is `plain`, or `esi` where the body is processed; a number behind it, or alone,
+// is the max-age, and one more behind a `+` the extension. The page is at `/p`. In a body `{/x}` stands
+// for an include of `/x`, `{/x!}` for one with onerror="continue".
 use edge_types::{
     Answer, Control, NoMemory, Octets, Outcome, PageFault, PageUrl, Request, SharedBytes, Table,
 };
 use esi_meaning::plain_page;
 use fetch_workers::{
-    AssembleFault, Assembled, Gate, MAX_WORKERS, Source, TableSource, assemble_gated,
+    AssembleFault, Assembled, Cache, Clock, Gate, MAX_WORKERS, Source, TableSource, assemble_gated,
 };
 use plan_runner::MAX_AHEAD;
 use std::alloc::Global;
 use std::fmt::Write;
 use std::process::Abort;
 use std::sync::atomic::{AtomicU64, Ordering};
-use std::sync::{Arc, Wait};
+use std::sync::{Arc, Mutex, Wait};
 use std::test::Fail;
 use std::thread::Threads;
 use std::{str, thread};
 
+mod caching;
 mod pages;
 mod side_by_side;
+mod threads;
 mod want_of_memory;
 
 const LEVELS: u8 = 4;
@@ -45,6 +48,17 @@ fn body(alloc: Global, short: &str) -> Result<String, NoMemory> {
     Ok(text)
 }
 
+fn control(kind: &str) -> Control {
+    let ages = kind.strip_prefix("esi").unwrap_or(kind);
+    let (age, extension) = ages.split_once('+').unwrap_or((ages, "0"));
+    Control {
+        esi: ages.len() != kind.len(),
+        max_age: age.parse::<u32>().ok(),
+        extension: extension.parse::<u32>().unwrap_or(0),
+        ..Control::default()
+    }
+}
+
 // The answer that a line of a case has.
 fn answer(alloc: Global, line: &str) -> Result<Answer, Fail> {
     let (path, rest) = line.split_once(' ').ok_or("a path")?;
@@ -53,10 +67,7 @@ fn answer(alloc: Global, line: &str) -> Result<Answer, Fail> {
         return Ok(Answer::failed(url));
     };
     let (kind, short) = rest.split_once(' ').ok_or("a body")?;
-    let control = Control {
-        esi: kind == "esi",
-        ..Control::default()
-    };
+    let control = control(kind);
     let text = body(alloc, short)?;
     Ok(Answer::got(
         url,
@@ -79,13 +90,18 @@ fn table_of(alloc: Global, case: &str) -> Result<Table, Fail> {
     Ok(table)
 }
 
-// A table whose answers have to be waited for. It counts the fetches, finds no memory at the one of
-// a number, and holds `/x` until `/y` is asked for, where it is told to.
+// A table whose answers have to be waited for. It counts the fetches, and the URLs that are fetched
+// once more; finds no memory at the fetch of a number, and at the last of so many; has nothing from one
+// on; and holds a fetch, where it is told to.
 #[derive(Drop)]
 struct Origin {
     table: TableSource,
     fetches: AtomicU64,
+    seen: Mutex<Table>,
+    twice: AtomicU64,
     refused: u64,
+    refused_each: u64,
+    ends: u64,
     hold: Hold,
 }
 
@@ -94,13 +110,32 @@ impl Origin {
         Ok(Origin {
             table: TableSource::new(table_of(alloc, case)?),
             fetches: AtomicU64::new(0),
+            seen: Mutex::new(Table::new(alloc)),
+            twice: AtomicU64::new(0),
             refused: u64::MAX,
-            hold: Hold::new(false),
+            refused_each: u64::MAX,
+            ends: u64::MAX,
+            hold: Hold::open(),
         })
+    }
+
+    // Whether there is memory for the fetch of this number.
+    fn has_memory(&self, number: u64) -> bool {
+        number != self.refused && number % self.refused_each.max(1) != self.refused_each.max(1) - 1
+    }
+
+    fn note<R: Wait>(&self, rt: &R, failed: Arc<Answer>) {
+        if self.seen.lock(rt).insert(failed).is_err() {
+            self.twice.fetch_add(1, Ordering::SeqCst);
+        }
+    }
+
+    fn count(&self) -> u64 {
+        self.fetches.load(Ordering::SeqCst)
     }
 }
 
-impl<R> Source<R> for Origin {
+impl<R: Wait> Source<R> for Origin {
     ghost use Rattle.std.specs.Prelude.{◌≡◌};
 
     ghost gives = { λ origin url answer. answer.url ≡ url };
@@ -108,51 +143,76 @@ impl<R> Source<R> for Origin {
     ghost names_url = { λ origin url answer given. given };
 
     fn fetch(&self, rt: &R, alloc: Global, url: &PageUrl) -> Result<Arc<Answer>, NoMemory> {
-        if self.fetches.fetch_add(1, Ordering::SeqCst) == self.refused {
+        let number = self.fetches.fetch_add(1, Ordering::SeqCst);
+        self.note(rt, Arc::new(alloc, Answer::failed(url.share()?))?);
+        self.hold.pass(url);
+        if !self.has_memory(number) {
             return Err(NoMemory);
         }
-        self.hold.pass(url);
+        if number >= self.ends {
+            return Ok(Arc::new(alloc, Answer::failed(url.share()?))?);
+        }
         self.table.fetch(rt, alloc, url)
     }
 }
 
-// Holds `/x` until `/y` is asked for, for some turns.
+// Holds each fetch of a path, told by its last byte, until so many of another were asked for, and each
+// of the other until the first is asked for, for some turns. So neither passes unless both are under
+// way at once.
 #[derive(Drop)]
 struct Hold {
-    holds: bool,
-    asked: AtomicU64,
+    held: u8,
+    opener: u8,
+    needed: u64,
+    held_came: AtomicU64,
+    opener_came: AtomicU64,
     gave_up: AtomicU64,
 }
 
 const TURNS: u32 = 1_000_000;
 
 impl Hold {
-    fn new(holds: bool) -> Hold {
+    fn new(held: u8, opener: u8, needed: u64) -> Hold {
         Hold {
-            holds,
-            asked: AtomicU64::new(0),
+            held,
+            opener,
+            needed,
+            held_came: AtomicU64::new(0),
+            opener_came: AtomicU64::new(0),
             gave_up: AtomicU64::new(0),
         }
     }
 
+    // Nothing is held.
+    fn open() -> Hold {
+        Hold::new(b'#', b'#', 0)
+    }
+
     fn pass(&self, url: &PageUrl) {
-        if url.as_bytes().ends_with(b"/y") {
-            self.asked.store(1, Ordering::SeqCst);
-        }
-        if self.holds && url.as_bytes().ends_with(b"/x") && !self.comes() {
+        let last = url.as_bytes().last().copied().unwrap_or(0);
+        let opens = last == self.opener;
+        let is_held = last == self.held;
+        self.opener_came
+            .fetch_add(u64::from(opens), Ordering::SeqCst);
+        self.held_came
+            .fetch_add(u64::from(is_held), Ordering::SeqCst);
+        if is_held && !comes(&self.opener_came, self.needed)
+            || opens && !comes(&self.held_came, 1)
+        {
             self.gave_up.store(1, Ordering::SeqCst);
         }
     }
+}
 
-    fn comes(&self) -> bool {
-        for _ in 0..TURNS {
-            if self.asked.load(Ordering::SeqCst) == 1 {
-                return true;
-            }
-            thread::yield_now();
+// Waits for a count, for some turns.
+fn comes(count: &AtomicU64, needed: u64) -> bool {
+    for _ in 0..TURNS {
+        if count.load(Ordering::SeqCst) >= needed {
+            return true;
         }
-        false
+        thread::yield_now();
     }
+    false
 }
 
 impl<R> Gate<R> for Hold {
@@ -175,13 +235,30 @@ where
     S: Source<R> + Sync,
     G: Gate<R> + Sync,
 {
-    if ahead > MAX_AHEAD || workers == 0 || workers > MAX_WORKERS {
+    page_at(rt, alloc, source, gate, ahead, workers, LEVELS)
+}
+
+fn page_at<R, S, G>(
+    rt: &R,
+    alloc: Global,
+    source: &S,
+    gate: &G,
+    ahead: u16,
+    workers: u8,
+    levels: u8,
+) -> Result<Result<Assembled, AssembleFault>, Fail>
+where
+    R: Wait + Threads + Sync,
+    S: Source<R> + Sync,
+    G: Gate<R> + Sync,
+{
+    if ahead > MAX_AHEAD || workers == 0 || workers > MAX_WORKERS || levels == 0 || levels > 8 {
         return Err("limits".into());
     }
     let url = url(alloc, "/p")?;
     let request = Request::empty(alloc);
     Ok(assemble_gated(
-        rt, alloc, source, gate, url, request, ahead, workers, LEVELS,
+        rt, alloc, source, gate, url, request, ahead, workers, levels,
     ))
 }
 
@@ -224,4 +301,21 @@ fn is_plain(
         Err(AssembleFault::NoMemory) => Err("no memory".into()),
         Err(fault) => Ok(assert_eq!(rt; *fault, AssembleFault::NoMemory, "{case}")),
     }
+}
+
+// Checks that a source's page is the one that one thread makes.
+fn is_plain_page<R, S>(
+    rt: &R,
+    alloc: Global,
+    source: &S,
+    case: &str,
+    ahead: u16,
+    workers: u8,
+) -> Result<(), Fail>
+where
+    R: Wait + Threads + Abort + Sync,
+    S: Source<R> + Sync,
+{
+    let made = page_of(rt, alloc, source, &Hold::open(), ahead, workers)?;
+    is_plain(rt, alloc, case, &made)
 }

@@ -78,7 +78,7 @@ const PAGES: &str = "/p 200 esi
 /9 200 esi 9{/1}{/2!}";
 
 // The page, from a table that has all ready and from an origin that has to be waited for, which is
-// asked once for each answer that is logged.
+// asked for no URL twice, and once for each answer that is logged.
 fn is_one_page<R: Wait + Threads + Abort + Sync>(
     rt: &R,
     alloc: Global,
@@ -86,18 +86,26 @@ fn is_one_page<R: Wait + Threads + Abort + Sync>(
     ahead: u16,
     workers: u8,
 ) -> Result<(), Fail> {
-    let gate = Hold::new(false);
     let source = TableSource::new(table_of(alloc, case)?);
-    let made = page_of(rt, alloc, &source, &gate, ahead, workers)?;
-    is_plain(rt, alloc, case, &made)?;
+    is_plain_page(rt, alloc, &source, case, ahead, workers)?;
     let origin = Origin::new(alloc, case)?;
-    let made = page_of(rt, alloc, &origin, &gate, ahead, workers)?;
-    is_plain(rt, alloc, case, &made)?;
-    if let Ok(page) = made {
-        let logged = page.log.len() as u64;
-        assert_eq!(rt; origin.fetches.load(Ordering::SeqCst), logged, "{case}");
+    is_asked_once(rt, alloc, &origin, case, ahead, workers)
+}
+
+fn is_asked_once<R: Wait + Threads + Abort + Sync>(
+    rt: &R,
+    alloc: Global,
+    origin: &Origin,
+    case: &str,
+    ahead: u16,
+    workers: u8,
+) -> Result<(), Fail> {
+    let made = page_of(rt, alloc, origin, &Hold::open(), ahead, workers)?;
+    assert_eq!(rt; origin.twice.load(Ordering::SeqCst), 0, "{case}");
+    if let Ok(page) = &made {
+        assert_eq!(rt; origin.count(), page.log.len() as u64, "{case}");
     }
-    Ok(())
+    is_plain(rt, alloc, case, &made)
 }
 
 fn is_one_page_however_far_ahead<R: Wait + Threads + Abort + Sync>(
@@ -166,4 +174,35 @@ fn a_page_of_a_thousand_fragments(rt: HostRuntime) -> Result<(), Fail> {
     }
     is_one_page(&rt, rt.alloc(), case.as_str(), 256, 1)?;
     is_one_page(&rt, rt.alloc(), case.as_str(), 256, 16)
+}
+
+// Each of four fragments includes the next.
+const CHAIN: &str = "/p 200 esi P{/1}
+/1 200 esi 1{/2}
+/2 200 esi 2{/3}
+/3 200 esi 3{/4}
+/4 200 esi 4{/5}
+/5 200 plain 5";
+
+#[test]
+fn a_page_has_the_levels_that_were_asked(rt: HostRuntime) -> Result<(), Fail> {
+    let alloc = rt.alloc();
+    let origin = Origin::new(alloc, CHAIN)?;
+    for (levels, text) in [(1, "fault 3"), (4, "fault 3"), (5, "P12345"), (8, "P12345")] {
+        let found = told_at(&rt, alloc, &origin, levels)?;
+        assert_eq!(rt; found.as_str(), text);
+    }
+    Ok(())
+}
+
+fn told_at<R: Wait + Threads + Sync>(
+    rt: &R,
+    alloc: Global,
+    origin: &Origin,
+    levels: u8,
+) -> Result<String, Fail> {
+    match page_at(rt, alloc, origin, &Hold::open(), 16, 2, levels)? {
+        Ok(page) => Ok(told(alloc, &page.outcome)?),
+        Err(_) => Err("no page".into()),
+    }
 }

@@ -12,7 +12,7 @@ fn gate_gives_up<R: Wait + Threads + Abort + Sync>(
     workers: u8,
 ) -> Result<u64, Fail> {
     let origin = Origin::new(alloc, CASE)?;
-    let gate = Hold::new(true);
+    let gate = Hold::new(b'x', b'y', 1);
     let made = page_of(rt, alloc, &origin, &gate, 2, workers)?;
     is_plain(rt, alloc, CASE, &made)?;
     Ok(gate.gave_up.load(Ordering::SeqCst))
@@ -32,8 +32,8 @@ fn source_gives_up<R: Wait + Threads + Abort + Sync>(
     workers: u8,
 ) -> Result<u64, Fail> {
     let mut origin = Origin::new(alloc, CASE)?;
-    origin.hold.holds = true;
-    let made = page_of(rt, alloc, &origin, &Hold::new(false), 2, workers)?;
+    origin.hold = Hold::new(b'x', b'y', 1);
+    let made = page_of(rt, alloc, &origin, &Hold::open(), 2, workers)?;
     is_plain(rt, alloc, CASE, &made)?;
     Ok(origin.hold.gave_up.load(Ordering::SeqCst))
 }

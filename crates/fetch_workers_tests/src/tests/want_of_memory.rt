@@ -20,7 +20,7 @@ fn is_told<R: Wait + Threads + Abort + Sync>(
 ) -> Result<(), Fail> {
     let mut origin = Origin::new(alloc, CASE)?;
     origin.refused = refused;
-    let made = page_of(rt, alloc, &origin, &Hold::new(false), 16, workers)?;
+    let made = page_of(rt, alloc, &origin, &Hold::open(), 16, workers)?;
     if refused >= 8 {
         return is_plain(rt, alloc, CASE, &made);
     }
