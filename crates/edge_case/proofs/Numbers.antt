@@ -1,5 +1,5 @@
 -- Numbers as lines write them: what is read is written so, and what is written so is read.
-use Rattle.std.proofs.Common.{◌≡◌, ◌≢◌, ℕ, ◌^◌, ◌<◌, ◌≤◌, ◌&&◌, Bool, true, false, cond, nat_le, nat_lt, not, List, [], ◌∷◌, length, get_or, refl, sym, ◌∙◌, ap, Some, None, arith, rules, decimal, inl, inr}
+use Rattle.std.proofs.Common.{◌≡◌, ◌≢◌, ℕ, ◌^◌, ◌<◌, ◌≤◌, ◌&&◌, Bool, true, false, cond, nat_le, nat_lt, not, List, [], ◌∷◌, length, get_or, refl, sym, ◌∙◌, ap, Some, None, arith, decimal, inl, inr}
 use Rattle.std.proofs.lemmas.Bool.{and_parts, and_from, not-true, not_from_false, ltb-true, lt-ltb, lt-leb, leb-true, le-leb, eqb-false, ne_eqb, cond-true, cases_eq}
 use Rattle.std.proofs.lemmas.Fmt.{decimal-digits_value, digits_decimal, digits_value-decimal, decimal_nonempty, length-decimal-le, first_decimal, decimal_digit}
 use Rattle.std.proofs.lemmas.Str.Parse.{digits_value_short, not_in_digits}
