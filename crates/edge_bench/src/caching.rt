@@ -4,7 +4,7 @@ use bench_tools::inputs;
 use bench_tools::inputs::{or_io_error, url};
 use bench_tools::timing::{Least, nanoseconds_each, ratio};
 use edge_types::{Answer, Control, PageUrl, SharedAnswer, SharedBytes};
-use fragment_cache::{Begun, Flight, MAX_CAPACITY, MAX_FLIGHTS, Picked, Shard};
+use fragment_cache::{Begun, MAX_CAPACITY, MAX_FLIGHTS, Picked, Shard};
 use lru::LruCache;
 use std::alloc::Global;
 use std::io;
@@ -69,8 +69,8 @@ impl Store for Shard {
     fn ask(&mut self, answer: &Arc<Answer>) -> io::Result<bool> {
         match self.begin(answer.url(), 0) {
             Begun::Hit(_) => Ok(true),
-            Begun::Lead(flight, _) => {
-                self.land(flight, Arc::try_clone(answer)?, 0);
+            Begun::Lead(flight, ready) => {
+                self.land(flight, Arc::try_clone(answer).unwrap_or(ready), 0);
                 Ok(false)
             }
             Begun::Join(_) | Begun::Bypass => Ok(false),
@@ -267,25 +267,30 @@ fn several_rounds(
 
 // Flights for the answers leave, are joined, land and are picked up; the pick-ups are counted.
 fn round(alloc: Global, shard: &mut Shard, answers: &[Arc<Answer>], now: u64) -> io::Result<usize> {
-    let led = lead(alloc, shard, answers, now)?;
-    let joined = join(alloc, shard, answers, now)?;
-    land(shard, led, answers, now)?;
+    let joined = fly(alloc, shard, answers, answers, now)?;
     Ok(pick(shard, joined.as_slice()))
 }
 
-fn lead(
+// Flights for the answers that are left leave. Once they all fly they are joined, and then they land,
+// the last first. Gives the numbers of those that were joined.
+fn fly(
     alloc: Global,
     shard: &mut Shard,
+    left: &[Arc<Answer>],
     answers: &[Arc<Answer>],
     now: u64,
-) -> io::Result<Vec<Flight>> {
-    let mut led = Vec::with_capacity(alloc, answers.len())?;
-    for answer in answers.iter() {
-        if let Begun::Lead(flight, _) = shard.begin(answer.url(), now) {
-            led.push(flight)?;
+) -> io::Result<Vec<u64>> {
+    let Some((answer, rest)) = left.split_first() else {
+        return join(alloc, shard, answers, now);
+    };
+    match shard.begin(answer.url(), now) {
+        Begun::Lead(flight, ready) => {
+            let joined = fly(alloc, shard, rest, answers, now);
+            shard.land(flight, Arc::try_clone(answer).unwrap_or(ready), now);
+            joined
         }
+        Begun::Hit(_) | Begun::Join(_) | Begun::Bypass => fly(alloc, shard, rest, answers, now),
     }
-    Ok(led)
 }
 
 fn join(
@@ -296,23 +301,15 @@ fn join(
 ) -> io::Result<Vec<u64>> {
     let mut joined = Vec::with_capacity(alloc, answers.len())?;
     for answer in answers.iter() {
-        if let Begun::Join(number) = shard.begin(answer.url(), now) {
-            joined.push(number)?;
+        match shard.begin(answer.url(), now) {
+            Begun::Join(number) => joined.push(number)?,
+            Begun::Lead(flight, ready) => {
+                shard.land(flight, ready, now);
+            }
+            Begun::Hit(_) | Begun::Bypass => {}
         }
     }
     Ok(joined)
-}
-
-fn land(shard: &mut Shard, led: Vec<Flight>, answers: &[Arc<Answer>], now: u64) -> io::Result<()> {
-    let mut rest = answers.iter();
-    for flight in led {
-        if let Some(answer) = rest.next()
-            && *answer.url() == *flight.url()
-        {
-            shard.land(flight, Arc::try_clone(answer)?, now);
-        }
-    }
-    Ok(())
 }
 
 fn pick(shard: &mut Shard, joined: &[u64]) -> usize {
