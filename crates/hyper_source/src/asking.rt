@@ -10,19 +10,19 @@ use std::net::TcpStream;
 use std::time::{Clock, Duration, Instant};
 use tokio::io::{AsyncRead, AsyncWrite};
 
-/// One exchange with an origin. Past its deadline each read and write fails.
+/// One exchange with an origin. Past its deadline, where it has one, each read and write fails.
 ///
 /// A client reads before it writes: until something was written, a read asks to be polled again.
 #[derive(Drop)]
 pub(crate) struct Asking<R> {
     socket: TcpStream,
     clock: R,
-    deadline: Instant,
+    deadline: Option<Instant>,
     has_written: bool,
 }
 
 impl<R: Clock> Asking<R> {
-    pub(crate) fn new(socket: TcpStream, clock: R, deadline: Instant) -> Asking<R> {
+    pub(crate) fn new(socket: TcpStream, clock: R, deadline: Option<Instant>) -> Asking<R> {
         Asking {
             socket,
             clock,
@@ -31,26 +31,29 @@ impl<R: Clock> Asking<R> {
         }
     }
 
-    // The time that is left, of which there is some.
-    fn left(&self) -> io::Result<Duration> {
-        let left = self.deadline.duration_since(Instant::now(&self.clock)?);
+    // The time that is left, of which there is some; none where there is no deadline.
+    fn left(&self) -> io::Result<Option<Duration>> {
+        let Some(deadline) = self.deadline else {
+            return Ok(None);
+        };
+        let left = deadline.duration_since(Instant::now(&self.clock)?);
         if left.is_zero() {
             return Err(ErrorKind::TimedOut.into());
         }
-        Ok(left)
+        Ok(Some(left))
     }
 
     fn read(&self, buf: &mut [u8]) -> io::Result<usize>
         ensures { ReadsAtMost result buf.new }
     {
-        self.socket.set_read_timeout(Some(self.left()?))?;
+        self.socket.set_read_timeout(self.left()?)?;
         (&self.socket).read(buf)
     }
 
     fn write(&self, buf: &[u8]) -> io::Result<usize>
         ensures { WritesAtMost result buf.now }
     {
-        self.socket.set_write_timeout(Some(self.left()?))?;
+        self.socket.set_write_timeout(self.left()?)?;
         (&self.socket).write(buf)
     }
 }

@@ -28,7 +28,7 @@ use surrogate_headers::own_capability;
 /// host and says what this edge can do, and nothing of the client.
 ///
 /// An answer can't be had, and is a failed one, where no origin has the URL's authority, where the
-/// socket or HTTP fails, the limit of time included, where the body ends before its length or is
+/// socket or HTTP fails, a limit of time included, where the body ends before its length or is
 /// longer than `MAX_BODY`, and where no answer may have the status.
 ///
 /// A content type that no answer may have counts as empty; several lines of `Surrogate-Control` count
@@ -39,21 +39,21 @@ use surrogate_headers::own_capability;
 #[derive(Drop)]
 pub struct HyperSource {
     origins: Vec<Origin>,
-    limit: Duration,
+    limit: Option<Duration>,
     keys: RandomState,
     seats: Seats,
 }
 
 impl HyperSource {
     /// A source that asks these origins, of an authority the first. A fetch may take this long from
-    /// connecting to the last byte.
+    /// connecting to the last byte; without a limit as long as the origin takes.
     ///
     /// Refused where the system has no keys for the maps of fields.
     pub fn new(
         rt: &impl RandomSource,
         alloc: Global,
         origins: Vec<Origin>,
-        limit: Duration,
+        limit: Option<Duration>,
     ) -> io::Result<HyperSource> {
         Ok(HyperSource {
             origins,
@@ -122,16 +122,20 @@ fn answer_of(alloc: Global, url: &PageUrl, head: &Parts, body: Vec<u8>) -> Resul
     }
 }
 
-// A connection to an origin, for a fetch that has to end by the limit.
-fn connected<R>(rt: &R, address: SocketAddr, limit: Duration) -> io::Result<Asking<R>>
+// A connection to an origin, for a fetch that has to end by the limit, where there is one.
+fn connected<R>(rt: &R, address: SocketAddr, limit: Option<Duration>) -> io::Result<Asking<R>>
 where
     R: Net<Stream = TcpStream> + Clock + Clone + Drop,
 {
+    let Some(limit) = limit else {
+        let socket = TcpStream::connect(rt, &address)?;
+        return Ok(Asking::new(socket, rt.clone()?, None));
+    };
     let Some(deadline) = Instant::now(rt)?.checked_add(limit) else {
         return Err(io::ErrorKind::InvalidInput.into());
     };
     let socket = TcpStream::connect_timeout(rt, &address, limit)?;
-    Ok(Asking::new(socket, rt.clone()?, deadline))
+    Ok(Asking::new(socket, rt.clone()?, Some(deadline)))
 }
 
 // The request for a URL: it says nothing of the client.

@@ -11,6 +11,11 @@ use std::thread;
 use std::thread::Threads;
 use std::time::{Clock, Duration};
 
+// A limit that no fetch here reaches.
+fn long() -> Option<Duration> {
+    Some(Duration::from_secs(10))
+}
+
 // What the origin is asked, and sends back before it closes.
 fn answer_once(alloc: Global, listener: &TcpListener, text: &[u8]) -> io::Result<Vec<u8>> {
     let (socket, _) = listener.accept()?;
@@ -19,19 +24,34 @@ fn answer_once(alloc: Global, listener: &TcpListener, text: &[u8]) -> io::Result
     Ok(asked)
 }
 
-// The answer of `http://a.test/x?q=1` from an origin that sends this text, and what it was asked.
-fn fetched<R>(rt: &R, alloc: Global, text: &[u8]) -> Result<(Arc<Answer>, Vec<u8>), Fail>
+// The origin of an authority that listens here.
+fn origin_at(alloc: Global, authority: &[u8], listener: &TcpListener) -> Result<Origin, Fail> {
+    Ok(Origin {
+        authority: authority.to_vec(alloc)?,
+        address: listener.local_addr()?,
+    })
+}
+
+// The answer of `http://a.test/x?q=1` from the first of its origins, which sends this text, and what
+// it was asked. Those beside it never answer.
+fn fetched<R>(
+    rt: &R,
+    alloc: Global,
+    limit: Option<Duration>,
+    text: &[u8],
+) -> Result<(Arc<Answer>, Vec<u8>), Fail>
 where
     R: Wait + Threads + Net<Stream = TcpStream, Listener = TcpListener>,
     R: Clock + RandomSource + AllocGlobal + Clone + Drop + Sync,
 {
     let listener = TcpListener::bind(rt, "127.0.0.1:0")?;
-    let origin = Origin {
-        authority: b"a.test".to_vec(alloc)?,
-        address: listener.local_addr()?,
-    };
-    let limit = Duration::from_secs(10);
-    let source = HyperSource::new(rt, alloc, vec![in alloc; origin]?, limit)?;
+    let silent = TcpListener::bind(rt, "127.0.0.1:0")?;
+    let origins = vec![in alloc;
+        origin_at(alloc, b"b.test", &silent)?,
+        origin_at(alloc, b"a.test", &listener)?,
+        origin_at(alloc, b"a.test", &silent)?,
+    ]?;
+    let source = HyperSource::new(rt, alloc, origins, limit)?;
     let url = PageUrl::parse(alloc, b"http://a.test/x?q=1")?.ok_or("a URL")?;
     let (answer, asked) = thread::join(
         rt,
@@ -48,7 +68,7 @@ fn an_origin_is_asked_for_the_url_alone(rt: HostRuntime) -> Result<(), Fail> {
         alloc,
         "HTTP/1.1 200 OK|content-length: 1|content-type: text/html|surrogate-control: max-age=60|surrogate-control: content=\"ESI/1.0\"||1",
     )?;
-    let (answer, asked) = fetched(&rt, alloc, text.as_slice())?;
+    let (answer, asked) = fetched(&rt, alloc, None, text.as_slice())?;
     let want = wire(
         alloc,
         "GET /x?q=1 HTTP/1.1|host: a.test|surrogate-capability: edge1=\"Surrogate/1.0 ESI/1.0\"||",
@@ -89,7 +109,7 @@ where
 {
     let (text, want) = row.split_once(" > ").ok_or("a row")?;
     let text = wire(alloc, text)?;
-    let (answer, _) = fetched(rt, alloc, text.as_slice())?;
+    let (answer, _) = fetched(rt, alloc, long(), text.as_slice())?;
     match answer.reply() {
         Reply::Failed => assert_eq!(rt; want, "failed", "{row}"),
         Reply::Got { .. } => assert_eq!(rt; answer.body(), want.as_bytes(), "{row}"),
@@ -109,26 +129,54 @@ fn what_is_no_answer_is_a_failed_one(rt: HostRuntime) -> Result<(), Fail> {
 fn each_cut_is_a_failed_answer(rt: HostRuntime) -> Result<(), Fail> {
     let text = wire(rt.alloc(), "HTTP/1.1 200 OK|content-length: 1||1")?;
     for k in 0..=text.len() {
-        let (answer, _) = fetched(&rt, rt.alloc(), &text[..k])?;
+        let (answer, _) = fetched(&rt, rt.alloc(), long(), &text[..k])?;
         assert_eq!(rt; answer.succeeded(), k == text.len(), "{k}");
     }
     Ok(())
+}
+
+// A source of one origin, `a.test`, each of whose fetches ends within 50 milliseconds.
+fn hasty(rt: &HostRuntime, listener: &TcpListener) -> Result<HyperSource, Fail> {
+    let alloc = rt.alloc();
+    let limit = Some(Duration::from_millis(50));
+    let origins = vec![in alloc; origin_at(alloc, b"a.test", listener)?]?;
+    Ok(HyperSource::new(rt, alloc, origins, limit)?)
 }
 
 #[test]
 fn who_never_answers_fails_at_the_limit(rt: HostRuntime) -> Result<(), Fail> {
     let alloc = rt.alloc();
     let listener = TcpListener::bind(&rt, "127.0.0.1:0")?;
-    let origin = Origin {
-        authority: b"a.test".to_vec(alloc)?,
-        address: listener.local_addr()?,
-    };
-    let limit = Duration::from_millis(50);
-    let source = HyperSource::new(&rt, alloc, vec![in alloc; origin]?, limit)?;
+    let source = hasty(&rt, &listener)?;
     for text in ["http://a.test/x", "http://b.test/x"] {
         let url = PageUrl::parse(alloc, text.as_bytes())?.ok_or("a URL")?;
         let answer = source.fetch(&rt, alloc, &url)?;
         assert!(rt; !answer.succeeded(), "{text}");
     }
+    Ok(())
+}
+
+// Sends a whole answer, ten milliseconds for each byte, to whoever reads on.
+fn trickle(rt: &HostRuntime, listener: &TcpListener) -> io::Result<()> {
+    let (mut socket, _) = listener.accept()?;
+    for b in b"HTTP/1.1 200 OK\r\ncontent-length: 1\r\n\r\n1" {
+        thread::sleep(rt, Duration::from_millis(10));
+        socket.write_all(&[*b])?;
+    }
+    Ok(())
+}
+
+#[test]
+fn who_answers_byte_by_byte_fails_at_the_limit(rt: HostRuntime) -> Result<(), Fail> {
+    let alloc = rt.alloc();
+    let listener = TcpListener::bind(&rt, "127.0.0.1:0")?;
+    let source = hasty(&rt, &listener)?;
+    let url = PageUrl::parse(alloc, b"http://a.test/x")?.ok_or("a URL")?;
+    let (answer, _) = thread::join(
+        &rt,
+        || source.fetch(&rt, alloc, &url),
+        || trickle(&rt, &listener),
+    );
+    assert!(rt; !answer?.succeeded());
     Ok(())
 }
