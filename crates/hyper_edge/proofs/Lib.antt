@@ -1,0 +1,2 @@
+mod Crossings
+mod Heads

@@ -1,0 +1,47 @@
+-- What a client is sent that asks for a page.
+use Rattle.std.specs.Prelude.{◌≡◌, ◌≢◌, ◌⊎◌, ℕ, List}
+use Rattle.edge_types.specs.Answered.{Answered}
+use Rattle.edge_types.specs.Outcome.{shown}
+use Rattle.edge_types.specs.declared.outcome.Outcome.{Outcome}
+use Rattle.edge_types.specs.declared.request.Request.{Request}
+use Rattle.esi_meaning.specs.Ahead.{IsLegal}
+use Rattle.fetch_workers.specs.Given.{AllGiven}
+use Rattle.fetch_workers.specs.Rests.{RestsOn}
+use Rattle.hyper_edge_head.specs.Head.{served, Asks, NamesHost}
+use Rattle.hyper_edge_head.specs.Sent.{Sent, Tells, refusal}
+use Rattle.hyper_edge_head.specs.declared.field.Field.{Field}
+
+-- a target and fields ask for no page
+abbrev pub AsksNothing : List ℕ → List Field → Type 0
+AsksNothing target fields = (url : List ℕ) (request : Request) → ¬ (Asks target fields url request)
+
+-- a head that is read as far as its host: what lacks is room
+abbrev pub NamesSomeHost : List Field → Type 0
+NamesSomeHost fields = (host : List ℕ) × NamesHost fields host
+
+-- the page that is asked for, as it comes of answers that the source gave: its outcome over them
+-- alone, and so over every table that agrees with them, is what is told
+pub record SendsPage (gives : List ℕ → Answered → Type 0) (target : List ℕ) (fields : List Field) (levels : ℕ) (response : Sent) : Type 0 where
+  pub url : List ℕ
+  pub request : Request
+  pub asks : Asks target fields url request
+  pub log : List Answered
+  pub given : AllGiven gives log
+  pub legal : IsLegal request url log
+  pub outcome : Outcome
+  pub rests : RestsOn request levels url log (shown outcome)
+  pub told : Tells outcome response
+
+-- what is sent where the method is served: 400 where no page is asked for, 503 where there is no
+-- room for it, and the page (RFC 9110, sections 15.5.1 and 15.6.4)
+abbrev pub RespondsToGet : (List ℕ → Answered → Type 0) → List ℕ → List Field → ℕ → Sent → Type 0
+RespondsToGet gives target fields levels response =
+    (AsksNothing target fields × (response ≡ refusal 400))
+    ⊎ ((NamesSomeHost fields × (response ≡ refusal 503))
+    ⊎ SendsPage gives target fields levels response)
+
+-- what is sent: 405 for any other method (RFC 9110, section 15.5.6)
+abbrev pub Responds : (List ℕ → Answered → Type 0) → List ℕ → List ℕ → List Field → ℕ → Sent → Type 0
+Responds gives method target fields levels response =
+    ((method ≢ served) × (response ≡ refusal 405))
+    ⊎ ((method ≡ served) × RespondsToGet gives target fields levels response)

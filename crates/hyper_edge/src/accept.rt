@@ -1,0 +1,76 @@
+//! Where connections come from.
+
+use crate::exchange::{Exchange, Limits};
+use std::io;
+use std::io::ErrorKind;
+use std::net::{Shutdown, TcpListener, TcpStream};
+use std::os::fd::OwnedFd;
+use std::sync::Wait;
+use std::time::Clock;
+
+/// What accepts connections, from any number of threads at once.
+pub trait Accept<R> {
+    /// The stream of a connection.
+    type Io: Send + Drop;
+
+    /// Waits for a connection. `None` is a failed accept.
+    fn accept(&self, rt: &R) -> Option<Self::Io>;
+
+    /// Ends each accept that waits; it fails then, as each that comes later does.
+    fn end(&self, rt: &R);
+}
+
+/// Sockets of a listener, with limits of time.
+#[derive(Drop)]
+pub struct Sockets {
+    listener: TcpListener,
+    // The listener's socket once more.
+    same: TcpStream,
+    limits: Limits,
+}
+
+impl Sockets {
+    /// Accepts from a listener. The sockets inherit the limits of each read and write from it: so
+    /// that costs no call a connection, and a read or write that has begun may last this much longer
+    /// than the limit.
+    ///
+    /// Refused where a limit is zero, or the system refuses.
+    pub fn new(listener: TcpListener, limits: Limits) -> io::Result<Sockets> {
+        let same = TcpStream::from(OwnedFd::from(listener.try_clone()?));
+        same.set_read_timeout(Some(limits.request))?;
+        same.set_write_timeout(Some(limits.exchange))?;
+        Ok(Sockets {
+            listener,
+            same,
+            limits,
+        })
+    }
+}
+
+impl<R: Clock + Wait + Clone + Drop + Send> Accept<R> for Sockets {
+    type Io = Exchange<R>;
+
+    // The limit of reads bounds accepts too: that nobody came in this time is no failure.
+    fn accept(&self, rt: &R) -> Option<Exchange<R>> {
+        for _ in rt.forever() {
+            match self.listener.accept() {
+                Ok((socket, _)) => return begun(rt, socket, self.limits),
+                Err(e) if e.kind() == ErrorKind::WouldBlock => {}
+                Err(_) => return None,
+            }
+        }
+        unreachable!()
+    }
+
+    fn end(&self, _rt: &R) {
+        let _ = self.same.shutdown(Shutdown::Both);
+    }
+}
+
+fn begun<R: Clock + Clone + Drop>(
+    rt: &R,
+    socket: TcpStream,
+    limits: Limits,
+) -> Option<Exchange<R>> {
+    Exchange::new(socket, rt.clone().ok()?, limits).ok()
+}

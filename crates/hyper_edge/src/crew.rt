@@ -1,0 +1,164 @@
+//! The threads that serve.
+
+use crate::accept::Accept;
+use crate::desk::{Desk, ServeEnd};
+use crate::service::EdgeService;
+use crate::serving::{Seat, serve_io};
+use fetch_workers::Source;
+use std::alloc::AllocGlobal;
+use std::random::RandomSource;
+use std::sync::{Condvar, Mutex, Wait};
+use std::thread;
+use std::thread::Threads;
+use tokio::io::{AsyncRead, AsyncWrite};
+
+/// A desk under its lock. Nothing is accepted or served under it.
+#[derive(Drop)]
+struct SharedDesk {
+    desk: Mutex<Desk>,
+    // A thread is wanted, or the work is over.
+    moved: Condvar,
+}
+
+impl SharedDesk {
+    fn may_accept(&self, rt: &impl Wait) -> bool {
+        let mut desk = self.desk.lock(rt);
+        let may = desk.may_accept();
+        let over = desk.is_over();
+        drop(desk);
+        if over {
+            self.moved.notify_all();
+        }
+        may
+    }
+
+    fn accepted(&self, rt: &impl Wait) {
+        if self.desk.lock(rt).accepted() {
+            self.moved.notify_all();
+        }
+    }
+
+    fn served(&self, rt: &impl Wait) {
+        self.desk.lock(rt).served();
+    }
+
+    fn accept_failed(&self, rt: &impl Wait) -> bool {
+        self.desk.lock(rt).accept_failed()
+    }
+
+    fn not_started(&self, rt: &impl Wait) -> bool {
+        self.desk.lock(rt).not_started()
+    }
+
+    // Waits until a further thread is wanted, and counts it. `false`: none will be.
+    fn wait_for_wanted(&self, rt: &impl Wait) -> bool {
+        let mut desk = self.desk.lock(rt);
+        for _ in rt.forever() {
+            if desk.is_over() {
+                return false;
+            }
+            if desk.take_wanted() {
+                return true;
+            }
+            desk = self.moved.wait(rt, desk);
+        }
+        unreachable!()
+    }
+}
+
+/// Serves connections from at most `threads` threads, and at least one, until `count` of them were
+/// accepted and have ended.
+///
+/// Each thread accepts for itself, and serves what it accepted; so many connections as there may be
+/// threads are served at once, and no further one is accepted. A further thread is started only once
+/// all that stand are serving; where it can't be started, those that stand go on, and where there is
+/// none the calling thread serves alone. A failed accept is passed over, and is none of `count`;
+/// sixteen in succession end the server.
+///
+/// Our profile.
+pub fn serve_accepts<R, A, S>(
+    rt: &R,
+    acceptor: &A,
+    service: &EdgeService<S, R>,
+    threads: u16,
+    count: u64,
+) -> ServeEnd
+where
+    R: Wait + Threads + RandomSource + AllocGlobal + Clone + Sync + Drop,
+    A: Accept<R> + Sync,
+    A::Io: AsyncRead + AsyncWrite,
+    S: Source<R> + Send + Sync + Drop,
+{
+    let shared = SharedDesk {
+        desk: Mutex::new(Desk::new(count, threads)),
+        moved: Condvar::new(),
+    };
+    start_all(rt, acceptor, service, &shared);
+    shared.desk.into_inner().end()
+}
+
+// Starts threads as they are wanted, and joins them.
+fn start_all<R, A, S>(rt: &R, acceptor: &A, service: &EdgeService<S, R>, shared: &SharedDesk)
+where
+    R: Wait + Threads + RandomSource + AllocGlobal + Clone + Sync + Drop,
+    A: Accept<R> + Sync,
+    A::Io: AsyncRead + AsyncWrite,
+    S: Source<R> + Send + Sync + Drop,
+{
+    let is_alone = thread::scope(thread::scope_env(), rt, |scope| {
+        for _ in rt.forever() {
+            if !shared.wait_for_wanted(rt) {
+                return false;
+            }
+            let started = scope.spawn(move || work(rt, acceptor, service, shared));
+            if started.is_err() && shared.not_started(rt) {
+                return true;
+            }
+        }
+        unreachable!()
+    });
+    if is_alone {
+        work(rt, acceptor, service, shared);
+    }
+}
+
+// What one thread does: it accepts and serves as long as there is an accept to make.
+fn work<R, A, S>(rt: &R, acceptor: &A, service: &EdgeService<S, R>, shared: &SharedDesk)
+where
+    R: Wait + Threads + RandomSource + AllocGlobal + Clone + Sync + Drop,
+    A: Accept<R>,
+    A::Io: AsyncRead + AsyncWrite,
+    S: Source<R> + Sync + Drop,
+{
+    let mut seat = None;
+    for _ in rt.forever() {
+        if !shared.may_accept(rt) {
+            return;
+        }
+        let Some(io) = acceptor.accept(rt) else {
+            if shared.accept_failed(rt) {
+                acceptor.end(rt);
+            }
+            continue;
+        };
+        shared.accepted(rt);
+        serve(rt, &mut seat, io, service);
+        shared.served(rt);
+    }
+    unreachable!()
+}
+
+// Serves a connection; where there is no room for that, drops it.
+fn serve<R, I, S>(rt: &R, seat: &mut Option<Seat>, io: I, service: &EdgeService<S, R>)
+where
+    R: Wait + Threads + RandomSource + AllocGlobal + Clone + Sync + Drop,
+    I: AsyncRead + AsyncWrite,
+    S: Source<R> + Sync + Drop,
+{
+    if seat.is_none() {
+        *seat = Seat::new(rt).ok();
+    }
+    if let (Some(seat), Ok(own)) = (seat, service.share()) {
+        serve_io(rt, seat, io, own);
+    }
+}

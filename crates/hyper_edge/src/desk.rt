@@ -1,0 +1,114 @@
+//! Every decision about the threads that serve: who may accept, when a further one is started, and
+//! when the work has ended.
+
+ghost use Rattle.std.specs.Prelude.{◌≡◌, ◌↔◌, IsTrue};
+
+/// So many failed accepts in succession end a server.
+pub(crate) const MAX_FAILED: u32 = 16;
+
+/// How a server ended.
+#[derive(Clone, Copy, Debug, PartialEq, Eq)]
+pub enum ServeEnd {
+    /// So many connections as it was to serve were accepted, and have ended.
+    Served,
+    /// Accepts failed, sixteen in succession.
+    AcceptsFailed,
+}
+
+/// What lies under the lock that serving threads share.
+#[derive(Drop)]
+pub(crate) struct Desk {
+    // How many accepts nobody has begun yet.
+    left: u64,
+    // How many threads there are, how many there may be, and how many of them serve.
+    threads: u16,
+    most: u16,
+    serving: u16,
+    // The accepts that have failed since the last that succeeded.
+    failed: u32,
+    // A further thread is to be started.
+    wanted: bool,
+}
+
+impl Desk {
+    /// So many accepts are to be made, by at most so many threads, of which the first is wanted.
+    pub(crate) fn new(count: u64, most: u16) -> Desk {
+        Desk {
+            left: count,
+            threads: 0,
+            most,
+            serving: 0,
+            failed: 0,
+            wanted: true,
+        }
+    }
+
+    /// Lets a thread accept, where there is an accept left to make. Who waits in an accept has it
+    /// counted already: so nobody waits once all are made.
+    pub(crate) fn may_accept(&mut self) -> bool {
+        if self.left == 0 || self.has_failed() {
+            return false;
+        }
+        self.left -= 1;
+        true
+    }
+
+    /// A thread has accepted, and serves from now on. `true`: so a further one is wanted.
+    pub(crate) fn accepted(&mut self) -> bool {
+        self.failed = 0;
+        self.serving = self.serving.saturating_add(1);
+        if self.wanted || self.serving < self.threads || self.threads >= self.most {
+            return false;
+        }
+        self.wanted = true;
+        true
+    }
+
+    /// A thread has served.
+    pub(crate) fn served(&mut self) {
+        self.serving = self.serving.saturating_sub(1);
+    }
+
+    /// An accept has failed: it is left to be made. `true`: it was one too many.
+    pub(crate) fn accept_failed(&mut self) -> bool {
+        self.left = self.left.saturating_add(1);
+        self.failed = self.failed.saturating_add(1);
+        self.has_failed()
+    }
+
+    /// Counts one more thread, where one is wanted; and only there.
+    pub(crate) fn take_wanted(&mut self) -> bool
+        ensures { IsTrue result ↔ IsTrue self.old.wanted }
+    {
+        if !self.wanted {
+            return false;
+        }
+        self.wanted = false;
+        self.threads = self.threads.saturating_add(1);
+        true
+    }
+
+    /// A thread couldn't be started. `true`: there is none.
+    pub(crate) fn not_started(&mut self) -> bool {
+        self.threads = self.threads.saturating_sub(1);
+        self.threads == 0
+    }
+
+    /// Whether no further accept is begun.
+    pub(crate) fn is_over(&self) -> bool {
+        self.left == 0 || self.has_failed()
+    }
+
+    /// How the server has ended.
+    pub(crate) fn end(&self) -> ServeEnd {
+        if self.has_failed() {
+            ServeEnd::AcceptsFailed
+        } else {
+            ServeEnd::Served
+        }
+    }
+
+    fn has_failed(&self) -> bool {
+        self.failed >= MAX_FAILED
+    }
+}

@@ -1,0 +1,157 @@
+//! What answers the requests of a connection.
+
+ghost use Rattle.std.specs.Prelude.{◌≤◌};
+ghost use Rattle.esi_meaning.specs.Meaning.{AreLevels};
+ghost use Rattle.fetch_workers.specs.Rests.{AreWorkers};
+ghost use Rattle.plan_runner.specs.declared.page.TheConstants.{MAX_AHEAD};
+
+use crate::responding::respond;
+use edge_types::NoMemory;
+use fetch_workers::Source;
+use http::header::HeaderValue;
+use http::{HeaderMap, Request, Response};
+use hyper_edge_head::{EdgeBody, Field, refusal_of};
+use std::alloc::{AllocError, Global};
+use std::hash::RandomState;
+use std::io;
+use std::random::RandomSource;
+use std::sync::{Arc, Wait};
+use std::thread::Threads;
+
+/// How pages are assembled.
+#[derive(Clone, Copy)]
+pub struct Assembling {
+    ahead: u16,
+    workers: u8,
+    levels: u8,
+    ghost ahead_few: { ahead ≤ MAX_AHEAD },
+    ghost workers_few: { AreWorkers workers },
+    ghost levels_few: { AreLevels levels },
+}
+
+impl Assembling {
+    /// With these numbers, which are those of `assemble`.
+    pub fn new(ahead: u16, workers: u8, levels: u8) -> Assembling
+        requires ahead { ahead ≤ MAX_AHEAD }
+        requires workers { AreWorkers workers }
+        requires levels { AreLevels levels }
+    {
+        Assembling {
+            ahead,
+            workers,
+            levels,
+        }
+    }
+}
+
+/// What answers requests for pages from a source, by a runtime of its own.
+#[derive(Drop)]
+pub struct EdgeService<S, R> {
+    rt: R,
+    alloc: Global,
+    source: Arc<S>,
+    how: Assembling,
+    // The keys of the maps of fields.
+    keys: RandomState,
+}
+
+impl<S: Drop, R: Drop> EdgeService<S, R> {
+    /// A service over a source. Refused where the system has no keys for the maps of fields.
+    pub fn new(
+        rt: R,
+        alloc: Global,
+        source: Arc<S>,
+        how: Assembling,
+    ) -> io::Result<EdgeService<S, R>>
+    where
+        R: RandomSource,
+    {
+        let keys = RandomState::new(&rt)?;
+        Ok(EdgeService {
+            rt,
+            alloc,
+            source,
+            how,
+            keys,
+        })
+    }
+
+    pub(crate) fn alloc(&self) -> Global {
+        self.alloc
+    }
+
+    pub(crate) fn keys(&self) -> RandomState {
+        self.keys
+    }
+}
+
+impl<S, R> EdgeService<S, R>
+where
+    S: Source<R> + Sync,
+    R: Wait + Threads + Sync,
+{
+    // The response to a request, by `respond` on a copy of its head; 503 where there is no room for
+    // the copy.
+    pub(crate) fn respond_to<B>(
+        &self,
+        request: &Request<B>,
+    ) -> Result<Response<EdgeBody>, NoMemory> {
+        let method = request.method().as_str().as_bytes();
+        let Ok(fields) = fields_of(self.alloc, request.headers()) else {
+            return refusal_of(self.alloc, 503);
+        };
+        let uri = request.uri();
+        if let (None, Some(target)) = (uri.authority(), uri.path_and_query()) {
+            return self.respond(method, target.as_str().as_bytes(), fields.as_slice());
+        }
+        let Ok(target) = format!(in self.alloc; "{uri}") else {
+            return refusal_of(self.alloc, 503);
+        };
+        self.respond(method, target.as_bytes(), fields.as_slice())
+    }
+
+    fn respond(
+        &self,
+        method: &[u8],
+        target: &[u8],
+        fields: &[Field<'_>],
+    ) -> Result<Response<EdgeBody>, NoMemory> {
+        let how = self.how;
+        respond(
+            &self.rt,
+            self.alloc,
+            &*self.source,
+            method,
+            target,
+            fields,
+            how.ahead,
+            how.workers,
+            how.levels,
+        )
+    }
+}
+
+impl<S: Drop, R: Clone + Drop> EdgeService<S, R> {
+    /// One more owner of the same service, for another connection.
+    pub(crate) fn share(&self) -> Result<EdgeService<S, R>, AllocError> {
+        Ok(EdgeService {
+            rt: self.rt.clone()?,
+            alloc: self.alloc,
+            source: self.source.clone()?,
+            how: self.how,
+            keys: self.keys,
+        })
+    }
+}
+
+// The lines of a head, in order.
+fn fields_of(alloc: Global, headers: &HeaderMap<HeaderValue>) -> Result<Vec<Field<'_>>, NoMemory> {
+    let mut fields = Vec::new(alloc);
+    for (name, value) in headers.iter() {
+        fields.push(Field {
+            name: name.as_bytes(),
+            value: value.as_bytes(),
+        })?;
+    }
+    Ok(fields)
+}
