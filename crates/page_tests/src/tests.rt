@@ -1,4 +1,5 @@
 mod boards;
+mod broken;
 mod orders;
 mod pages;
 mod plans;
