@@ -4,6 +4,7 @@ ghost use Rattle.edge_case.specs.declared.ending.CaseFault.TheVariants as fault;
 
 use edge_types::NoMemory;
 use std::alloc::{AllocError, AllocFailed};
+use thiserror::Error;
 
 /// What was printed.
 #[derive(Clone, Copy, Debug, Drop, PartialEq, Eq)]
@@ -15,15 +16,19 @@ pub enum CaseEnd {
 }
 
 /// Why nothing was printed, or not all of it.
-#[derive(Clone, Copy, Debug, Drop, PartialEq, Eq)]
+#[derive(Clone, Copy, Debug, Drop, PartialEq, Eq, Error)]
 pub enum CaseFault {
     /// The input is no case text.
+    #[error("the input is no case text: write its lines in the form of case texts")]
     BadCase,
     /// A growth was refused.
+    #[error("out of memory: run the case again with more of it")]
     NoMemory,
     /// A read failed.
+    #[error("the input could not be read: hand it in again from its first byte")]
     Read,
     /// A write failed, or took no byte.
+    #[error("the output could not be written: discard what was written, and run the case again")]
     Write,
 }
 
