@@ -8,10 +8,18 @@ use std::{env, io};
 mod cases;
 mod held;
 mod orders;
+mod sharing;
 mod site;
 mod workers;
 
-const NAMES: [&str; 5] = ["pages", "orders", "workers", "held-bodies", "held-page"];
+const NAMES: [&str; 6] = [
+    "pages",
+    "orders",
+    "workers",
+    "sharing",
+    "held-bodies",
+    "held-page",
+];
 
 fn main(rt: HostRuntime) -> io::Result<()> {
     let mut named = false;
@@ -20,9 +28,11 @@ fn main(rt: HostRuntime) -> io::Result<()> {
         match word.as_str() {
             "all" => {
                 run_all(&rt)?;
-                workers::run(&rt, rt.alloc())?
+                workers::run(&rt, rt.alloc())?;
+                sharing::run(&rt, rt.alloc())?
             }
             "workers" => workers::run(&rt, rt.alloc())?,
+            "sharing" => sharing::run(&rt, rt.alloc())?,
             name => run(&rt, name)?,
         }
     }
