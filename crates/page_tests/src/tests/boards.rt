@@ -1,3 +1,5 @@
+// A board is lent: whoever holds one pays in its proof for each way out.
+use super::url_of;
 use answer_board::{Board, FillFault, Receipt, Ticket};
 use edge_types::{Answer, NoMemory, PageUrl};
 use plan_compiler::Prepared;
@@ -7,10 +9,6 @@ use std::process::Abort;
 use std::str;
 use std::sync::Arc;
 use std::test::Fail;
-
-fn url_of(alloc: Global, text: &str) -> Result<PageUrl, Fail> {
-    Ok(PageUrl::parse(alloc, text.as_bytes())?.ok_or("a URL")?)
-}
 
 fn failed(alloc: Global, url: PageUrl) -> Result<Prepared, NoMemory> {
     Prepared::of(alloc, Arc::new(alloc, Answer::failed(url))?)
@@ -51,13 +49,17 @@ fn filled(board: &mut Board, receipt: Option<Receipt>) -> Result<usize, Option<F
     }
 }
 
-// A board with slots of these URLs, none of which is claimed.
-fn board_of(alloc: Global, texts: [&str; 3]) -> Result<Board, Fail> {
-    let mut board = Board::new(alloc);
+// Opens a slot for each of these URLs.
+fn open_all(
+    rt: &impl Abort,
+    alloc: Global,
+    board: &mut Board,
+    texts: [&str; 3],
+) -> Result<(), NoMemory> {
     for text in texts {
-        board.open(&url_of(alloc, text)?, 1)?;
+        board.open(&url_of(rt, alloc, text)?, 1)?;
     }
-    Ok(board)
+    Ok(())
 }
 
 // The URL that an answer names.
@@ -110,84 +112,100 @@ fn with_next(
 // filled ones.
 fn told(alloc: Global, board: &Board) -> Result<String, NoMemory> {
     let mut line = String::new(alloc);
-    for number in 0..board.len() {
-        push_slot(&mut line, board, number)?;
-    }
-    for number in board.filled() {
-        write!(line, " {number}")?;
-    }
+    push_slots(&mut line, board)?;
     Ok(line)
 }
 
-fn push_slot(line: &mut String, board: &Board, number: usize) -> Result<(), NoMemory> {
-    write!(line, "{}", board.depth(number).unwrap_or(0))?;
-    let url = named(board.prepared(number));
-    line.push_str(str::from_utf8(url).unwrap_or("?"))?;
-    line.push_str(";")?;
+fn push_slots(line: &mut String, board: &Board) -> Result<(), NoMemory> {
+    for number in 0..board.len() {
+        push_number(line, "", usize::from(board.depth(number).unwrap_or(0)))?;
+        let url = named(board.prepared(number));
+        line.push_str(str::from_utf8(url).unwrap_or("?"))?;
+        line.push_str(";")?;
+    }
+    for number in board.filled() {
+        push_number(line, " ", *number)?;
+    }
     Ok(())
 }
 
-// Opens a slot for a URL, and tells its number, twice.
-fn opened(alloc: Global, board: &mut Board, text: &str, depth: u8) -> Result<String, Fail> {
-    let url = url_of(alloc, text)?;
-    let number = board.open(&url, depth)?;
-    Ok(format!(in alloc; "{number} {}", board.number(&url).unwrap_or(9))?)
+fn push_number(line: &mut String, before: &str, number: usize) -> Result<(), NoMemory> {
+    line.push_str(before)?;
+    write!(line, "{number}")?;
+    Ok(())
+}
+
+// Checks what is told of a board.
+fn is_told(rt: &impl Abort, alloc: Global, board: &Board, wanted: &str) -> Result<(), NoMemory> {
+    let found = told(alloc, board)?;
+    assert!(rt; found.as_str() == wanted, "{wanted}");
+    Ok(())
+}
+
+// Opens a slot for a URL, which has to get this number.
+fn opens(
+    rt: &impl Abort,
+    alloc: Global,
+    board: &mut Board,
+    text: &str,
+    depth: u8,
+    number: usize,
+) -> Result<(), NoMemory> {
+    let url = url_of(rt, alloc, text)?;
+    assert!(rt; board.open(&url, depth)? == number, "{text}");
+    assert!(rt; board.number(&url) == Some(number), "{text}");
+    Ok(())
+}
+
+fn open_once(rt: &impl Abort, alloc: Global, board: &mut Board) -> Result<(), NoMemory> {
+    opens(rt, alloc, board, "http://a.test/x", 1, 0)?;
+    opens(rt, alloc, board, "http://a.test/y", 2, 1)?;
+    opens(rt, alloc, board, "http://a.test/x", 3, 0)?;
+    opens(rt, alloc, board, "http://A.test:80/./x#f", 4, 0)?;
+    is_told(rt, alloc, board, "1;2;")
 }
 
 #[test]
 fn a_url_is_opened_once(rt: HostRuntime) -> Result<(), Fail> {
-    let alloc = rt.alloc();
-    let mut board = Board::new(alloc);
-    for (text, depth, wanted) in [
-        ("http://a.test/x", 1, "0 0"),
-        ("http://a.test/y", 2, "1 1"),
-        ("http://a.test/x", 3, "0 0"),
-        ("http://A.test:80/./x#f", 4, "0 0"),
-    ] {
-        let found = opened(alloc, &mut board, text, depth)?;
-        assert_eq!(rt; found.as_str(), wanted, "{text}");
-    }
-    let found = told(alloc, &board)?;
-    assert_eq!(rt; found.as_str(), "1;2;");
-    Ok(())
+    let mut board = Board::new(rt.alloc());
+    Ok(open_once(&rt, rt.alloc(), &mut board)?)
 }
 
-// A board with a slot that is filled, and one that is opened behind it.
-fn half_filled(alloc: Global) -> Result<Board, Fail> {
-    let mut board = Board::new(alloc);
-    board.open(&url_of(alloc, "http://a.test/x")?, 1)?;
-    fetch(alloc, &mut board)?;
-    board.open(&url_of(alloc, "http://a.test/x")?, 3)?;
-    board.open(&url_of(alloc, "http://a.test/y")?, 3)?;
-    Ok(board)
+// A slot is filled, and one opened behind it.
+fn half_fill(rt: &impl Abort, alloc: Global, board: &mut Board) -> Result<(), NoMemory> {
+    let url = url_of(rt, alloc, "http://a.test/x")?;
+    board.open(&url, 1)?;
+    fetch(alloc, board)?;
+    board.open(&url, 3)?;
+    opens(rt, alloc, board, "http://a.test/y", 3, 1)?;
+    assert!(rt; named(board.get(&url)) == url.as_bytes());
+    is_told(rt, alloc, board, "1http://a.test/x;3; 0")
 }
 
 #[test]
 fn a_filled_slot_stays(rt: HostRuntime) -> Result<(), Fail> {
-    let alloc = rt.alloc();
-    let board = half_filled(alloc)?;
-    let found = told(alloc, &board)?;
-    assert_eq!(rt; found.as_str(), "1http://a.test/x;3; 0");
-    let url = url_of(alloc, "http://a.test/x")?;
-    assert_eq!(rt; named(board.get(&url)), b"http://a.test/x".as_slice());
+    let mut board = Board::new(rt.alloc());
+    Ok(half_fill(&rt, rt.alloc(), &mut board)?)
+}
+
+const TEXTS: [&str; 3] = ["http://a.test/0", "http://a.test/1", "http://a.test/2"];
+
+fn fill_in_any_order(rt: &impl Abort, alloc: Global, board: &mut Board) -> Result<(), NoMemory> {
+    open_all(rt, alloc, board, TEXTS)?;
+    let held = next_receipt(alloc, board)?;
+    let (first, second) = with_next(alloc, held, board)?;
+    let numbers = (filled(board, second), filled(board, first));
+    assert!(rt; numbers == (Ok(1), Ok(0)));
+    assert!(rt; fetch(alloc, board)? == Some(2));
+    assert!(rt; fetch(alloc, board)?.is_none());
+    assert!(rt; board.filled() == [1, 0, 2].as_slice());
     Ok(())
 }
 
 #[test]
 fn slots_are_claimed_in_order_and_filled_in_any(rt: HostRuntime) -> Result<(), Fail> {
-    let alloc = rt.alloc();
-    let mut board = board_of(
-        alloc,
-        ["http://a.test/0", "http://a.test/1", "http://a.test/2"],
-    )?;
-    let held = next_receipt(alloc, &mut board)?;
-    let (first, second) = with_next(alloc, held, &mut board)?;
-    let numbers = [filled(&mut board, second), filled(&mut board, first)];
-    assert_eq!(rt; numbers, [Ok(1), Ok(0)]);
-    assert_eq!(rt; fetch(alloc, &mut board)?, Some(2));
-    assert_eq!(rt; fetch(alloc, &mut board)?, None);
-    assert_eq!(rt; board.filled(), [1, 0, 2].as_slice());
-    Ok(())
+    let mut board = Board::new(rt.alloc());
+    Ok(fill_in_any_order(&rt, rt.alloc(), &mut board)?)
 }
 
 // Offers the receipt of a board's next ticket to another board, and then fills it into its own:
@@ -206,53 +224,61 @@ fn offered(
     })
 }
 
-// What the second board answers to each receipt of the first.
-fn offers(alloc: Global, first: &mut Board, second: &mut Board) -> Result<String, Fail> {
-    let mut line = String::new(alloc);
-    for _ in 0..3 {
-        match offered(alloc, first, second)? {
-            Some((fault, number)) => write!(line, "{fault:?} {}; ", number.unwrap_or(9))?,
-            None => line.push_str("taken; ")?,
-        }
-    }
-    Ok(line)
+// In the second board the slot of this number is filled, unclaimed, or of another URL.
+fn offer_all(
+    rt: &impl Abort,
+    alloc: Global,
+    first: &mut Board,
+    second: &mut Board,
+) -> Result<(), NoMemory> {
+    open_all(rt, alloc, first, TEXTS)?;
+    open_all(rt, alloc, second, [TEXTS[0], TEXTS[1], "http://a.test/z"])?;
+    fetch(alloc, second)?;
+    assert!(rt; offered(alloc, first, second)? == Some((FillFault::Filled, Some(0))));
+    assert!(rt; offered(alloc, first, second)? == Some((FillFault::NotClaimed, Some(1))));
+    assert!(rt; offered(alloc, first, second)? == Some((FillFault::Stranger, Some(2))));
+    is_told(
+        rt,
+        alloc,
+        first,
+        "1http://a.test/0;1http://a.test/1;1http://a.test/2; 0 1 2",
+    )?;
+    is_told(rt, alloc, second, "1http://a.test/0;1;1; 0")
 }
 
-// In the second board the slot of this number is filled, unclaimed, or of another URL.
 #[test]
 fn receipts_of_another_board(rt: HostRuntime) -> Result<(), Fail> {
-    let alloc = rt.alloc();
-    let (x, y) = ("http://a.test/0", "http://a.test/1");
-    let mut first = board_of(alloc, [x, y, "http://a.test/2"])?;
-    let mut second = board_of(alloc, [x, y, "http://a.test/z"])?;
-    fetch(alloc, &mut second)?;
-    let found = offers(alloc, &mut first, &mut second)?;
-    assert_eq!(rt; found.as_str(), "Filled 0; NotClaimed 1; Stranger 2; ");
-    let boards = [told(alloc, &first)?, told(alloc, &second)?];
-    assert_eq!(rt;
-        boards[0].as_str(),
-        "1http://a.test/0;1http://a.test/1;1http://a.test/2; 0 1 2"
-    );
-    assert_eq!(rt; boards[1].as_str(), "1http://a.test/0;1;1; 0");
-    Ok(())
+    let mut first = Board::new(rt.alloc());
+    let mut second = Board::new(rt.alloc());
+    Ok(offer_all(&rt, rt.alloc(), &mut first, &mut second)?)
 }
 
 // A receipt of another board is taken where that very number and URL are claimed here: the slot is
 // filled by the stranger, and its own receipt then comes too late.
-#[test]
-fn a_stranger_of_that_number_and_url(rt: HostRuntime) -> Result<(), Fail> {
-    let alloc = rt.alloc();
-    let texts = ["http://a.test/0", "http://a.test/1", "http://a.test/2"];
-    let mut first = board_of(alloc, texts)?;
-    let mut second = board_of(alloc, texts)?;
-    let held = next_receipt(alloc, &mut first)?;
-    let (strange, own) = with_next(alloc, held, &mut second)?;
-    let fills = [filled(&mut second, strange), filled(&mut second, own)];
-    assert_eq!(rt; fills, [Ok(0), Err(Some(FillFault::Filled))]);
-    assert_eq!(rt; second.filled(), [0].as_slice());
+fn fill_by_a_stranger(
+    rt: &impl Abort,
+    alloc: Global,
+    first: &mut Board,
+    second: &mut Board,
+) -> Result<(), NoMemory> {
+    open_all(rt, alloc, first, TEXTS)?;
+    open_all(rt, alloc, second, TEXTS)?;
+    let held = next_receipt(alloc, first)?;
+    let (strange, own) = with_next(alloc, held, second)?;
+    let fills = (filled(second, strange), filled(second, own));
+    assert!(rt; fills == (Ok(0), Err(Some(FillFault::Filled))));
+    assert!(rt; second.filled() == [0].as_slice());
     Ok(())
 }
 
+#[test]
+fn a_stranger_of_that_number_and_url(rt: HostRuntime) -> Result<(), Fail> {
+    let mut first = Board::new(rt.alloc());
+    let mut second = Board::new(rt.alloc());
+    Ok(fill_by_a_stranger(&rt, rt.alloc(), &mut first, &mut second)?)
+}
+
+// An answer of another URL is handed back with the ticket.
 fn refusal(rt: &impl Abort, ticket: Ticket, prepared: Prepared) {
     match ticket.answered(prepared) {
         Ok(receipt) => {
@@ -260,55 +286,57 @@ fn refusal(rt: &impl Abort, ticket: Ticket, prepared: Prepared) {
             panic!(rt; "an answer of another URL");
         }
         Err((ticket, prepared)) => {
-            assert_eq!(rt; ticket.url().as_bytes(), b"http://a.test/x".as_slice());
-            assert_eq!(rt;
-                prepared.answer().url().as_bytes(),
-                b"http://a.test/y".as_slice()
-            );
+            assert!(rt; ticket.url().as_bytes() == b"http://a.test/x".as_slice());
+            assert!(rt; prepared.answer().url().as_bytes() == b"http://a.test/y".as_slice());
             ticket.give_up();
         }
     }
 }
 
-#[test]
-fn an_answer_of_another_url(rt: HostRuntime) -> Result<(), Fail> {
-    let mut board = Board::new(rt.alloc());
-    board.open(&url_of(rt.alloc(), "http://a.test/x")?, 1)?;
-    let other = failed(rt.alloc(), url_of(rt.alloc(), "http://a.test/y")?)?;
+fn refuse(rt: &impl Abort, alloc: Global, board: &mut Board) -> Result<(), NoMemory> {
+    opens(rt, alloc, board, "http://a.test/x", 1, 0)?;
+    let other = failed(alloc, url_of(rt, alloc, "http://a.test/y")?)?;
     match board.claim() {
-        Some(ticket) => refusal(&rt, ticket, other),
+        Some(ticket) => refusal(rt, ticket, other),
         None => panic!(rt; "a ticket"),
     }
-    assert!(rt; fetch(rt.alloc(), &mut board)?.is_none());
+    assert!(rt; fetch(alloc, board)?.is_none());
     Ok(())
 }
 
-// Opens as many slots as a page can have, of URLs that differ late; whether each has its number.
-fn opens_many(alloc: Global, board: &mut Board) -> Result<bool, Fail> {
-    for i in 0..1257usize {
-        let text = format!(in alloc; "http://a.test/long/long/long/long/long/long/long/{i}")?;
-        if board.open(&url_of(alloc, text.as_str())?, 1)? != i {
-            return Ok(false);
-        }
-    }
-    Ok(true)
+#[test]
+fn an_answer_of_another_url(rt: HostRuntime) -> Result<(), Fail> {
+    let mut board = Board::new(rt.alloc());
+    Ok(refuse(&rt, rt.alloc(), &mut board)?)
 }
 
-// Fills each slot; how many were.
-fn filled_all(alloc: Global, board: &mut Board) -> Result<usize, NoMemory> {
-    for i in 0..2000usize {
-        if fetch(alloc, board)? != Some(i) {
-            return Ok(i);
-        }
+// Opens as many slots as a page can have, of URLs that differ late, each of which gets its number.
+fn open_many(rt: &impl Abort, alloc: Global, board: &mut Board) -> Result<(), NoMemory> {
+    for i in 0..1257usize {
+        let mut text = String::new(alloc);
+        push_number(
+            &mut text,
+            "http://a.test/long/long/long/long/long/long/long/",
+            i,
+        )?;
+        opens(rt, alloc, board, text.as_str(), 1, i)?;
     }
-    Ok(2000)
+    Ok(())
+}
+
+// Fills each slot.
+fn fill_many(rt: &impl Abort, alloc: Global, board: &mut Board) -> Result<(), NoMemory> {
+    open_many(rt, alloc, board)?;
+    for i in 0..1257usize {
+        assert!(rt; fetch(alloc, board)? == Some(i));
+    }
+    assert!(rt; fetch(alloc, board)?.is_none());
+    assert!(rt; board.filled().len() == 1257);
+    Ok(())
 }
 
 #[test]
 fn many_slots(rt: HostRuntime) -> Result<(), Fail> {
     let mut board = Board::new(rt.alloc());
-    assert!(rt; opens_many(rt.alloc(), &mut board)?);
-    assert_eq!(rt; filled_all(rt.alloc(), &mut board)?, 1257);
-    assert_eq!(rt; board.filled().len(), 1257);
-    Ok(())
+    Ok(fill_many(&rt, rt.alloc(), &mut board)?)
 }

@@ -1,9 +1,11 @@
+use super::url_of;
 use edge_types::{Answer, Control, NoMemory, Octets, PageUrl, SharedBytes};
 use esi_tree::{TreeFault, template};
 use esi_vars::Part;
 use plan_compiler::{Form, Inline, Plan, Prepared, Step, compile};
 use std::alloc::Global;
 use std::fmt::Write;
+use std::process::Abort;
 use std::str;
 use std::sync::Arc;
 use std::test::Fail;
@@ -16,9 +18,13 @@ const MOST: usize = 30;
 // behind them the inlines, as `name first..end`.
 fn told(alloc: Global, plan: &Plan) -> Result<String, NoMemory> {
     let mut line = String::new(alloc);
-    push_steps(&mut line, plan)?;
-    push_inlines(&mut line, plan)?;
+    push_plan(&mut line, plan)?;
     Ok(line)
+}
+
+fn push_plan(line: &mut String, plan: &Plan) -> Result<(), NoMemory> {
+    push_steps(line, plan)?;
+    push_inlines(line, plan)
 }
 
 fn push_steps(line: &mut String, plan: &Plan) -> Result<(), NoMemory> {
@@ -94,9 +100,15 @@ fn planned(alloc: Global, text: &str) -> Result<Option<Plan>, NoMemory> {
     }
 }
 
-fn told_of(alloc: Global, text: &str) -> Result<String, Fail> {
-    let plan = planned(alloc, text)?.ok_or("a template")?;
-    Ok(told(alloc, &plan)?)
+fn told_of(alloc: Global, text: &str) -> Result<String, NoMemory> {
+    match planned(alloc, text)? {
+        Some(plan) => told(alloc, &plan),
+        None => {
+            let mut line = String::new(alloc);
+            line.push_str("no template")?;
+            Ok(line)
+        }
+    }
 }
 
 // A template, ` => `, and its steps, by hand. Inlines are told in text order, which isn't the order of the steps.
@@ -125,70 +137,39 @@ a<esi:inline name='/o'>b<esi:inline name='/i'>c</esi:inline></esi:inline> => a b
 <esi:choose><esi:otherwise><esi:inline name='1'>o</esi:inline></esi:otherwise><esi:when test="1"><esi:inline name='2'>a</esi:inline></esi:when></esi:choose> => ?2 a +1 o ; 1 3..4; 2 1..2
 <esi:choose><esi:when test="1"><esi:inline name='1'>a</esi:inline></esi:when><esi:otherwise><esi:inline name='2'>o</esi:inline></esi:otherwise><esi:when test="2"><esi:inline name='3'>b</esi:inline></esi:when></esi:choose> => ?2 a +4 ?2 b +1 o ; 1 1..2; 2 6..7; 3 4..5"#;
 
-// Notes a row that isn't told as it is wanted.
-fn note(wrong: &mut String, row: &str, told: &str, wanted: &str) -> Result<(), NoMemory> {
-    if told != wanted {
-        write!(wrong, "{row}: {told}, not {wanted}\n")?;
-    }
-    Ok(())
-}
-
-fn wrong_plans(alloc: Global) -> Result<String, Fail> {
-    let mut wrong = String::new(alloc);
-    for row in PLANS.lines() {
-        let (text, wanted) = row.split_once(" =>").unwrap_or((row, ""));
-        let line = told_of(alloc, text)?;
-        note(
-            &mut wrong,
-            text,
-            line.as_str().trim_end(),
-            wanted.trim_start(),
-        )?;
-    }
-    Ok(wrong)
-}
-
 #[test]
 fn plans_are_made(rt: HostRuntime) -> Result<(), Fail> {
-    assert_eq!(rt; wrong_plans(rt.alloc())?.as_str(), "");
+    for row in PLANS.lines() {
+        let (text, wanted) = row.split_once(" =>").unwrap_or((row, ""));
+        let line = told_of(rt.alloc(), text)?;
+        assert!(rt; line.as_str().trim_end() == wanted.trim_start(), "{text}");
+    }
     Ok(())
-}
-
-fn url(alloc: Global, text: &str) -> Result<PageUrl, Fail> {
-    Ok(PageUrl::parse(alloc, text.as_bytes())?.ok_or("a URL")?)
 }
 
 const PAGE: &str = "http://a.test/p";
 
 // The answer of the page's URL, which is processed where `esi` says so, made ready.
-fn prepared(alloc: Global, esi: bool, body: &str) -> Result<Prepared, Fail> {
-    let answer = answer(alloc, esi, body)?.ok_or("an answer")?;
-    Ok(Prepared::of(alloc, Arc::new(alloc, answer)?)?)
-}
-
-fn answer(alloc: Global, esi: bool, body: &str) -> Result<Option<Answer>, Fail> {
+fn prepared(rt: &impl Abort, alloc: Global, esi: bool, body: &str) -> Result<Prepared, NoMemory> {
     let control = Control {
         esi,
         ..Control::default()
     };
-    let url = url(alloc, PAGE)?;
     let body = SharedBytes::copy_of(alloc, body.as_bytes())?;
-    Ok(Answer::got(url, 200, Octets::empty(alloc), control, body))
+    let url = url_of(rt, alloc, PAGE)?;
+    let answer = Answer::got(url, 200, Octets::empty(alloc), control, body).expect(rt, "an answer");
+    Prepared::of(alloc, Arc::new(alloc, answer)?)
 }
 
 // `plain`, the plan's line, or `bad` with its place.
 fn form_told(alloc: Global, prepared: &Prepared) -> Result<String, NoMemory> {
+    let mut line = String::new(alloc);
     match prepared.form() {
-        Form::Plain => word(alloc, "plain"),
-        Form::Planned(plan) => told(alloc, plan),
-        Form::BadAt(place) => Ok(format!(in alloc; "bad {place}")?),
+        Form::Plain => line.push_str("plain")?,
+        Form::Planned(plan) => push_plan(&mut line, plan)?,
+        Form::BadAt(place) => push_skip(&mut line, "bad ", *place)?,
     }
-}
-
-fn word(alloc: Global, text: &str) -> Result<String, NoMemory> {
-    let mut word = String::new(alloc);
-    word.push_str(text)?;
-    Ok(word)
+    Ok(line)
 }
 
 // Whether a body is processed, and what it is then.
@@ -196,48 +177,47 @@ const FORMS: [(bool, &str, &str); 4] = [
     (true, "A<esi:include src=\"/x\"/>B", "A {/x} B "),
     (false, "1", "plain"),
     (false, "<esi:try>", "plain"),
-    (true, "<esi:try>", "bad 9"),
+    (true, "<esi:try>", "bad 9 "),
 ];
 
-// What a second owner of an answer that was made ready is told as.
-fn second_told(alloc: Global, esi: bool, body: &str) -> Result<String, Fail> {
-    let second = prepared(alloc, esi, body)?.share()?;
-    Ok(form_told(alloc, &second)?)
+// A second owner of an answer that was made ready.
+fn second(rt: &impl Abort, alloc: Global, esi: bool, body: &str) -> Result<Prepared, NoMemory> {
+    prepared(rt, alloc, esi, body)?.share()
 }
 
-fn wrong_forms(alloc: Global) -> Result<String, Fail> {
-    let mut wrong = String::new(alloc);
-    for (esi, body, wanted) in FORMS.iter() {
-        let line = second_told(alloc, *esi, body)?;
-        note(&mut wrong, body, line.as_str(), wanted)?;
-    }
-    Ok(wrong)
-}
-
-#[test]
-fn an_answer_is_plain_planned_or_bad(rt: HostRuntime) -> Result<(), Fail> {
-    assert_eq!(rt; wrong_forms(rt.alloc())?.as_str(), "");
+fn form_holds(
+    rt: &impl Abort,
+    alloc: Global,
+    second: &Prepared,
+    wanted: &str,
+) -> Result<(), NoMemory> {
+    let found = form_told(alloc, second)?;
+    assert!(rt; found.as_str() == wanted, "{wanted}");
     Ok(())
 }
 
-fn wrong_owners(alloc: Global) -> Result<String, Fail> {
-    let mut wrong = String::new(alloc);
-    for (esi, body, _) in FORMS.iter() {
-        let second = prepared(alloc, *esi, body)?.share()?;
-        note(&mut wrong, body, text_of(second.url().as_bytes()), PAGE)?;
-        note(&mut wrong, body, text_of(second.answer().body()), body)?;
-    }
-    Ok(wrong)
-}
-
 #[test]
-fn a_second_owner_is_the_same_answer(rt: HostRuntime) -> Result<(), Fail> {
-    assert_eq!(rt; wrong_owners(rt.alloc())?.as_str(), "");
+fn a_second_owner_is_the_same_answer_plain_planned_or_bad(rt: HostRuntime) -> Result<(), Fail> {
+    for (esi, body, wanted) in FORMS {
+        let second = second(&rt, rt.alloc(), esi, body)?;
+        assert!(rt; second.url().as_bytes() == PAGE.as_bytes(), "{body}");
+        assert!(rt; second.answer().body() == body.as_bytes(), "{body}");
+        form_holds(&rt, rt.alloc(), &second, wanted)?;
+    }
     Ok(())
 }
 
 const INLINES: &str =
     "0<esi:inline name='http://u:p@a.test/'>1</esi:inline><esi:inline name='/i'>2</esi:inline><esi:inline name='i'>3</esi:inline><esi:inline name='/j'>4</esi:inline>";
+
+// The URL of each inline, `-` for none, and of what would come behind the last.
+const URLS: [&str; 5] = [
+    "-",
+    "http://a.test/i",
+    "http://a.test/i",
+    "http://a.test/j",
+    "-",
+];
 
 // The URL of an inline, `-` for none.
 fn url_told<'a>(prepared: &'a Prepared, i: usize) -> &'a str {
@@ -247,55 +227,33 @@ fn url_told<'a>(prepared: &'a Prepared, i: usize) -> &'a str {
     }
 }
 
-const URLS: [&str; 5] = [
-    "-",
-    "http://a.test/i",
-    "http://a.test/i",
-    "http://a.test/j",
-    "-",
+// The steps of the inline that a URL names.
+const FOUND: [(&str, Option<(usize, usize)>); 3] = [
+    ("http://a.test/i", Some((2, 3))),
+    ("http://a.test/j", Some((4, 5))),
+    ("http://a.test/p", None),
 ];
 
-fn wrong_urls(alloc: Global) -> Result<String, Fail> {
-    let prepared = prepared(alloc, true, INLINES)?;
-    let mut wrong = String::new(alloc);
+fn found(prepared: &Prepared, url: &PageUrl) -> Option<(usize, usize)> {
+    match prepared.inline_for(url) {
+        Some(inline) => Some((inline.first, inline.end)),
+        None => None,
+    }
+}
+
+fn inlines_hold(rt: &impl Abort, alloc: Global, prepared: &Prepared) -> Result<(), NoMemory> {
     for (i, wanted) in URLS.iter().enumerate() {
-        note(&mut wrong, wanted, url_told(&prepared, i), wanted)?;
+        assert!(rt; url_told(prepared, i) == *wanted, "{i}");
     }
-    Ok(wrong)
-}
-
-#[test]
-fn each_inline_has_its_url(rt: HostRuntime) -> Result<(), Fail> {
-    assert_eq!(rt; wrong_urls(rt.alloc())?.as_str(), "");
+    for (text, wanted) in FOUND {
+        let url = url_of(rt, alloc, text)?;
+        assert!(rt; found(prepared, &url) == wanted, "{text}");
+    }
     Ok(())
 }
 
-// The first step of the inline that a URL names, and the one behind its last.
-const FOUND: [(&str, &str); 3] = [
-    ("http://a.test/i", "2..3"),
-    ("http://a.test/j", "4..5"),
-    ("http://a.test/p", "none"),
-];
-
-fn found(alloc: Global, prepared: &Prepared, text: &str) -> Result<String, Fail> {
-    match prepared.inline_for(&url(alloc, text)?) {
-        Some(inline) => Ok(format!(in alloc; "{}..{}", inline.first, inline.end)?),
-        None => Ok(word(alloc, "none")?),
-    }
-}
-
-fn wrong_inlines(alloc: Global) -> Result<String, Fail> {
-    let prepared = prepared(alloc, true, INLINES)?;
-    let mut wrong = String::new(alloc);
-    for (text, wanted) in FOUND.iter() {
-        let line = found(alloc, &prepared, text)?;
-        note(&mut wrong, text, line.as_str(), wanted)?;
-    }
-    Ok(wrong)
-}
-
 #[test]
-fn the_first_inline_of_a_url_is_found(rt: HostRuntime) -> Result<(), Fail> {
-    assert_eq!(rt; wrong_inlines(rt.alloc())?.as_str(), "");
-    Ok(())
+fn each_inline_has_its_url_and_the_first_of_one_is_found(rt: HostRuntime) -> Result<(), Fail> {
+    let prepared = prepared(&rt, rt.alloc(), true, INLINES)?;
+    Ok(inlines_hold(&rt, rt.alloc(), &prepared)?)
 }
