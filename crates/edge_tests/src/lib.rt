@@ -1,4 +1,4 @@
-//! The tests of `edge_types` and `surrogate_headers`.
+//! The tests of the libraries below the plans: values, headers, the language, heads and responses, and the cache.
 #![tactic(auto)]
 
 #[cfg(test)]

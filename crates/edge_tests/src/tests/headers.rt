@@ -43,7 +43,7 @@ content="esi/1.0" => nothing
 content="" => nothing"#;
 
 // The value with its white space written out.
-fn written_out(alloc: Global, row: &str) -> Result<String, NoMemory> {
+pub(super) fn written_out(alloc: Global, row: &str) -> Result<String, NoMemory> {
     let mut text = String::new(alloc);
     for c in row.chars() {
         text.push(match c {
@@ -93,26 +93,23 @@ fn values_ask_for_what_they_say(rt: HostRuntime) -> Result<(), Fail> {
 }
 
 #[test]
-fn names_of_devices(rt: HostRuntime) -> Result<(), Fail> {
-    for (text, want) in [
-        ("edge1", true),
-        ("!#$%&'*+-.^_`~|", true),
-        ("", false),
-        ("a b", false),
-        ("a=b", false),
-        ("a\"b", false),
-    ] {
-        assert_eq!(rt; is_token(text.as_bytes()), want, "at {text}");
+fn names_of_devices_are_tokens(rt: HostRuntime) {
+    for text in ["edge1", "!#$%&'*+-.^_`~|"] {
+        assert!(rt; is_token(text.as_bytes()), "{text}");
     }
+    for text in ["", "a b", "a=b", "a\"b"] {
+        assert!(rt; !is_token(text.as_bytes()), "{text}");
+    }
+    assert!(rt; own_device() == DEVICE);
+}
+
+#[test]
+fn devices_tell_what_they_can(rt: HostRuntime) -> Result<(), Fail> {
     assert!(rt; is_token(DEVICE));
     let value = capability(rt.alloc(), DEVICE)?;
-    assert_eq!(rt;
-        value.as_slice(),
-        b"edge1=\"Surrogate/1.0 ESI/1.0\"".as_slice()
-    );
+    assert!(rt; value.as_slice() == b"edge1=\"Surrogate/1.0 ESI/1.0\"".as_slice());
     let (name, line) = own_capability();
-    assert_eq!(rt; name, "surrogate-capability");
-    assert_eq!(rt; line.as_bytes(), value.as_slice());
-    assert_eq!(rt; own_device(), DEVICE);
+    assert!(rt; name == "surrogate-capability");
+    assert!(rt; line.as_bytes() == value.as_slice());
     Ok(())
 }

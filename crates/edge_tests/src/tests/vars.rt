@@ -73,13 +73,13 @@ fn a_text_longer_than_the_limit_is_given_up(rt: HostRuntime) -> Result<(), Fail>
 
 // Whether a reference stands at the front of a text, with this value and this text behind it.
 fn stands_in_front(
-    read: Option<(Reference, &[u8])>,
+    read: &Option<(Reference, &[u8])>,
     request: &Request,
     wanted: (&str, &str),
 ) -> bool {
     match read {
         Some((reference, rest)) => {
-            value(request, &reference) == wanted.0.as_bytes() && rest == wanted.1.as_bytes()
+            value(request, reference) == wanted.0.as_bytes() && *rest == wanted.1.as_bytes()
         }
         None => false,
     }
@@ -93,7 +93,7 @@ fn a_reference_at_the_front_has_its_rest(rt: HostRuntime) -> Result<(), Fail> {
         (" $(HTTP_COOKIE{g})=='1'", false),
     ] {
         let read = reference_at(rt.alloc(), text.as_bytes())?;
-        let found = stands_in_front(read, &request, ("1", "=='1'"));
+        let found = stands_in_front(&read, &request, ("1", "=='1'"));
         assert_eq!(rt; found, wanted, "{text}");
     }
     Ok(())

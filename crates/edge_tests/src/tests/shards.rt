@@ -2,9 +2,11 @@
 ghost use Rattle.std.specs.Prelude.{◌≡◌, ◌≤◌};
 ghost use Rattle.std.specs.Arc.{arc_value};
 
-use edge_types::{Answer, Control, Octets, PageUrl, SharedBytes};
+use super::values::url;
+use edge_types::{Answer, Control, NoMemory, Octets, PageUrl, SharedBytes};
 use fragment_cache::{Begun, Flight, Picked, Shard};
 use std::alloc::Global;
+use std::fmt::Write;
 use std::process::Abort;
 use std::sync::Arc;
 use std::test::Fail;
@@ -16,7 +18,7 @@ const B: &str = "http://a.test/b";
 const C: &str = "http://a.test/c";
 
 // What an origin told: a body of one byte under a status and a control.
-#[derive(Clone, Copy, Debug, Drop, PartialEq, Eq)]
+#[derive(Clone, Copy)]
 struct Told {
     status: u16,
     no_store: bool,
@@ -35,7 +37,7 @@ const fn answered(status: u16, max_age: u32, extension: u32, body: u8) -> Told {
     }
 }
 
-#[derive(Clone, Copy, Debug, Drop, PartialEq, Eq)]
+#[derive(Clone, Copy)]
 enum Call {
     Begin(&'static str, u64),
     Look(&'static str, u64),
@@ -45,7 +47,7 @@ enum Call {
 }
 
 // What a call answered, with the body of an answer; none where nothing could be had.
-#[derive(Clone, Copy, Debug, Drop, PartialEq, Eq)]
+#[derive(Clone, Copy, PartialEq, Eq)]
 enum Says {
     Hit(Option<u8>),
     Join(u64),
@@ -60,26 +62,22 @@ enum Says {
     NoFlight,
 }
 
-fn url(alloc: Global, text: &str) -> Result<PageUrl, Fail> {
-    match PageUrl::parse(alloc, text.as_bytes())? {
-        Some(url) => Ok(url),
-        None => Err("no URL")?,
-    }
-}
-
-fn answer(alloc: Global, url: PageUrl, told: Told) -> Result<Arc<Answer>, Fail> {
+// An answer of a URL with what was told.
+fn answer(
+    rt: &impl Abort,
+    alloc: Global,
+    url: PageUrl,
+    told: Told,
+) -> Result<Arc<Answer>, NoMemory> {
     let control = Control {
         no_store: told.no_store,
         max_age: told.max_age,
         extension: told.extension,
         ..Control::default()
     };
-    let content_type = Octets::empty(alloc);
     let body = SharedBytes::of([told.body].to_vec(alloc)?)?;
-    match Answer::got(url, told.status, content_type, control, body) {
-        Some(answer) => Ok(Arc::new(alloc, answer)?),
-        None => Err("no answer")?,
-    }
+    let answer = Answer::got(url, told.status, Octets::empty(alloc), control, body);
+    Ok(Arc::new(alloc, answer.expect(rt, "an answer"))?)
 }
 
 fn body(answer: &Answer) -> Option<u8> {
@@ -137,19 +135,10 @@ struct Desk {
 }
 
 impl Desk {
-    fn call(&mut self, rt: &impl Abort, alloc: Global, call: Call) -> Result<Says, Fail> {
+    fn call(&mut self, rt: &impl Abort, alloc: Global, call: Call) -> Result<Says, NoMemory> {
         match call {
-            Call::Begin(text, now) => {
-                let url = url(alloc, text)?;
-                self.begin(alloc, &url, now)
-            }
-            Call::Look(text, now) => {
-                let url = url(alloc, text)?;
-                Ok(match self.shard.look(&url, now)? {
-                    Some(answer) => Says::Hit(body(&answer)),
-                    None => Says::Missing,
-                })
-            }
+            Call::Begin(text, now) => self.begin(alloc, &url(rt, alloc, text)?, now),
+            Call::Look(text, now) => self.look(&url(rt, alloc, text)?, now),
             Call::Land(number, told, now) => self.land(rt, alloc, number, told, now),
             Call::Pick(number) => Ok(match self.shard.pick(number) {
                 Picked::Here(answer) => Says::Here(body(&answer)),
@@ -159,7 +148,14 @@ impl Desk {
         }
     }
 
-    fn begin(&mut self, alloc: Global, url: &PageUrl, now: u64) -> Result<Says, Fail> {
+    fn look(&mut self, url: &PageUrl, now: u64) -> Result<Says, NoMemory> {
+        Ok(match self.shard.look(url, now)? {
+            Some(answer) => Says::Hit(body(&answer)),
+            None => Says::Missing,
+        })
+    }
+
+    fn begin(&mut self, alloc: Global, url: &PageUrl, now: u64) -> Result<Says, NoMemory> {
         let spare = Shard::new(alloc, 1)?;
         match self.shard.begin(url, now) {
             Begun::Hit(answer) => Ok(Says::Hit(body(&answer))),
@@ -186,13 +182,13 @@ impl Desk {
         number: u64,
         told: Option<Told>,
         now: u64,
-    ) -> Result<Says, Fail> {
+    ) -> Result<Says, NoMemory> {
         let Some(at) = self.held.iter().position(|held| held.number == number) else {
             return Ok(Says::NoFlight);
         };
         let held = self.held.swap_remove(at);
         let answer = match told {
-            Some(told) => answer(alloc, held.flight.url().share()?, told)?,
+            Some(told) => answer(rt, alloc, held.flight.url().share()?, told)?,
             None => Arc::try_clone(&held.ready)?,
         };
         let landed = held.land(rt, &mut self.shard, answer, now);
@@ -200,7 +196,7 @@ impl Desk {
     }
 }
 
-fn new_desk(alloc: Global, capacity: usize) -> Result<Desk, Fail>
+fn new_desk(alloc: Global, capacity: usize) -> Result<Desk, NoMemory>
     requires from { 1 ≤ capacity }
     requires to { capacity ≤ 1024 }
 {
@@ -211,23 +207,33 @@ fn new_desk(alloc: Global, capacity: usize) -> Result<Desk, Fail>
     })
 }
 
-// Makes the calls of the rows, and compares what each answers.
+// Makes the calls of the rows, and compares what each answers. The desk is lent: whoever holds one pays in its
+// proof for each way out.
+fn play_on(
+    rt: &impl Abort,
+    alloc: Global,
+    desk: &mut Desk,
+    name: &str,
+    rows: &[(Call, Says)],
+) -> Result<(), NoMemory> {
+    for (at, (call, says)) in rows.iter().enumerate() {
+        assert!(rt; desk.call(rt, alloc, *call)? == *says, "{name}, call {at}");
+    }
+    Ok(())
+}
+
 fn play(
     rt: &impl Abort,
     alloc: Global,
     name: &str,
     capacity: usize,
     rows: &[(Call, Says)],
-) -> Result<(), Fail>
+) -> Result<(), NoMemory>
     requires from { 1 ≤ capacity }
     requires to { capacity ≤ 1024 }
 {
     let mut desk = new_desk(alloc, capacity)?;
-    for (at, (call, says)) in rows.iter().enumerate() {
-        let answered = desk.call(rt, alloc, *call)?;
-        assert_eq!(rt; answered, *says, "{name}, call {at}: {call:?}");
-    }
-    Ok(())
+    play_on(rt, alloc, &mut desk, name, rows)
 }
 
 use Call::{Begin, Land, Look, Pick};
@@ -270,7 +276,7 @@ fn one_fetch_serves_all(rt: HostRuntime) -> Result<(), Fail> {
     play(&rt, alloc, "worked example", 2, &worked)?;
     play(&rt, alloc, "a failed answer", 2, &failed)?;
     play(&rt, alloc, "several joins", 2, &shared)?;
-    play(&rt, alloc, "no flight", 1, &[(Pick(7), Unknown)])
+    Ok(play(&rt, alloc, "no flight", 1, &[(Pick(7), Unknown)])?)
 }
 
 #[test]
@@ -309,7 +315,7 @@ fn entries_go_by_their_last_use(rt: HostRuntime) -> Result<(), Fail> {
     let alloc = rt.alloc();
     play(&rt, alloc, "the last one is dropped", 1, &dropped)?;
     play(&rt, alloc, "hits between", 2, &hits_between)?;
-    play(&rt, alloc, "an expired entry", 2, &expired)
+    Ok(play(&rt, alloc, "an expired entry", 2, &expired)?)
 }
 
 #[test]
@@ -338,7 +344,7 @@ fn a_look_is_a_hit_or_nothing(rt: HostRuntime) -> Result<(), Fail> {
     ];
     let alloc = rt.alloc();
     play(&rt, alloc, "no flight", 1, &alone)?;
-    play(&rt, alloc, "the newest entry", 2, &used)
+    Ok(play(&rt, alloc, "the newest entry", 2, &used)?)
 }
 
 // What lands on an entry that has expired; the clock then goes back, to tell whether it is there.
@@ -348,7 +354,7 @@ fn landing_on(
     name: &str,
     lands: Told,
     after: Says,
-) -> Result<(), Fail> {
+) -> Result<(), NoMemory> {
     play(
         rt,
         alloc,
@@ -427,58 +433,69 @@ fn a_failing_origin_is_bridged(rt: HostRuntime) -> Result<(), Fail> {
     let alloc = rt.alloc();
     play(&rt, alloc, "before its extension ends", 2, &bridged)?;
     play(&rt, alloc, "an origin that does not fail", 2, &missing)?;
-    play(&rt, alloc, "the status tells", 2, &by_status)
+    Ok(play(&rt, alloc, "the status tells", 2, &by_status)?)
 }
 
 #[test]
 fn the_clock_ends(rt: HostRuntime) -> Result<(), Fail> {
     let last = u64::MAX;
-    play(
-        &rt,
-        rt.alloc(),
-        "the last second",
-        1,
-        &[
-            (Begin(A, last), Lead(0)),
-            (
-                Land(0, Some(answered(200, 10, 10, 1)), last),
-                Gives(Some(1)),
-            ),
-            (Begin(A, last - 1), Hit(Some(1))),
-            (Begin(A, last), Lead(1)),
-            (Land(1, None, last), Gives(None)),
-        ],
-    )
+    let rows = [
+        (Begin(A, last), Lead(0)),
+        (
+            Land(0, Some(answered(200, 10, 10, 1)), last),
+            Gives(Some(1)),
+        ),
+        (Begin(A, last - 1), Hit(Some(1))),
+        (Begin(A, last), Lead(1)),
+        (Land(1, None, last), Gives(None)),
+    ];
+    Ok(play(&rt, rt.alloc(), "the last second", 1, &rows)?)
+}
+
+// Begins one flight, and joins it as often as it may be picked up.
+fn join_often(rt: &impl Abort, alloc: Global, desk: &mut Desk) -> Result<(), NoMemory> {
+    let url = url(rt, alloc, A)?;
+    assert!(rt; desk.begin(alloc, &url, 5)? == Lead(0));
+    for _ in 0..65_535 {
+        assert!(rt; desk.begin(alloc, &url, 5)? == Join(0));
+    }
+    assert!(rt; desk.begin(alloc, &url, 5)? == Says::Bypass);
+    Ok(())
 }
 
 #[test]
 fn pick_ups_have_a_limit(rt: HostRuntime) -> Result<(), Fail> {
-    let alloc = rt.alloc();
-    let url = url(alloc, A)?;
-    let mut desk = new_desk(alloc, 1)?;
-    assert_eq!(rt; desk.begin(alloc, &url, 5)?, Lead(0));
-    for _ in 0..65_535 {
-        assert_eq!(rt; desk.begin(alloc, &url, 5)?, Join(0));
+    let mut desk = new_desk(rt.alloc(), 1)?;
+    Ok(join_often(&rt, rt.alloc(), &mut desk)?)
+}
+
+// Begins the flight of a URL with this number.
+fn begin_numbered(
+    rt: &impl Abort,
+    alloc: Global,
+    desk: &mut Desk,
+    number: u64,
+) -> Result<Says, NoMemory> {
+    let mut text = String::new(alloc);
+    write!(text, "http://a.test/{number}")?;
+    desk.begin(alloc, &url(rt, alloc, text.as_str())?, 5)
+}
+
+// Begins as many flights as may fly at a time, and one more.
+fn begin_many(rt: &impl Abort, alloc: Global, desk: &mut Desk) -> Result<(), NoMemory> {
+    for number in 0..1024 {
+        assert!(rt;
+            begin_numbered(rt, alloc, desk, number)? == Lead(number),
+            "{number}"
+        );
     }
-    assert_eq!(rt; desk.begin(alloc, &url, 5)?, Says::Bypass);
+    assert!(rt; begin_numbered(rt, alloc, desk, 1024)? == Says::Bypass);
+    assert!(rt; begin_numbered(rt, alloc, desk, 0)? == Join(0));
     Ok(())
 }
 
 #[test]
 fn flights_have_a_limit(rt: HostRuntime) -> Result<(), Fail> {
-    let alloc = rt.alloc();
-    let mut desk = new_desk(alloc, 1)?;
-    for number in 0..1024 {
-        let text = format!(in alloc; "http://a.test/{number}")?;
-        assert_eq!(rt;
-            desk.begin(alloc, &url(alloc, text.as_str())?, 5)?,
-            Lead(number)
-        );
-    }
-    assert_eq!(rt; desk.begin(alloc, &url(alloc, A)?, 5)?, Says::Bypass);
-    assert_eq!(rt;
-        desk.begin(alloc, &url(alloc, "http://a.test/0")?, 5)?,
-        Join(0)
-    );
-    Ok(())
+    let mut desk = new_desk(rt.alloc(), 1)?;
+    Ok(begin_many(&rt, rt.alloc(), &mut desk)?)
 }

@@ -1,4 +1,6 @@
 // Tokens: their places, and what each is.
+use super::headers::written_out;
+use edge_types::NoMemory;
 use esi_scanner::{
     Attribute, AttributeName, Attributes, Kind, KnownAttribute, ScanFault, Span, Tag, Token, scan,
 };
@@ -99,21 +101,7 @@ a<!--esi b<esi:bogus/> => malformed 10
 <!--esi ␊-- => malformed 0
 a<<esi:try></b-< => 0-2 text; 2-11 try; 11-16 text"#;
 
-// The text with its white space written out.
-fn written_out(alloc: Global, row: &str) -> Result<String, AllocError> {
-    let mut text = String::new(alloc);
-    for c in row.chars() {
-        text.push(match c {
-            '␊' => '\n',
-            '␉' => '\t',
-            '␍' => '\r',
-            _ => c,
-        })?;
-    }
-    Ok(text)
-}
-
-fn rows_hold(rt: &impl Abort, alloc: Global, rows: &str) -> Result<(), AllocError> {
+fn rows_hold(rt: &impl Abort, alloc: Global, rows: &str) -> Result<(), NoMemory> {
     for row in rows.lines() {
         let (text, wanted) = row.split_once(" => ").unwrap_or((row, ""));
         let found = outline(alloc, written_out(alloc, text)?.as_str())?;

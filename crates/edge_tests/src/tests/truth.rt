@@ -12,7 +12,7 @@ fn request(alloc: Global) -> Result<Request, NoMemory> {
 }
 
 // Whether what was read holds for a request, as a word.
-fn word(test: Option<Expr>, request: &Request) -> &'static str {
+fn word(test: &Option<Expr>, request: &Request) -> &'static str {
     match test {
         Some(test) if test.holds(request) => "holds",
         Some(_) => "fails",
@@ -28,7 +28,7 @@ fn a_test_is_read_and_holds_or_not(rt: HostRuntime) -> Result<(), Fail> {
         ("$(HTTP_COOKIE{g})>1", "fails"),
         ("1=1", "no test"),
     ] {
-        let found = word(parse(rt.alloc(), text.as_bytes())?, &request);
+        let found = word(&parse(rt.alloc(), text.as_bytes())?, &request);
         assert_eq!(rt; found, wanted, "{text}");
     }
     Ok(())

@@ -1,5 +1,0 @@
-//! The tests of `fragment_cache`.
-#![tactic(auto)]
-
-#[cfg(test)]
-mod tests;

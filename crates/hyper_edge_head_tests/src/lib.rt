@@ -1,5 +1,0 @@
-//! The tests of `hyper_edge_head`.
-#![tactic(auto)]
-
-#[cfg(test)]
-mod tests;
