@@ -61,6 +61,13 @@ pub fn url(alloc: Global, text: &[u8]) -> io::Result<PageUrl> {
     }
 }
 
+/// The URL of the fragment of a number.
+pub fn fragment_url(alloc: Global, number: usize) -> io::Result<PageUrl> {
+    let mut text = String::new(alloc);
+    write!(text, "http://a.test/fragments/{number}")?;
+    url(alloc, text.as_bytes())
+}
+
 /// The answer of a URL with this body, which is within the limits.
 pub fn answer(
     alloc: Global,

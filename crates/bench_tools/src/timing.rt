@@ -28,6 +28,12 @@ impl Least {
         Ok(given)
     }
 
+    /// Notes how long it is since some work was begun.
+    pub fn note<R: Clock>(&mut self, rt: &R, begun: Instant) -> io::Result<()> {
+        self.time = self.time.min(begun.elapsed(rt)?);
+        Ok(())
+    }
+
     /// The least time.
     pub fn get(&self) -> Duration {
         self.time
@@ -43,4 +49,27 @@ pub fn ratio(long: Duration, short: Duration) -> f64 {
 pub fn nanoseconds_each(took: Duration, count: usize) -> f64 {
     let count = u32::try_from(count).unwrap_or(u32::MAX);
     took.as_secs_f64() * 1e9 / f64::from(count)
+}
+
+/// Prints how long so many bytes or steps took, beside something else.
+pub fn print(
+    rt: &HostRuntime,
+    name: &str,
+    took: Duration,
+    beside: Duration,
+    count: usize,
+) -> io::Result<()> {
+    let each = nanoseconds_each(took, count);
+    println!(rt;
+        "{name}: {} ns = {:.2} times {} ns; {count}, {each:.2} ns each, {:.2} million a second",
+        took.as_nanos(),
+        ratio(took, beside),
+        beside.as_nanos(),
+        1e3 / each
+    )
+}
+
+/// Prints how many there were of something.
+pub fn print_count(rt: &HostRuntime, name: &str, count: usize) -> io::Result<()> {
+    println!(rt; "{name}: {count}")
 }

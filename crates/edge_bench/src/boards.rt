@@ -1,13 +1,14 @@
 //! Boards: a slot of many costs no more than one of few.
 
 use answer_board::{Board, Receipt};
-use bench_tools::inputs::{or_io_error, url};
-use bench_tools::timing::{Least, nanoseconds_each};
+use bench_tools::inputs::{fragment_url, or_io_error};
+use bench_tools::timing::{Least, print};
 use edge_types::Answer;
 use plan_compiler::Prepared;
 use std::alloc::Global;
 use std::io;
 use std::sync::Arc;
+use std::time::{Duration, Instant};
 
 // As many slots as a page of the most legs may have, each with its alternate, and a tenth of them.
 const MANY: usize = 1257;
@@ -22,11 +23,14 @@ const TURNS: u32 = 40;
 /// one of few.
 pub fn run(rt: &HostRuntime) -> io::Result<()> {
     let answers = answers(rt.alloc(), MANY)?;
-    let many = told(rt, answers.as_slice(), 1)?;
-    let few = told(rt, answers.get(..FEW).unwrap_or(&[]), ROUNDS)?;
-    println!(rt;
-        "boards: a slot of {MANY} takes {:.2} times as long as one of {FEW}",
-        many / few
+    let many = measured(rt, answers.as_slice(), 1)?;
+    let few = measured(rt, answers.get(..FEW).unwrap_or(&[]), ROUNDS)?;
+    print(
+        rt,
+        "boards: 1,257 slots of one beside 1,260 of ten",
+        many,
+        few,
+        MANY,
     )
 }
 
@@ -40,20 +44,19 @@ fn answers(alloc: Global, count: usize) -> io::Result<Vec<Prepared>> {
 }
 
 fn failed(alloc: Global, number: usize) -> io::Result<Prepared> {
-    let text = format!(in alloc; "http://a.test/fragments/{number}")?;
-    let answer = Answer::failed(url(alloc, text.as_bytes())?);
+    let answer = Answer::failed(fragment_url(alloc, number)?);
     or_io_error(Prepared::of(alloc, Arc::new(alloc, answer)?))
 }
 
-// Prints and answers the nanoseconds of a slot, in the quickest of several turns of so many boards.
-fn told(rt: &HostRuntime, answers: &[Prepared], rounds: usize) -> io::Result<f64> {
+// The quickest of several turns of so many boards.
+fn measured(rt: &HostRuntime, answers: &[Prepared], rounds: usize) -> io::Result<Duration> {
     let mut least = Least::new();
     for _ in 0..TURNS {
-        least.time(rt, || boards(rt.alloc(), answers, rounds))??;
+        let begun = Instant::now(rt)?;
+        boards(rt.alloc(), answers, rounds)?;
+        least.note(rt, begun)?;
     }
-    let each = nanoseconds_each(least.get(), answers.len().wrapping_mul(rounds));
-    println!(rt; "boards, {} slots: {each:.0} ns a slot", answers.len())?;
-    Ok(each)
+    Ok(least.get())
 }
 
 fn boards(alloc: Global, answers: &[Prepared], rounds: usize) -> io::Result<()> {

@@ -1,8 +1,8 @@
 //! The cache: the calls of a shard beside `lru` alone, and flights beside fewer flights.
 
 use bench_tools::inputs;
-use bench_tools::inputs::{or_io_error, url};
-use bench_tools::timing::{Least, nanoseconds_each, ratio};
+use bench_tools::inputs::{fragment_url, or_io_error};
+use bench_tools::timing::{Least, print, print_count};
 use edge_types::{Answer, Control, PageUrl, SharedAnswer, SharedBytes};
 use fragment_cache::{Begun, MAX_CAPACITY, MAX_FLIGHTS, Picked, Shard};
 use lru::LruCache;
@@ -10,7 +10,7 @@ use std::alloc::Global;
 use std::io;
 use std::num::NonZeroUsize;
 use std::sync::Arc;
-use std::time::Duration;
+use std::time::{Duration, Instant};
 
 // How many answers there are to ask for: twice as many as a shard stores.
 const URLS: usize = 2 * MAX_CAPACITY;
@@ -28,13 +28,17 @@ const FRESH: u32 = 60;
 pub fn run(rt: &HostRuntime) -> io::Result<()> {
     let answers = answers(rt.alloc(), URLS)?;
     let answers = answers.as_slice();
-    beside_lru(rt, "hits alone", answers, usize::MAX)?;
-    beside_lru(rt, "90 % hits", answers, 10)?;
+    beside_lru(rt, "caching beside lru: hits alone", answers, usize::MAX)?;
+    beside_lru(rt, "caching beside lru: 90 % hits", answers, 10)?;
     let few = flights(rt, answers, FEW)?;
     let many = flights(rt, answers, MAX_FLIGHTS)?;
-    println!(rt;
-        "caching: a step with {MAX_FLIGHTS} flights takes {:.2} times as long as with {FEW}",
-        ratio(many, few)
+    let steps = MAX_FLIGHTS.wrapping_mul(4);
+    print(
+        rt,
+        "caching: steps of 1,024 flights at a time beside 128",
+        many,
+        few,
+        steps,
     )
 }
 
@@ -53,9 +57,8 @@ fn answer(alloc: Global, number: usize) -> io::Result<Arc<Answer>> {
         max_age: Some(FRESH),
         ..Control::default()
     };
-    let text = format!(in alloc; "http://a.test/fragments/{number}")?;
-    let url = url(alloc, text.as_bytes())?;
-    let body = or_io_error(SharedBytes::of(text.into_bytes()))?;
+    let url = fragment_url(alloc, number)?;
+    let body = or_io_error(SharedBytes::copy_of(alloc, url.as_bytes()))?;
     inputs::answer(alloc, url, control, body)
 }
 
@@ -105,14 +108,9 @@ fn beside_lru(
     every: usize,
 ) -> io::Result<()> {
     let (shard, lru) = measured(rt, answers, every)?;
-    println!(rt;
-        "caching, {name}: {STEPS} steps, shard {} us ({} hits), lru {} us ({} hits): {:.2} times",
-        shard.least.get().as_micros(),
-        shard.hits,
-        lru.least.get().as_micros(),
-        lru.hits,
-        ratio(shard.least.get(), lru.least.get())
-    )
+    print_count(rt, "caching: hits of the shard", shard.hits)?;
+    print_count(rt, "caching: hits of lru", lru.hits)?;
+    print(rt, name, shard.least.get(), lru.least.get(), STEPS)
 }
 
 fn measured(rt: &HostRuntime, answers: &[Arc<Answer>], every: usize) -> io::Result<(Turns, Turns)> {
@@ -162,7 +160,10 @@ fn turn<S: Store>(
     for answer in answers.iter().take(MAX_CAPACITY) {
         store.ask(answer)?;
     }
-    least.time(rt, || hits(&mut store, answers, asked))?
+    let begun = Instant::now(rt)?;
+    let hits = hits(&mut store, answers, asked)?;
+    least.note(rt, begun)?;
+    Ok(hits)
 }
 
 // How many of the answers that are asked for are stored.
@@ -221,12 +222,7 @@ fn flights(rt: &HostRuntime, answers: &[Arc<Answer>], count: usize) -> io::Resul
     let answers = answers.get(..count).unwrap_or(answers);
     let rounds = MAX_FLIGHTS.checked_div(count).unwrap_or(1);
     let (took, picked) = flown(rt, answers, rounds)?;
-    let steps = rounds.wrapping_mul(count).wrapping_mul(4);
-    println!(rt;
-        "caching, {count} flights: {steps} steps in {} us, {:.0} a second ({picked} picked up)",
-        took.as_micros(),
-        1e9 / nanoseconds_each(took, steps)
-    )?;
+    print_count(rt, "caching: flights picked up", picked)?;
     Ok(took)
 }
 
@@ -241,10 +237,10 @@ fn flown(
     let mut picked: usize = 0;
     let mut now: u64 = 0;
     for _ in 0..TURNS {
-        let turn = least.time(rt, || {
-            several_rounds(rt.alloc(), &mut shard, answers, &mut now, rounds)
-        })?;
-        picked = picked.wrapping_add(turn?);
+        let begun = Instant::now(rt)?;
+        let turn = several_rounds(rt.alloc(), &mut shard, answers, &mut now, rounds)?;
+        least.note(rt, begun)?;
+        picked = picked.wrapping_add(turn);
     }
     Ok((least.get(), picked))
 }

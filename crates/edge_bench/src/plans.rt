@@ -2,14 +2,14 @@
 
 use crate::templates::read;
 use bench_tools::inputs::{answer, or_input_error, or_io_error, page_of_includes, url};
-use bench_tools::timing::{Least, ratio};
+use bench_tools::timing::{Least, print, print_count};
 use edge_types::{Answer, Control, SharedBytes};
 use esi_tree::template;
 use plan_compiler::{Prepared, compile};
 use std::alloc::Global;
 use std::io;
 use std::sync::Arc;
-use std::time::Duration;
+use std::time::Instant;
 
 const PAGE: usize = 262_144;
 
@@ -33,7 +33,7 @@ pub fn run(rt: &HostRuntime) -> io::Result<()> {
 pub fn hold(rt: &HostRuntime) -> io::Result<()> {
     let answer = processed(rt.alloc(), &page(rt.alloc())?)?;
     let held = held(rt.alloc(), &answer)?;
-    println!(rt; "held plans: {} of one body of {PAGE} bytes", held.len())
+    print_count(rt, "held plans of one body", held.len())
 }
 
 fn page(alloc: Global) -> io::Result<SharedBytes> {
@@ -59,12 +59,16 @@ fn prepared_told(rt: &HostRuntime, page: &SharedBytes) -> io::Result<()> {
         read(rt, page, &mut reading)?;
         prepare(rt, &answer, &mut preparing)?;
     }
-    print(rt, "256 KiB with 200 tags", preparing.get(), reading.get())
+    let name = "plans beside the template: 256 KiB with 200 tags";
+    print(rt, name, preparing.get(), reading.get(), PAGE)
 }
 
 fn prepare(rt: &HostRuntime, answer: &Arc<Answer>, least: &mut Least) -> io::Result<()> {
     let owner = Arc::try_clone(answer)?;
-    or_input_error(least.time(rt, || Prepared::of(rt.alloc(), owner))?)
+    let begun = Instant::now(rt)?;
+    let prepared = Prepared::of(rt.alloc(), owner);
+    least.note(rt, begun)?;
+    or_input_error(prepared)
 }
 
 fn compiled_told(rt: &HostRuntime, text: &SharedBytes) -> io::Result<()> {
@@ -74,11 +78,14 @@ fn compiled_told(rt: &HostRuntime, text: &SharedBytes) -> io::Result<()> {
         read(rt, text, &mut reading)?;
         read_and_compile(rt, text, &mut compiling)?;
     }
-    print(rt, "30,000 small elements", compiling.get(), reading.get())
+    let name = "plans beside the template: 30,000 small elements";
+    print(rt, name, compiling.get(), reading.get(), ELEMENTS)
 }
 
 fn read_and_compile(rt: &HostRuntime, text: &SharedBytes, least: &mut Least) -> io::Result<()> {
-    least.time(rt, || compiled(rt.alloc(), text))?
+    let begun = Instant::now(rt)?;
+    compiled(rt.alloc(), text)?;
+    least.note(rt, begun)
 }
 
 // Reads the template and compiles it.
@@ -87,14 +94,6 @@ fn compiled(alloc: Global, text: &SharedBytes) -> io::Result<()> {
         Ok(template) => or_input_error(compile(alloc, &template)),
         Err(_) => Err(io::Error::from(io::ErrorKind::InvalidInput)),
     }
-}
-
-fn print(rt: &HostRuntime, name: &str, planning: Duration, reading: Duration) -> io::Result<()> {
-    println!(rt;
-        "plans, {name}: {} us = {:.2} times the template alone",
-        planning.as_micros(),
-        ratio(planning, reading)
-    )
 }
 
 // Several plans of one answer.

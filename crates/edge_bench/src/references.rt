@@ -1,12 +1,12 @@
 //! Speed of references: `parts` and `substitute` beside a plain copy of the same bytes.
 
-use bench_tools::inputs::{or_io_error, repeated};
-use bench_tools::timing::{Least, ratio};
+use bench_tools::inputs::{or_input_error, or_io_error, repeated};
+use bench_tools::timing::{Least, print};
 use edge_types::{NoMemory, Octets, Request, SharedBytes};
-use esi_vars::{parts, substitute};
+use esi_vars::{Part, parts, substitute};
 use std::alloc::{AllocError, Global};
 use std::io;
-use std::time::Duration;
+use std::time::{Duration, Instant};
 
 /// How long the measured texts are.
 const LEN: usize = 262_144;
@@ -23,29 +23,25 @@ struct Base {
     plain: Duration,
 }
 
-// The times of one text, and how much was read and written.
-#[derive(Clone, Copy)]
-struct Times {
-    reading: Least,
-    writing: Least,
-    count: usize,
-}
-
 /// Prints how long reading and substituting take, and the ratios to copying and to plain text.
 pub fn run(rt: &HostRuntime) -> io::Result<()> {
-    let request = or_io_error(request(rt.alloc()))?;
-    let base = plain_told(rt, &request)?;
+    let mut request = Request::empty(rt.alloc());
+    or_io_error(fill_in(rt.alloc(), &mut request))?;
+    all_told(rt, &request)
+}
+
+fn all_told(rt: &HostRuntime, request: &Request) -> io::Result<()> {
+    let base = plain_told(rt, request)?;
     for unit in OPENERS {
-        openers_told(rt, &request, unit, base)?;
+        openers_told(rt, request, unit, base)?;
     }
-    page_told(rt, &request, base)
+    page_told(rt, request, base)
 }
 
 // Plain text, with which the others are compared.
 fn plain_told(rt: &HostRuntime, request: &Request) -> io::Result<Base> {
     let plain = repeated(rt.alloc(), b"x", LEN)?;
     let copy = copied(rt, plain.as_slice())?;
-    println!(rt; "references: copy of {LEN} bytes: {} ns", copy.as_nanos())?;
     let base = Base { copy, plain: copy };
     let plain = told(rt, request, "plain text", plain.as_slice(), base)?;
     Ok(Base { copy, plain })
@@ -76,57 +72,51 @@ fn told(
     text: &[u8],
     base: Base,
 ) -> io::Result<Duration> {
-    let times = measured(rt, request, text)?;
-    println!(rt;
-        "references, {name}: parts {} ns = {:.1} copies = {:.2} plain; substitute {} ns = {:.1} copies ({})",
-        times.reading.get().as_nanos(),
-        ratio(times.reading.get(), base.copy),
-        ratio(times.reading.get(), base.plain),
-        times.writing.get().as_nanos(),
-        ratio(times.writing.get(), base.copy),
-        times.count
-    )?;
-    Ok(times.reading.get())
+    let (reading, writing) = measured(rt, request, text)?;
+    print(rt, name, reading, base.plain, LEN)?;
+    print(rt, "  parts beside a copy", reading, base.copy, LEN)?;
+    print(rt, "  substitute beside a copy", writing, base.copy, LEN)?;
+    Ok(reading)
 }
 
-// The quickest of several turns.
-fn measured(rt: &HostRuntime, request: &Request, text: &[u8]) -> io::Result<Times> {
+// The quickest of several turns, of `parts` and of `substitute`.
+fn measured(rt: &HostRuntime, request: &Request, text: &[u8]) -> io::Result<(Duration, Duration)> {
     let text = or_io_error(SharedBytes::copy_of(rt.alloc(), text))?;
-    let mut times = Times {
-        reading: Least::new(),
-        writing: Least::new(),
-        count: 0,
-    };
-    for _ in 0..TURNS {
-        turn(rt, request, &text, &mut times)?;
-    }
-    Ok(times)
+    turns(rt, request, &text)
 }
 
-fn turn(
+fn turns(
     rt: &HostRuntime,
     request: &Request,
     text: &SharedBytes,
-    times: &mut Times,
-) -> io::Result<()> {
-    let found = or_io_error(times.reading.time(rt, || parts(rt.alloc(), text))?)?;
-    let out = or_io_error(
-        times
-            .writing
-            .time(rt, || substitute(rt.alloc(), request, found.as_slice()))?,
-    )?;
-    times.count = found.len().wrapping_add(out.len());
-    Ok(())
+) -> io::Result<(Duration, Duration)> {
+    let mut reading = Least::new();
+    let mut writing = Least::new();
+    for _ in 0..TURNS {
+        let begun = Instant::now(rt)?;
+        let found = or_io_error(parts(rt.alloc(), text))?;
+        reading.note(rt, begun)?;
+        write(rt, request, found.as_slice(), &mut writing)?;
+    }
+    Ok((reading.get(), writing.get()))
+}
+
+fn write(rt: &HostRuntime, request: &Request, found: &[Part], least: &mut Least) -> io::Result<()> {
+    let begun = Instant::now(rt)?;
+    let out = substitute(rt.alloc(), request, found);
+    least.note(rt, begun)?;
+    or_input_error(out)
 }
 
 // How long it takes to copy the bytes.
 fn copied(rt: &HostRuntime, text: &[u8]) -> io::Result<Duration> {
     let mut least = Least::new();
-    let mut count = 0;
     for _ in 0..TURNS {
-        count = least.time(rt, || text.to_vec(rt.alloc()))??.len();
+        let begun = Instant::now(rt)?;
+        let copy = text.to_vec(rt.alloc());
+        least.note(rt, begun)?;
+        or_input_error(copy)?;
     }
-    println!(rt; "references: {count} bytes copied")?;
     Ok(least.get())
 }
 
@@ -138,10 +128,8 @@ fn page(alloc: Global) -> Result<String, AllocError> {
     unit.repeat(alloc, 2000)
 }
 
-fn request(alloc: Global) -> Result<Request, NoMemory> {
-    Ok(Request {
-        host: Octets::copy_of(alloc, b"a.test")?,
-        cookie: Octets::copy_of(alloc, b"session=12345678; theme=dark; group=staff")?,
-        ..Request::empty(alloc)
-    })
+fn fill_in(alloc: Global, request: &mut Request) -> Result<(), NoMemory> {
+    request.host = Octets::copy_of(alloc, b"a.test")?;
+    request.cookie = Octets::copy_of(alloc, b"session=12345678; theme=dark; group=staff")?;
+    Ok(())
 }

@@ -1,13 +1,13 @@
 //! How fast texts are cut into tokens: in megabytes a second, and beside a text four times as long.
 
 use bench_tools::inputs::{page_of_includes, repeated, repeated_behind};
-use bench_tools::timing::{Least, nanoseconds_each, ratio};
+use bench_tools::timing::{Least, print, print_count};
 use esi_scanner::scan;
 use memchr::memchr;
 use std::alloc::{AllocError, Global};
 use std::fmt::Write;
 use std::io;
-use std::time::Duration;
+use std::time::{Duration, Instant};
 
 const PAGE: usize = 262_144;
 
@@ -50,78 +50,86 @@ impl Text {
 }
 
 const TEXTS: [(&str, Text); 7] = [
-    ("plain text", Text::Repeated("", PLAIN)),
-    ("page of 200 includes", Text::Includes),
+    ("scanning four times: plain text", Text::Repeated("", PLAIN)),
+    ("scanning four times: page of 200 includes", Text::Includes),
     (
-        "page of other tags",
+        "scanning four times: page of other tags",
         Text::Repeated("", "<p class=\"a\">Words</p> - and more\n"),
     ),
-    ("nothing but <", Text::Repeated("", "<")),
-    ("- in an open block", Text::Repeated("<!--esi ", "-")),
-    ("40,000 attributes", Text::Attributes),
     (
-        "40,000 attributes, the last as the first",
+        "scanning four times: nothing but <",
+        Text::Repeated("", "<"),
+    ),
+    (
+        "scanning four times: - in an open block",
+        Text::Repeated("<!--esi ", "-"),
+    ),
+    ("scanning four times: 40,000 attributes", Text::Attributes),
+    (
+        "scanning four times: 40,000 attributes, the last as the first",
         Text::AttributesTwice,
     ),
 ];
 
 /// Prints the measurements.
 pub fn run(rt: &HostRuntime) -> io::Result<()> {
-    beside_memchr(rt)?;
+    let plain = repeated(rt.alloc(), PLAIN.as_bytes(), PAGE)?;
+    beside_memchr(rt, plain.as_slice())?;
     for (name, text) in TEXTS {
-        both_told(rt, name, text)?;
+        told(rt, name, text)?;
     }
     Ok(())
 }
 
-// A text, and one of its kind that is four times as long.
-fn both_told(rt: &HostRuntime, name: &str, text: Text) -> io::Result<()> {
-    let once = text.made(rt.alloc(), 1)?;
-    let four_times = text.made(rt.alloc(), 4)?;
-    told(rt, name, once.as_slice(), four_times.as_slice())
+// Prints how long a text takes that is four times as long, beside one of its kind.
+fn told(rt: &HostRuntime, name: &str, text: Text) -> io::Result<()> {
+    let (short, _) = made_and_scanned(rt, text, 1)?;
+    let (long, bytes) = made_and_scanned(rt, text, 4)?;
+    print(rt, name, long, short, bytes)
 }
 
-// Prints how long a text takes, and one of its kind that is four times as long.
-fn told(rt: &HostRuntime, name: &str, small: &[u8], large: &[u8]) -> io::Result<()> {
-    let (short, tokens) = scanned(rt, small)?;
-    let (long, _) = scanned(rt, large)?;
-    println!(rt;
-        "scanning {name}: {} bytes, {tokens} tokens, {} ns, {:.0} MB/s; four times as long: {:.2} times the time",
-        small.len(),
-        short.as_nanos(),
-        1e3 / nanoseconds_each(short, small.len()),
-        ratio(long, short)
-    )
+// The least time of a text, and how many bytes it has.
+fn made_and_scanned(rt: &HostRuntime, text: Text, times: usize) -> io::Result<(Duration, usize)> {
+    let made = text.made(rt.alloc(), times)?;
+    Ok((scanned(rt, made.as_slice())?, made.len()))
 }
 
 // Prints how long plain text takes beside a search for `<`.
-fn beside_memchr(rt: &HostRuntime) -> io::Result<()> {
-    let plain = repeated(rt.alloc(), PLAIN.as_bytes(), PAGE)?;
-    let (scanning, _) = scanned(rt, plain.as_slice())?;
-    let mut searching = Least::new();
-    let mut places: usize = 0;
-    for _ in 0..TURNS {
-        let place = searching.time(rt, || memchr(b'<', plain.as_slice()))?;
-        places = places.wrapping_add(place.unwrap_or(0));
-    }
-    println!(rt;
-        "scanning plain text: {:.2} times memchr's time ({} ns, {places})",
-        ratio(scanning, searching.get()),
-        searching.get().as_nanos()
+fn beside_memchr(rt: &HostRuntime, plain: &[u8]) -> io::Result<()> {
+    let scanning = scanned(rt, plain)?;
+    let searching = searched(rt, plain)?;
+    print(
+        rt,
+        "scanning: plain text beside memchr",
+        scanning,
+        searching,
+        PAGE,
     )
 }
 
-// The least time of several scans, and how many tokens they gave.
-fn scanned(rt: &HostRuntime, text: &[u8]) -> io::Result<(Duration, usize)> {
+fn searched(rt: &HostRuntime, plain: &[u8]) -> io::Result<Duration> {
     let mut least = Least::new();
-    let mut count = 0;
+    let mut places: usize = 0;
     for _ in 0..TURNS {
-        count = match least.time(rt, || scan(rt.alloc(), text))? {
-            Ok(tokens) => tokens.len(),
-            Err(_) => 0,
-        };
+        let begun = Instant::now(rt)?;
+        let place = memchr(b'<', plain);
+        least.note(rt, begun)?;
+        places = places.wrapping_add(place.unwrap_or(0));
     }
-    Ok((least.get(), count))
+    print_count(rt, "scanning: places of <", places)?;
+    Ok(least.get())
+}
+
+// The least time of several scans, also of a text that is malformed. What they give is dropped outside the
+// time.
+fn scanned(rt: &HostRuntime, text: &[u8]) -> io::Result<Duration> {
+    let mut least = Least::new();
+    for _ in 0..TURNS {
+        let begun = Instant::now(rt)?;
+        let _found = scan(rt.alloc(), text);
+        least.note(rt, begun)?;
+    }
+    Ok(least.get())
 }
 
 // One tag with many attributes; the last repeats the first where that is asked.

@@ -1,12 +1,12 @@
 //! Tables of answers: ten times as many answers are to cost little more than ten times as much.
 
-use bench_tools::inputs::{or_io_error, url};
-use bench_tools::timing::{Least, ratio};
+use bench_tools::inputs::{fragment_url, or_io_error};
+use bench_tools::timing::{Least, print, print_count};
 use edge_types::{Answer, PageUrl, Table};
 use std::alloc::Global;
 use std::io;
 use std::sync::Arc;
-use std::time::Duration;
+use std::time::{Duration, Instant};
 
 const FEW: u32 = 10_000;
 
@@ -14,33 +14,43 @@ const MANY: u32 = 100_000;
 
 const TURNS: u32 = 5;
 
-/// Prints how long inserting and looking up take for few and for many answers.
+/// Prints how long inserting and looking up take for many answers, beside few.
 pub fn run(rt: &HostRuntime) -> io::Result<()> {
-    let few = told(rt, FEW)?;
-    let many = told(rt, MANY)?;
-    println!(rt;
-        "tables: {MANY} take {:.1} times as long as {FEW}",
-        ratio(many, few)
+    let few = measured(rt, FEW)?;
+    let many = measured(rt, MANY)?;
+    print(
+        rt,
+        "tables: 100,000 answers beside 10,000",
+        many,
+        few,
+        100_000,
     )
 }
 
 // The quickest of several turns.
-fn told(rt: &HostRuntime, count: u32) -> io::Result<Duration> {
-    let alloc = rt.alloc();
+fn measured(rt: &HostRuntime, count: u32) -> io::Result<Duration> {
     let mut least = Least::new();
     for _ in 0..TURNS {
-        let answers = answers(alloc, count)?;
-        let urls = urls(alloc, answers.as_slice())?;
-        let table = least.time(rt, || filled(alloc, answers, urls.as_slice()))?;
-        if table.is_none() {
-            println!(rt; "tables: an answer is missing")?;
+        let answers = answers(rt.alloc(), count)?;
+        let urls = urls(rt.alloc(), answers.as_slice())?;
+        if !turn(rt, &mut least, answers, urls.as_slice())? {
+            print_count(rt, "tables: an answer is missing", 1)?;
         }
     }
-    println!(rt;
-        "tables: {count} answers inserted and looked up in {} us",
-        least.get().as_micros()
-    )?;
     Ok(least.get())
+}
+
+// Times a table; whether it has an answer for each URL. It is dropped outside the time.
+fn turn(
+    rt: &HostRuntime,
+    least: &mut Least,
+    answers: Vec<Arc<Answer>>,
+    urls: &[PageUrl],
+) -> io::Result<bool> {
+    let begun = Instant::now(rt)?;
+    let table = filled(rt.alloc(), answers, urls);
+    least.note(rt, begun)?;
+    Ok(table.is_some())
 }
 
 // A table into which the answers were inserted, and in which each of the URLs was looked up; none
@@ -61,11 +71,14 @@ fn filled(alloc: Global, answers: Vec<Arc<Answer>>, urls: &[PageUrl]) -> Option<
 fn answers(alloc: Global, count: u32) -> io::Result<Vec<Arc<Answer>>> {
     let mut answers = Vec::new(alloc);
     for i in 0..count {
-        let text = format!(in alloc; "http://a.test/fragments/{}", i.wrapping_mul(2_654_435_761))?;
-        let url = url(alloc, text.as_bytes())?;
-        answers.push(Arc::new(alloc, Answer::failed(url))?)?;
+        answers.push(failed(alloc, i.wrapping_mul(2_654_435_761))?)?;
     }
     Ok(answers)
+}
+
+fn failed(alloc: Global, number: u32) -> io::Result<Arc<Answer>> {
+    let url = fragment_url(alloc, number as usize)?;
+    Ok(Arc::new(alloc, Answer::failed(url))?)
 }
 
 fn urls(alloc: Global, answers: &[Arc<Answer>]) -> io::Result<Vec<PageUrl>> {

@@ -1,12 +1,12 @@
 //! Templates, beside the scan alone of the same text.
 
 use bench_tools::inputs::{CHOOSE, or_input_error, or_io_error, page_of_includes};
-use bench_tools::timing::{Least, ratio};
+use bench_tools::timing::{Least, print};
 use edge_types::SharedBytes;
 use esi_scanner::scan;
 use esi_tree::template;
 use std::io;
-use std::time::Duration;
+use std::time::{Duration, Instant};
 
 const PAGE: usize = 262_144;
 
@@ -20,22 +20,29 @@ const TURNS: u32 = 15;
 pub fn run(rt: &HostRuntime) -> io::Result<()> {
     let alloc = rt.alloc();
     let page = page_of_includes(alloc, PAGE, TAGS)?;
-    told(rt, "256 KiB with 200 tags", page.as_slice())?;
+    told(
+        rt,
+        "templates beside the scan: 256 KiB with 200 tags",
+        page.as_slice(),
+    )?;
     let small = "<esi:vars/>".repeat(alloc, ELEMENTS)?;
-    told(rt, "30,000 small elements", small.as_bytes())?;
+    told(
+        rt,
+        "templates beside the scan: 30,000 small elements",
+        small.as_bytes(),
+    )?;
     let branches = CHOOSE.repeat(alloc, ELEMENTS / 3)?;
-    told(rt, "10,000 chooses of two branches", branches.as_bytes())
+    told(
+        rt,
+        "templates beside the scan: 10,000 chooses of two branches",
+        branches.as_bytes(),
+    )
 }
 
-// Prints how long a template and the scan alone take.
+// Prints how long a template takes beside the scan alone.
 fn told(rt: &HostRuntime, name: &str, text: &[u8]) -> io::Result<()> {
     let (reading, scanning) = measured(rt, text)?;
-    println!(rt;
-        "templates, {name}: {} bytes in {} us = {:.2} times the scan",
-        text.len(),
-        reading.as_micros(),
-        ratio(reading, scanning)
-    )
+    print(rt, name, reading, scanning, text.len())
 }
 
 // The quickest of several turns of each.
@@ -51,10 +58,16 @@ fn measured(rt: &HostRuntime, text: &[u8]) -> io::Result<(Duration, Duration)> {
 }
 
 fn scanned(rt: &HostRuntime, text: &[u8], least: &mut Least) -> io::Result<()> {
-    or_input_error(least.time(rt, || scan(rt.alloc(), text))?)
+    let begun = Instant::now(rt)?;
+    let tokens = scan(rt.alloc(), text);
+    least.note(rt, begun)?;
+    or_input_error(tokens)
 }
 
 /// Reads the template that a text is, and notes the time.
 pub fn read(rt: &HostRuntime, text: &SharedBytes, least: &mut Least) -> io::Result<()> {
-    or_input_error(least.time(rt, || template(rt.alloc(), text))?)
+    let begun = Instant::now(rt)?;
+    let template = template(rt.alloc(), text);
+    least.note(rt, begun)?;
+    or_input_error(template)
 }
