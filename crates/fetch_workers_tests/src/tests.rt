@@ -17,6 +17,7 @@ use std::sync::atomic::{AtomicU64, Ordering};
 use std::sync::{Arc, Mutex, Wait};
 use std::test::Fail;
 use std::thread::Threads;
+use std::time::{Clock as Timer, Duration};
 use std::{str, thread};
 
 mod caching;
@@ -135,7 +136,7 @@ impl Origin {
     }
 }
 
-impl<R: Wait> Source<R> for Origin {
+impl<R: Wait + Timer> Source<R> for Origin {
     ghost use Rattle.std.specs.Prelude.{◌≡◌};
 
     ghost gives = { λ origin url answer. answer.url ≡ url };
@@ -145,7 +146,7 @@ impl<R: Wait> Source<R> for Origin {
     fn fetch(&self, rt: &R, alloc: Global, url: &PageUrl) -> Result<Arc<Answer>, NoMemory> {
         let number = self.fetches.fetch_add(1, Ordering::SeqCst);
         self.note(rt, Arc::new(alloc, Answer::failed(url.share()?))?);
-        self.hold.pass(url);
+        self.hold.pass(rt, url);
         if !self.has_memory(number) {
             return Err(NoMemory);
         }
@@ -157,26 +158,31 @@ impl<R: Wait> Source<R> for Origin {
 }
 
 // Holds each fetch of a path, told by its last byte, until so many of another were asked for, and each
-// of the other until the first is asked for, for some turns. So neither passes unless both are under
-// way at once.
+// of the other until the first is asked for, for so many milliseconds. So neither passes unless both
+// are under way at once.
 #[derive(Drop)]
 struct Hold {
     held: u8,
     opener: u8,
     needed: u64,
+    milliseconds: u32,
     held_came: AtomicU64,
     opener_came: AtomicU64,
     gave_up: AtomicU64,
 }
 
-const TURNS: u32 = 1_000_000;
+// Milliseconds for what never comes, and for what comes, however busy the machine is.
+const SHORT: u32 = 50;
+
+const LONG: u32 = 10_000;
 
 impl Hold {
-    fn new(held: u8, opener: u8, needed: u64) -> Hold {
+    fn new(held: u8, opener: u8, needed: u64, milliseconds: u32) -> Hold {
         Hold {
             held,
             opener,
             needed,
+            milliseconds,
             held_came: AtomicU64::new(0),
             opener_came: AtomicU64::new(0),
             gave_up: AtomicU64::new(0),
@@ -185,10 +191,10 @@ impl Hold {
 
     // Nothing is held.
     fn open() -> Hold {
-        Hold::new(b'#', b'#', 0)
+        Hold::new(b'#', b'#', 0, 0)
     }
 
-    fn pass(&self, url: &PageUrl) {
+    fn pass(&self, timer: &impl Timer, url: &PageUrl) {
         let last = url.as_bytes().last().copied().unwrap_or(0);
         let opens = last == self.opener;
         let is_held = last == self.held;
@@ -196,28 +202,29 @@ impl Hold {
             .fetch_add(u64::from(opens), Ordering::SeqCst);
         self.held_came
             .fetch_add(u64::from(is_held), Ordering::SeqCst);
-        if is_held && !comes(&self.opener_came, self.needed)
-            || opens && !comes(&self.held_came, 1)
+        if is_held && !comes(timer, &self.opener_came, self.needed, self.milliseconds)
+            || opens && !comes(timer, &self.held_came, 1, self.milliseconds)
         {
             self.gave_up.store(1, Ordering::SeqCst);
         }
     }
 }
 
-// Waits for a count, for some turns.
-fn comes(count: &AtomicU64, needed: u64) -> bool {
-    for _ in 0..TURNS {
+// Waits for a count, for so many milliseconds at least. A turn that is only yielded may take
+// milliseconds beside busy processes, so they can't be counted in its place.
+fn comes(timer: &impl Timer, count: &AtomicU64, needed: u64, milliseconds: u32) -> bool {
+    for _ in 0..milliseconds {
         if count.load(Ordering::SeqCst) >= needed {
             return true;
         }
-        thread::yield_now();
+        thread::sleep(timer, Duration::from_millis(1));
     }
-    false
+    count.load(Ordering::SeqCst) >= needed
 }
 
-impl<R> Gate<R> for Hold {
-    fn before_fetch(&self, _rt: &R, url: &PageUrl) {
-        self.pass(url);
+impl<R: Timer> Gate<R> for Hold {
+    fn before_fetch(&self, rt: &R, url: &PageUrl) {
+        self.pass(rt, url);
     }
 }
 
@@ -231,7 +238,7 @@ fn page_of<R, S, G>(
     workers: u8,
 ) -> Result<Result<Assembled, AssembleFault>, Fail>
 where
-    R: Wait + Threads + Sync,
+    R: Wait + Threads + Timer + Sync,
     S: Source<R> + Sync,
     G: Gate<R> + Sync,
 {
@@ -248,7 +255,7 @@ fn page_at<R, S, G>(
     levels: u8,
 ) -> Result<Result<Assembled, AssembleFault>, Fail>
 where
-    R: Wait + Threads + Sync,
+    R: Wait + Threads + Timer + Sync,
     S: Source<R> + Sync,
     G: Gate<R> + Sync,
 {
@@ -313,7 +320,7 @@ fn is_plain_page<R, S>(
     workers: u8,
 ) -> Result<(), Fail>
 where
-    R: Wait + Threads + Abort + Sync,
+    R: Wait + Threads + Timer + Abort + Sync,
     S: Source<R> + Sync,
 {
     let made = page_of(rt, alloc, source, &Hold::open(), ahead, workers)?;

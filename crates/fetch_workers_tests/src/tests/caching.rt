@@ -15,7 +15,7 @@ impl<R> Clock<R> for Hands<'_> {
 #[derive(Drop)]
 struct Behind<'a>(&'a Origin);
 
-impl<R: Wait> Source<R> for Behind<'_> {
+impl<R: Wait + Timer> Source<R> for Behind<'_> {
     ghost use Rattle.std.specs.Prelude.{◌≡◌};
 
     ghost gives = { λ origin url answer. answer.url ≡ url };
@@ -38,7 +38,7 @@ fn ask<R, S: Source<R>>(rt: &R, alloc: Global, source: &S, url: &PageUrl) -> u8 
 
 // Takes steps one after another: `+2` sets the clock two seconds on, a path is asked for. Tells what
 // was given, and then how often the origin was asked.
-fn taken<R: Wait>(
+fn taken<R: Wait + Timer>(
     rt: &R,
     alloc: Global,
     origin: &Origin,
@@ -97,7 +97,7 @@ fn stored_answers_cost_no_fetch(rt: HostRuntime) -> Result<(), Fail> {
     Ok(())
 }
 
-fn is_told<R: Wait + Abort>(
+fn is_told<R: Wait + Timer + Abort>(
     rt: &R,
     alloc: Global,
     origin: &Origin,
@@ -127,14 +127,14 @@ fn a_leader_without_memory_says_so(rt: HostRuntime) -> Result<(), Fail> {
 }
 
 // Asks for `/x` by so many threads at once, while the origin holds its first fetch until a second
-// comes.
-fn is_one_fetch<R: Wait + Threads + Abort + Sync>(
+// comes, which never does.
+fn is_one_fetch<R: Wait + Threads + Timer + Abort + Sync>(
     rt: &R,
     alloc: Global,
     threads: usize,
 ) -> Result<(), Fail> {
     let mut origin = Origin::new(alloc, "/x 200 60 1")?;
-    origin.hold = Hold::new(b'x', b'x', 2);
+    origin.hold = Hold::new(b'x', b'x', 2, SHORT);
     let seconds = AtomicU64::new(100);
     let cache = Cache::new(alloc, Behind(&origin), Hands(&seconds), 8)?;
     all_are_given(rt, alloc, &cache, &origin, threads)
@@ -161,9 +161,12 @@ fn equal_requests_at_one_time_cost_one_fetch(rt: HostRuntime) -> Result<(), Fail
 }
 
 // Asks for two URLs of one shard at once, while the origin holds each until the other is asked for.
-fn shard_gives_up<R: Wait + Threads + Abort + Sync>(rt: &R, alloc: Global) -> Result<u64, Fail> {
+fn shard_gives_up<R: Wait + Threads + Timer + Abort + Sync>(
+    rt: &R,
+    alloc: Global,
+) -> Result<u64, Fail> {
     let mut origin = Origin::new(alloc, "/0 200 60 0\n/8 200 60 8")?;
-    origin.hold = Hold::new(b'0', b'8', 1);
+    origin.hold = Hold::new(b'0', b'8', 1, LONG);
     let seconds = AtomicU64::new(100);
     let cache = Cache::new(alloc, Behind(&origin), Hands(&seconds), 8)?;
     both_are_given(rt, alloc, &cache)?;
@@ -215,7 +218,7 @@ fn wrong_answers<R, S: Source<R>>(
 
 // Sixteen URLs, asked for by 64 threads from an origin that finds no memory at each tenth fetch. Tells
 // how often the origin was asked.
-fn crowd<R: Wait + Threads + Abort + Sync>(
+fn crowd<R: Wait + Threads + Timer + Abort + Sync>(
     rt: &R,
     alloc: Global,
     control: &str,
@@ -262,7 +265,7 @@ fn many_threads_share_flights(rt: HostRuntime) -> Result<(), Fail> {
 }
 
 // The page, by some threads over a cache, and then once more: tells how often the origin was asked.
-fn page_twice<R: Wait + Threads + Abort + Sync>(
+fn page_twice<R: Wait + Threads + Timer + Abort + Sync>(
     rt: &R,
     alloc: Global,
     case: &str,

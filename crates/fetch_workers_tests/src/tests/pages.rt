@@ -79,7 +79,7 @@ const PAGES: &str = "/p 200 esi
 
 // The page, from a table that has all ready and from an origin that has to be waited for, which is
 // asked for no URL twice, and once for each answer that is logged.
-fn is_one_page<R: Wait + Threads + Abort + Sync>(
+fn is_one_page<R: Wait + Threads + Timer + Abort + Sync>(
     rt: &R,
     alloc: Global,
     case: &str,
@@ -92,7 +92,7 @@ fn is_one_page<R: Wait + Threads + Abort + Sync>(
     is_asked_once(rt, alloc, &origin, case, ahead, workers)
 }
 
-fn is_asked_once<R: Wait + Threads + Abort + Sync>(
+fn is_asked_once<R: Wait + Threads + Timer + Abort + Sync>(
     rt: &R,
     alloc: Global,
     origin: &Origin,
@@ -108,7 +108,7 @@ fn is_asked_once<R: Wait + Threads + Abort + Sync>(
     is_plain(rt, alloc, case, &made)
 }
 
-fn is_one_page_however_far_ahead<R: Wait + Threads + Abort + Sync>(
+fn is_one_page_however_far_ahead<R: Wait + Threads + Timer + Abort + Sync>(
     rt: &R,
     alloc: Global,
     case: &str,
@@ -195,7 +195,7 @@ fn a_page_has_the_levels_that_were_asked(rt: HostRuntime) -> Result<(), Fail> {
     Ok(())
 }
 
-fn told_at<R: Wait + Threads + Sync>(
+fn told_at<R: Wait + Threads + Timer + Sync>(
     rt: &R,
     alloc: Global,
     origin: &Origin,

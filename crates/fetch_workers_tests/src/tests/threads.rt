@@ -2,7 +2,7 @@
 use super::*;
 
 // A table that has the answers ready, but for the fragments below a number: those it holds until as
-// many as are expected are fetched at once, for some turns.
+// many as are expected are fetched at once, or too long.
 #[derive(Drop)]
 struct Crowd {
     table: TableSource,
@@ -19,15 +19,15 @@ impl Crowd {
         name.parse::<u64>().unwrap_or(u64::MAX) < self.missing
     }
 
-    fn enter(&self) {
+    fn enter(&self, timer: &impl Timer) {
         let inside = self.inside.fetch_add(1, Ordering::SeqCst).wrapping_add(1);
         self.most.fetch_max(inside, Ordering::SeqCst);
-        comes(&self.most, self.expected);
+        comes(timer, &self.most, self.expected, LONG);
         self.inside.fetch_sub(1, Ordering::SeqCst);
     }
 }
 
-impl<R> Source<R> for Crowd {
+impl<R: Timer> Source<R> for Crowd {
     ghost use Rattle.std.specs.Prelude.{◌≡◌};
 
     ghost gives = { λ crowd url answer. answer.url ≡ url };
@@ -35,7 +35,7 @@ impl<R> Source<R> for Crowd {
     ghost names_url = { λ crowd url answer given. given };
 
     fn fetch(&self, rt: &R, alloc: Global, url: &PageUrl) -> Result<Arc<Answer>, NoMemory> {
-        self.enter();
+        self.enter(rt);
         self.table.fetch(rt, alloc, url)
     }
 
@@ -61,7 +61,7 @@ fn twenty(alloc: Global) -> Result<String, Fail> {
 }
 
 // The most fetches that were made at once for that page, where so many of its fragments are missing.
-fn most_at_once<R: Wait + Threads + Abort + Sync>(
+fn most_at_once<R: Wait + Threads + Timer + Abort + Sync>(
     rt: &R,
     alloc: Global,
     missing: u64,

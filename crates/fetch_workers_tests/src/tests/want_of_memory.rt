@@ -12,7 +12,7 @@ const CASE: &str = "/p 200 esi {/1}{/2}{/3}{/4}{/5}{/6}
 
 // The page where the source finds no memory at the fetch of this number: `NoMemory`, and nobody
 // waits for ever. The page is there where so many aren't made.
-fn is_told<R: Wait + Threads + Abort + Sync>(
+fn is_told<R: Wait + Threads + Timer + Abort + Sync>(
     rt: &R,
     alloc: Global,
     refused: u64,
