@@ -19,18 +19,22 @@ AsksNothing target fields = (url : List ℕ) (request : Request) → ¬ (Asks ta
 abbrev pub NamesSomeHost : List Field → Type 0
 NamesSomeHost fields = (host : List ℕ) × NamesHost fields host
 
--- the page that is asked for, as it comes of answers that the source gave: its outcome over them
--- alone, and so over every table that agrees with them, is what is told
-pub record SendsPage (gives : List ℕ → Answered → Type 0) (target : List ℕ) (fields : List Field) (levels : ℕ) (response : Sent) : Type 0 where
-  pub url : List ℕ
-  pub request : Request
-  pub asks : Asks target fields url request
+-- the page at a URL, as it comes of answers that the source gave: its outcome over them alone, and
+-- so over every table that agrees with them, is what is told
+pub record TellsPageAt (gives : List ℕ → Answered → Type 0) (url : List ℕ) (request : Request) (levels : ℕ) (response : Sent) : Type 0 where
   pub log : List Answered
   pub given : AllGiven gives log
   pub legal : IsLegal request url log
   pub outcome : Outcome
   pub rests : RestsOn request levels url log (shown outcome)
   pub told : Tells outcome response
+
+-- the page that is asked for
+pub record SendsPage (gives : List ℕ → Answered → Type 0) (target : List ℕ) (fields : List Field) (levels : ℕ) (response : Sent) : Type 0 where
+  pub url : List ℕ
+  pub request : Request
+  pub asks : Asks target fields url request
+  pub page : TellsPageAt gives url request levels response
 
 -- what is sent where the method is served: 400 where no page is asked for, 503 where there is no
 -- room for it, and the page (RFC 9110, sections 15.5.1 and 15.6.4)

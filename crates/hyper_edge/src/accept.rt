@@ -37,8 +37,8 @@ impl Sockets {
     /// Refused where a limit is zero, or the system refuses.
     pub fn new(listener: TcpListener, limits: Limits) -> io::Result<Sockets> {
         let same = TcpStream::from(OwnedFd::from(listener.try_clone()?));
-        same.set_read_timeout(Some(limits.request))?;
-        same.set_write_timeout(Some(limits.exchange))?;
+        same.set_read_timeout(limits.request)?;
+        same.set_write_timeout(limits.exchange)?;
         Ok(Sockets {
             listener,
             same,
@@ -50,7 +50,7 @@ impl Sockets {
 impl<R: Clock + Wait + Clone + Drop + Send> Accept<R> for Sockets {
     type Io = Exchange<R>;
 
-    // The limit of reads bounds accepts too: that nobody came in this time is no failure.
+    // A limit of reads bounds accepts too: that nobody came in this time is no failure.
     fn accept(&self, rt: &R) -> Option<Exchange<R>> {
         for _ in rt.forever() {
             match self.listener.accept() {

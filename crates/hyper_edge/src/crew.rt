@@ -2,14 +2,16 @@
 
 use crate::accept::Accept;
 use crate::desk::{Desk, ServeEnd};
+use crate::journal::Journal;
 use crate::service::EdgeService;
-use crate::serving::{Seat, serve_io};
+use crate::serving::{Seat, serve_told};
 use fetch_workers::Source;
 use std::alloc::AllocGlobal;
 use std::random::RandomSource;
 use std::sync::{Condvar, Mutex, Wait};
 use std::thread;
 use std::thread::Threads;
+use std::time::Clock;
 use tokio::io::{AsyncRead, AsyncWrite};
 
 /// A desk under its lock. Nothing is accepted or served under it.
@@ -75,42 +77,55 @@ impl SharedDesk {
 /// none the calling thread serves alone. A failed accept is passed over, and is none of `count`;
 /// sixteen in succession end the server.
 ///
+/// The journal is told of each request that was answered by the thread that served it, once its
+/// connection has ended. What never came to a request, or that the HTTP library answered by itself,
+/// isn't told.
+///
 /// Our profile.
-pub fn serve_accepts<R, A, S>(
+pub fn serve_accepts<R, A, S, J>(
     rt: &R,
     acceptor: &A,
     service: &EdgeService<S, R>,
+    journal: &J,
     threads: u16,
     count: u64,
 ) -> ServeEnd
 where
-    R: Wait + Threads + RandomSource + AllocGlobal + Clone + Sync + Drop,
+    R: Wait + Threads + Clock + RandomSource + AllocGlobal + Clone + Sync + Drop,
     A: Accept<R> + Sync,
     A::Io: AsyncRead + AsyncWrite,
     S: Source<R> + Send + Sync + Drop,
+    J: Journal<R> + Sync,
 {
     let shared = SharedDesk {
         desk: Mutex::new(Desk::new(count, threads)),
         moved: Condvar::new(),
     };
-    start_all(rt, acceptor, service, &shared);
+    start_all(rt, acceptor, service, journal, &shared);
     shared.desk.into_inner().end()
 }
 
 // Starts threads as they are wanted, and joins them.
-fn start_all<R, A, S>(rt: &R, acceptor: &A, service: &EdgeService<S, R>, shared: &SharedDesk)
+fn start_all<R, A, S, J>(
+    rt: &R,
+    acceptor: &A,
+    service: &EdgeService<S, R>,
+    journal: &J,
+    shared: &SharedDesk,
+)
 where
-    R: Wait + Threads + RandomSource + AllocGlobal + Clone + Sync + Drop,
+    R: Wait + Threads + Clock + RandomSource + AllocGlobal + Clone + Sync + Drop,
     A: Accept<R> + Sync,
     A::Io: AsyncRead + AsyncWrite,
     S: Source<R> + Send + Sync + Drop,
+    J: Journal<R> + Sync,
 {
     let is_alone = thread::scope(thread::scope_env(), rt, |scope| {
         for _ in rt.forever() {
             if !shared.wait_for_wanted(rt) {
                 return false;
             }
-            let started = scope.spawn(move || work(rt, acceptor, service, shared));
+            let started = scope.spawn(move || work(rt, acceptor, service, journal, shared));
             if started.is_err() && shared.not_started(rt) {
                 return true;
             }
@@ -118,17 +133,24 @@ where
         unreachable!()
     });
     if is_alone {
-        work(rt, acceptor, service, shared);
+        work(rt, acceptor, service, journal, shared);
     }
 }
 
 // What one thread does: it accepts and serves as long as there is an accept to make.
-fn work<R, A, S>(rt: &R, acceptor: &A, service: &EdgeService<S, R>, shared: &SharedDesk)
+fn work<R, A, S, J>(
+    rt: &R,
+    acceptor: &A,
+    service: &EdgeService<S, R>,
+    journal: &J,
+    shared: &SharedDesk,
+)
 where
-    R: Wait + Threads + RandomSource + AllocGlobal + Clone + Sync + Drop,
+    R: Wait + Threads + Clock + RandomSource + AllocGlobal + Clone + Sync + Drop,
     A: Accept<R>,
     A::Io: AsyncRead + AsyncWrite,
     S: Source<R> + Sync + Drop,
+    J: Journal<R>,
 {
     let mut seat = None;
     for _ in rt.forever() {
@@ -142,23 +164,30 @@ where
             continue;
         };
         shared.accepted(rt);
-        serve(rt, &mut seat, io, service);
+        serve(rt, &mut seat, io, service, journal);
         shared.served(rt);
     }
     unreachable!()
 }
 
 // Serves a connection; where there is no room for that, drops it.
-fn serve<R, I, S>(rt: &R, seat: &mut Option<Seat>, io: I, service: &EdgeService<S, R>)
+fn serve<R, I, S, J>(
+    rt: &R,
+    seat: &mut Option<Seat>,
+    io: I,
+    service: &EdgeService<S, R>,
+    journal: &J,
+)
 where
-    R: Wait + Threads + RandomSource + AllocGlobal + Clone + Sync + Drop,
+    R: Wait + Threads + Clock + RandomSource + AllocGlobal + Clone + Sync + Drop,
     I: AsyncRead + AsyncWrite,
     S: Source<R> + Sync + Drop,
+    J: Journal<R>,
 {
     if seat.is_none() {
         *seat = Seat::new(rt).ok();
     }
     if let (Some(seat), Ok(own)) = (seat, service.share()) {
-        serve_io(rt, seat, io, own);
+        serve_told(rt, seat, io, own, journal);
     }
 }

@@ -10,18 +10,19 @@ use std::net::{Shutdown, TcpStream};
 use std::time::{Clock, Duration, Instant};
 use tokio::io::{AsyncRead, AsyncWrite};
 
-/// How long a client may take, from being accepted. Neither may be zero.
+/// How long a client may take, from being accepted; `None` is as long as it likes. Neither may be
+/// zero.
 ///
 /// Our profile.
 #[derive(Clone, Copy)]
 pub struct Limits {
     /// To send its request.
-    pub request: Duration,
+    pub request: Option<Duration>,
     /// To have the whole response.
-    pub exchange: Duration,
+    pub exchange: Option<Duration>,
 }
 
-/// One exchange with a client. Past its deadlines each read and write fails.
+/// One exchange with a client. Past its deadlines, where it has some, each read and write fails.
 ///
 /// Once something was written, the client's input counts as ended: nothing that it sends later is
 /// read, and no answer waits for it.
@@ -29,8 +30,8 @@ pub struct Limits {
 pub struct Exchange<R> {
     socket: TcpStream,
     clock: R,
-    request_by: Instant,
-    exchange_by: Instant,
+    request_by: Option<Instant>,
+    exchange_by: Option<Instant>,
     has_read: bool,
     has_written: bool,
 }
@@ -39,13 +40,8 @@ impl<R: Clock + Drop> Exchange<R> {
     /// An exchange that begins now.
     pub(crate) fn new(socket: TcpStream, clock: R, limits: Limits) -> io::Result<Exchange<R>> {
         let now = Instant::now(&clock)?;
-        let ends = (
-            now.checked_add(limits.request),
-            now.checked_add(limits.exchange),
-        );
-        let (Some(request_by), Some(exchange_by)) = ends else {
-            return Err(ErrorKind::InvalidInput.into());
-        };
+        let request_by = deadline(now, limits.request)?;
+        let exchange_by = deadline(now, limits.exchange)?;
         Ok(Exchange {
             socket,
             clock,
@@ -56,8 +52,11 @@ impl<R: Clock + Drop> Exchange<R> {
         })
     }
 
-    fn is_late(&self, deadline: Instant) -> io::Result<bool> {
-        Ok(Instant::now(&self.clock)? > deadline)
+    fn is_late(&self, deadline: Option<Instant>) -> io::Result<bool> {
+        match deadline {
+            Some(deadline) => Ok(Instant::now(&self.clock)? > deadline),
+            None => Ok(false),
+        }
     }
 
     // The first read needs no look at the clock: the socket's own limit bounds it.
@@ -82,6 +81,17 @@ impl<R: Clock + Drop> Exchange<R> {
         }
         self.has_written = true;
         (&self.socket).write(buf)
+    }
+}
+
+// When a limit that begins now ends.
+fn deadline(now: Instant, limit: Option<Duration>) -> io::Result<Option<Instant>> {
+    let Some(limit) = limit else {
+        return Ok(None);
+    };
+    match now.checked_add(limit) {
+        Some(deadline) => Ok(Some(deadline)),
+        None => Err(ErrorKind::InvalidInput.into()),
     }
 }
 

@@ -1,18 +1,18 @@
 //! From the head of a request to its response.
 
-ghost use Rattle.std.specs.Prelude.{◌≡◌, ◌≤◌, IfOk};
+ghost use Rattle.std.specs.Prelude.{◌≡◌, ◌≤◌, ◌⊎◌, IfOk};
 ghost use Rattle.esi_meaning.specs.Meaning.{AreLevels};
 ghost use Rattle.fetch_workers.specs.Rests.{AreWorkers};
-ghost use Rattle.hyper_edge_head.specs.Sent.{sent};
+ghost use Rattle.hyper_edge_head.specs.Sent.{IsRefusal, refusal, sent};
 ghost use Rattle.hyper_edge.specs.Responses as spec;
 
-use edge_types::{NoMemory, PageUrl, Request};
+use edge_types::{Answer, NoMemory, PageUrl, Request};
 use fetch_workers::{Source, assemble};
 use http::Response;
 use hyper_edge_head::{EdgeBody, Field, HeadFault, answer_head, refusal_of, response_of};
 use plan_runner::MAX_AHEAD;
 use std::alloc::Global;
-use std::sync::Wait;
+use std::sync::{Arc, Wait};
 use std::thread::Threads;
 
 /// The response to the head of a request: the page that it asks for, of answers that the source
@@ -45,16 +45,92 @@ where
     ensures { IfOk result (λ response.
         spec.Responds (S.gives source.now) method.now target.now fields.now levels (sent response)) }
 {
-    let (url, request) = match answer_head(alloc, method, target, fields) {
-        Ok(asked) => asked,
-        Err(HeadFault::Method) => return refusal_of(alloc, 405),
-        Err(HeadFault::Unreadable) => return refusal_of(alloc, 400),
-        Err(HeadFault::NoMemory) => return refusal_of(alloc, NO_ROOM),
-    };
-    match assemble(rt, alloc, source, url, request, ahead, workers, levels) {
-        Ok(page) => response_of(alloc, page.outcome),
-        Err(_) => refusal_of(alloc, NO_ROOM),
+    let responded = respond_with_log(
+        rt, alloc, source, method, target, fields, ahead, workers, levels,
+    )?;
+    Ok(responded.response)
+}
+
+/// A response, and the answers that it rests on: a page's own first; none of a refusal.
+#[derive(Drop)]
+pub(crate) struct Responded {
+    pub(crate) response: Response<EdgeBody>,
+    pub(crate) log: Vec<Arc<Answer>>,
+}
+
+/// The same, with the answers that the page asked of the source.
+pub(crate) fn respond_with_log<R, S>(
+    rt: &R,
+    alloc: Global,
+    source: &S,
+    method: &[u8],
+    target: &[u8],
+    fields: &[Field<'_>],
+    ahead: u16,
+    workers: u8,
+    levels: u8,
+) -> Result<Responded, NoMemory>
+where
+    R: Wait + Threads + Sync,
+    S: Source<R> + Sync,
+    requires ahead { ahead ≤ MAX_AHEAD }
+    requires workers { AreWorkers workers }
+    requires levels { AreLevels levels }
+    ensures { IfOk result (λ responded.
+        spec.Responds (S.gives source.now) method.now target.now fields.now levels (sent responded.response)) }
+{
+    match answer_head(alloc, method, target, fields) {
+        Ok((url, request)) => paged(rt, alloc, source, url, request, ahead, workers, levels),
+        Err(HeadFault::Method) => refused(alloc, 405),
+        Err(HeadFault::Unreadable) => refused(alloc, 400),
+        Err(HeadFault::NoMemory) => no_room(alloc),
     }
 }
 
-const NO_ROOM: u16 = 503;
+// What is sent for a page that is asked for: the page, where there is room for it.
+fn paged<R, S>(
+    rt: &R,
+    alloc: Global,
+    source: &S,
+    url: PageUrl,
+    request: Request,
+    ahead: u16,
+    workers: u8,
+    levels: u8,
+) -> Result<Responded, NoMemory>
+where
+    R: Wait + Threads + Sync,
+    S: Source<R> + Sync,
+    requires ahead { ahead ≤ MAX_AHEAD }
+    requires workers { AreWorkers workers }
+    requires levels { AreLevels levels }
+    ensures { IfOk result (λ responded.
+        (sent responded.response ≡ refusal 503)
+        ⊎ spec.TellsPageAt (S.gives source.now) url request levels (sent responded.response)) }
+{
+    match assemble(rt, alloc, source, url, request, ahead, workers, levels) {
+        Ok(page) => Ok(Responded {
+            response: response_of(alloc, page.outcome)?,
+            log: page.log,
+        }),
+        Err(_) => no_room(alloc),
+    }
+}
+
+// A refusal, which rests on no answer.
+fn refused(alloc: Global, status: u16) -> Result<Responded, NoMemory>
+    requires { IsRefusal status }
+    ensures { IfOk result (λ responded. sent responded.response ≡ refusal status) }
+{
+    Ok(Responded {
+        response: refusal_of(alloc, status)?,
+        log: Vec::new(alloc),
+    })
+}
+
+// The refusal where memory or threads lack for the page.
+pub(crate) fn no_room(alloc: Global) -> Result<Responded, NoMemory>
+    ensures { IfOk result (λ responded. sent responded.response ≡ refusal 503) }
+{
+    refused(alloc, 503)
+}

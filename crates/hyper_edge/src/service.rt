@@ -5,18 +5,20 @@ ghost use Rattle.esi_meaning.specs.Meaning.{AreLevels};
 ghost use Rattle.fetch_workers.specs.Rests.{AreWorkers};
 ghost use Rattle.plan_runner.specs.declared.page.TheConstants.{MAX_AHEAD};
 
-use crate::responding::respond;
+use crate::journal::Note;
+use crate::responding::{Responded, no_room, respond_with_log};
 use edge_types::NoMemory;
 use fetch_workers::Source;
 use http::header::HeaderValue;
-use http::{HeaderMap, Request, Response};
-use hyper_edge_head::{EdgeBody, Field, refusal_of};
+use http::{HeaderMap, Request};
+use hyper_edge_head::Field;
 use std::alloc::{AllocError, Global};
 use std::hash::RandomState;
 use std::io;
 use std::random::RandomSource;
 use std::sync::{Arc, Wait};
 use std::thread::Threads;
+use std::time::{Clock, Instant};
 
 /// How pages are assembled.
 #[derive(Clone, Copy)]
@@ -88,24 +90,37 @@ impl<S: Drop, R: Drop> EdgeService<S, R> {
 impl<S, R> EdgeService<S, R>
 where
     S: Source<R> + Sync,
-    R: Wait + Threads + Sync,
+    R: Wait + Threads + Clock + Sync,
 {
-    // The response to a request, by `respond` on a copy of its head; 503 where there is no room for
-    // the copy.
-    pub(crate) fn respond_to<B>(
+    // The response to a request; where there is a note, it is left there too.
+    pub(crate) fn answer<B>(
         &self,
         request: &Request<B>,
-    ) -> Result<Response<EdgeBody>, NoMemory> {
+        note: Option<&Note>,
+    ) -> Result<Responded, NoMemory> {
+        let Some(note) = note else {
+            return self.respond_to(request);
+        };
+        let begun = Instant::now(&self.rt);
+        let responded = self.respond_to(request)?;
+        if let Ok(begun) = begun {
+            note.leave(&self.rt, self.alloc, begun, request, &responded);
+        }
+        Ok(responded)
+    }
+
+    // The response to a request, on a copy of its head; 503 where there is no room for the copy.
+    fn respond_to<B>(&self, request: &Request<B>) -> Result<Responded, NoMemory> {
         let method = request.method().as_str().as_bytes();
         let Ok(fields) = fields_of(self.alloc, request.headers()) else {
-            return refusal_of(self.alloc, 503);
+            return no_room(self.alloc);
         };
         let uri = request.uri();
         if let (None, Some(target)) = (uri.authority(), uri.path_and_query()) {
             return self.respond(method, target.as_str().as_bytes(), fields.as_slice());
         }
         let Ok(target) = format!(in self.alloc; "{uri}") else {
-            return refusal_of(self.alloc, 503);
+            return no_room(self.alloc);
         };
         self.respond(method, target.as_bytes(), fields.as_slice())
     }
@@ -115,9 +130,9 @@ where
         method: &[u8],
         target: &[u8],
         fields: &[Field<'_>],
-    ) -> Result<Response<EdgeBody>, NoMemory> {
+    ) -> Result<Responded, NoMemory> {
         let how = self.how;
-        respond(
+        respond_with_log(
             &self.rt,
             self.alloc,
             &*self.source,

@@ -1,5 +1,7 @@
 //! One exchange over one stream.
 
+use crate::journal::{Journal, Note};
+use crate::responding::Responded;
 use crate::service::EdgeService;
 use edge_types::NoMemory;
 use fetch_workers::Source;
@@ -13,8 +15,9 @@ use hyper_edge_head::EdgeBody;
 use std::alloc::{AllocError, AllocGlobal};
 use std::io;
 use std::random::RandomSource;
-use std::sync::Wait;
+use std::sync::{Arc, Wait};
 use std::thread::Threads;
+use std::time::Clock;
 use tokio::io::{AsyncRead, AsyncWrite};
 
 /// Where one thread serves, one connection at a time. To make one costs more than to keep it.
@@ -44,24 +47,66 @@ where
     R: Wait,
     I: AsyncRead + AsyncWrite,
     S: Source<Q> + Sync + Drop,
-    Q: Wait + Threads + Sync + Drop,
+    Q: Wait + Threads + Clock + Sync + Drop,
+{
+    exchange(rt, seat, io, service, None);
+}
+
+/// The same, and then a journal is told of the request, where it is to be told and was answered.
+pub(crate) fn serve_told<R, I, S, Q, J>(
+    rt: &R,
+    seat: &mut Seat,
+    io: I,
+    service: EdgeService<S, Q>,
+    journal: &J,
+)
+where
+    R: Wait + Clock,
+    I: AsyncRead + AsyncWrite,
+    S: Source<Q> + Sync + Drop,
+    Q: Wait + Threads + Clock + Sync + Drop,
+    J: Journal<R>,
+{
+    if !journal.is_kept() {
+        return exchange(rt, seat, io, service, None);
+    }
+    match Note::pair(service.alloc()) {
+        Ok((note, same)) => {
+            exchange(rt, seat, io, service, Some(same));
+            note.tell(rt, journal);
+        }
+        Err(_) => exchange(rt, seat, io, service, None),
+    }
+}
+
+// The exchange itself.
+fn exchange<R, I, S, Q>(
+    rt: &R,
+    seat: &mut Seat,
+    io: I,
+    service: EdgeService<S, Q>,
+    note: Option<Arc<Note>>,
+)
+where
+    R: Wait,
+    I: AsyncRead + AsyncWrite,
+    S: Source<Q> + Sync + Drop,
+    Q: Wait + Threads + Clock + Sync + Drop,
 {
     let mut http = server::conn::http1::Builder::new(service.alloc(), service.keys());
     http.keep_alive(false);
     // Without it a long body waits for the client to send more.
     http.half_close(true);
     let answer = service_fn(move |request: Request<Incoming<I>>| {
-        future::ready(answered(service.respond_to(&request)))
+        future::ready(answered(service.answer(&request, note.as_deref())))
     });
     let _ = seat.queue.run_until(rt, http.serve_connection(io, answer));
 }
 
 // What the HTTP library takes for want of memory.
-fn answered(
-    response: Result<Response<EdgeBody>, NoMemory>,
-) -> Result<Response<EdgeBody>, AllocError> {
-    match response {
-        Ok(response) => Ok(response),
+fn answered(responded: Result<Responded, NoMemory>) -> Result<Response<EdgeBody>, AllocError> {
+    match responded {
+        Ok(responded) => Ok(responded.response),
         Err(NoMemory) => Err(AllocError),
     }
 }

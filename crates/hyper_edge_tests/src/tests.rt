@@ -2,7 +2,7 @@
 // the end of a line.
 use edge_types::{Answer, Control, Octets, PageUrl, SharedBytes, Table};
 use fetch_workers::{Source, TableSource};
-use hyper_edge::{Assembling, EdgeService, Limits, ServeEnd, Sockets, serve_accepts};
+use hyper_edge::{Assembling, EdgeService, Limits, NoJournal, ServeEnd, Sockets, serve_accepts};
 use std::alloc::{AllocGlobal, Global};
 use std::io::{Read, Write};
 use std::net::{Net, Shutdown, SocketAddr, TcpListener, TcpStream};
@@ -88,8 +88,8 @@ where
     let listener = TcpListener::bind(rt, "127.0.0.1:0")?;
     let address = listener.local_addr()?;
     let limits = Limits {
-        request: Duration::from_millis(limit),
-        exchange: Duration::from_millis(limit),
+        request: Some(Duration::from_millis(limit)),
+        exchange: Some(Duration::from_millis(limit)),
     };
     Ok((Sockets::new(listener, limits)?, address))
 }

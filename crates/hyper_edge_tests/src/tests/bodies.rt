@@ -24,7 +24,7 @@ where
     let service = service(rt, alloc, pages(alloc, count, fragment.as_slice())?)?;
     let (_, len) = thread::join(
         rt,
-        || serve_accepts(rt, &acceptor, &service, 1, 1),
+        || serve_accepts(rt, &acceptor, &service, &NoJournal, 1, 1),
         || body_len(rt, alloc, address),
     );
     assert_eq!(rt; len?, 2 + 10_000 * usize::from(count));

@@ -34,7 +34,7 @@ fn each_client_is_served_once(rt: HostRuntime) -> Result<(), Fail> {
     let count = ROWS.lines().count() as u64;
     let (end, asked) = thread::join(
         &rt,
-        || serve_accepts(&rt, &acceptor, &service, 1, count),
+        || serve_accepts(&rt, &acceptor, &service, &NoJournal, 1, count),
         || ask_all(&rt, alloc, address, ROWS),
     );
     asked?;
@@ -64,7 +64,7 @@ fn two_threads_serve_many_clients(rt: HostRuntime) -> Result<(), Fail> {
     let service = service(&rt, alloc, pages(alloc, 1, b"1")?)?;
     let (end, asked) = thread::join(
         &rt,
-        || serve_accepts(&rt, &acceptor, &service, 2, 200),
+        || serve_accepts(&rt, &acceptor, &service, &NoJournal, 2, 200),
         || ask_often(&rt, alloc, address, 200),
     );
     asked?;
@@ -101,7 +101,7 @@ fn slow_clients_lose_their_connection(rt: HostRuntime) -> Result<(), Fail> {
     let service = service(&rt, alloc, pages(alloc, 900, fragment.as_slice())?)?;
     let (end, asked) = thread::join(
         &rt,
-        || serve_accepts(&rt, &acceptor, &service, 1, 4),
+        || serve_accepts(&rt, &acceptor, &service, &NoJournal, 1, 4),
         || ask_slowly(&rt, alloc, address),
     );
     asked?;
@@ -126,7 +126,7 @@ fn a_silent_client_holds_one_thread_alone(rt: HostRuntime) -> Result<(), Fail> {
     let service = service(&rt, alloc, pages(alloc, 1, b"1")?)?;
     let (end, asked) = thread::join(
         &rt,
-        || serve_accepts(&rt, &acceptor, &service, 2, 4),
+        || serve_accepts(&rt, &acceptor, &service, &NoJournal, 2, 4),
         || ask_beside_another(&rt, alloc, address),
     );
     asked?;

@@ -85,7 +85,7 @@ impl AsyncWrite for Script {
 // How many bytes a client in memory is sent whose reads and writes fail after so many.
 fn written<R>(rt: &R, alloc: Global, seat: &mut Seat, moves: u64) -> Result<u64, Fail>
 where
-    R: Wait + Threads + RandomSource + AllocGlobal + Clone + Drop + Sync,
+    R: Wait + Threads + Clock + RandomSource + AllocGlobal + Clone + Drop + Sync,
 {
     let service = service(rt, alloc, pages(alloc, 1, b"1")?)?;
     let count = Arc::new(alloc, AtomicU64::new(0))?;
@@ -148,7 +148,7 @@ where
     };
     let service = service(rt, alloc, pages(alloc, 1, b"1")?)?;
     let socket = asking(rt, address, b"GET /p HTTP/1.1\r\nhost: a.test\r\n\r\n")?;
-    let end = serve_accepts(rt, &failing, &service, 1, u64::MAX);
+    let end = serve_accepts(rt, &failing, &service, &NoJournal, 1, u64::MAX);
     let accepts = failing.accepts.load(Ordering::SeqCst);
     drop(failing);
     let got = rest(alloc, &socket).unwrap_or(Vec::new(alloc));

@@ -1,0 +1,114 @@
+//! What a server tells of the requests that it answered.
+
+use crate::responding::Responded;
+use http::Request;
+use http_body::Body;
+use std::alloc::{AllocError, Global};
+use std::sync::{Arc, Mutex, Wait};
+use std::time::{Clock, Instant};
+
+/// Who is told of each request that was answered, by the threads that serve.
+///
+/// Our profile.
+pub trait Journal<R> {
+    /// Whether it is to be told. Where it isn't, no record is made.
+    fn is_kept(&self) -> bool;
+
+    /// A request was answered, and its connection has ended.
+    fn served(&self, rt: &R, record: &Record);
+}
+
+/// No journal. It costs nothing.
+#[derive(Clone, Copy)]
+pub struct NoJournal;
+
+impl<R> Journal<R> for NoJournal {
+    fn is_kept(&self) -> bool {
+        false
+    }
+
+    fn served(&self, _rt: &R, _record: &Record) {}
+}
+
+/// A request, and how it was answered. Where memory lacks for a text, it is empty.
+#[derive(Drop)]
+pub struct Record {
+    /// The method.
+    pub method: Vec<u8>,
+    /// The URL of the page; where none was assembled, the target of the request.
+    pub url: Vec<u8>,
+    /// The status of the response.
+    pub status: u16,
+    /// The bytes of its body.
+    pub body: u64,
+    /// The answers that the page asked of the source, its own among them; 0 for a refusal.
+    pub answers: u64,
+    /// The microseconds from the request's head to the end of the connection.
+    pub micros: u64,
+}
+
+/// Where the service of one connection leaves what it answered, for who waits for its end.
+#[derive(Drop)]
+pub(crate) struct Note {
+    left: Mutex<Option<(Instant, Record)>>,
+}
+
+impl Note {
+    /// An empty note, of two owners.
+    pub(crate) fn pair(alloc: Global) -> Result<(Arc<Note>, Arc<Note>), AllocError> {
+        let note = Arc::new(
+            alloc,
+            Note {
+                left: Mutex::new(None),
+            },
+        )?;
+        let same = note.clone()?;
+        Ok((note, same))
+    }
+
+    /// Leaves what a request was answered, whose head was there at `begun`.
+    pub(crate) fn leave<R: Wait, B>(
+        &self,
+        rt: &R,
+        alloc: Global,
+        begun: Instant,
+        request: &Request<B>,
+        responded: &Responded,
+    ) {
+        let record = Record {
+            method: copy(alloc, request.method().as_str().as_bytes()),
+            url: url_of(alloc, request, responded),
+            status: responded.response.status().as_u16(),
+            body: responded.response.body().size_hint().exact().unwrap_or(0),
+            answers: responded.log.len() as u64,
+            micros: 0,
+        };
+        *self.left.lock(rt) = Some((begun, record));
+    }
+
+    /// Tells a journal what was left, now that the connection has ended.
+    pub(crate) fn tell<R: Wait + Clock, J: Journal<R>>(&self, rt: &R, journal: &J) {
+        let Some((begun, mut record)) = self.left.lock(rt).take() else {
+            return;
+        };
+        if let Ok(taken) = begun.elapsed(rt) {
+            record.micros = u64::try_from(taken.as_micros()).unwrap_or(u64::MAX);
+        }
+        journal.served(rt, &record);
+    }
+}
+
+// The URL of the page that was assembled, whose own answer came first; else the request's target.
+fn url_of<B>(alloc: Global, request: &Request<B>, responded: &Responded) -> Vec<u8> {
+    match responded.log.first() {
+        Some(page) => copy(alloc, page.url().as_bytes()),
+        None => match format!(in alloc; "{}", request.uri()) {
+            Ok(target) => target.into_bytes(),
+            Err(_) => Vec::new(alloc),
+        },
+    }
+}
+
+fn copy(alloc: Global, text: &[u8]) -> Vec<u8> {
+    text.to_vec(alloc).unwrap_or(Vec::new(alloc))
+}
