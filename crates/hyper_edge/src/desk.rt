@@ -1,7 +1,9 @@
 //! Every decision about the threads that serve: who may accept, when a further one is started, and
 //! when the work has ended.
 
-ghost use Rattle.std.specs.Prelude.{◌≡◌, ◌↔◌, IsTrue};
+ghost use Rattle.std.specs.Prelude.{◌≡◌, ◌↔◌, ◌-◌, false, true, IsTrue, MatchBool};
+ghost use Rattle.hyper_edge.specs.Desk as spec;
+ghost use Rattle.hyper_edge.specs.declared.desk.ServeEnd.TheVariants as ended;
 
 /// So many failed accepts in succession end a server.
 pub(crate) const MAX_FAILED: u32 = 16;
@@ -45,8 +47,12 @@ impl Desk {
 
     /// Lets a thread accept, where there is an accept left to make. Who waits in an accept has it
     /// counted already: so nobody waits once all are made.
-    pub(crate) fn may_accept(&mut self) -> bool {
-        if self.left == 0 || self.has_failed() {
+    pub(crate) fn may_accept(&mut self) -> bool
+        ensures { MatchBool result
+            (spec.IsOpen self.old × (self.new ≡ spec.begun self.old))
+            (¬ (spec.IsOpen self.old) × (self.new ≡ self.old)) }
+    {
+        if !self.is_open() {
             return false;
         }
         self.left -= 1;
@@ -54,10 +60,14 @@ impl Desk {
     }
 
     /// A thread has accepted, and serves from now on. `true`: so a further one is wanted.
-    pub(crate) fn accepted(&mut self) -> bool {
+    pub(crate) fn accepted(&mut self) -> bool
+        ensures { MatchBool result
+            (spec.WantsThread (spec.serving self.old) × (self.new ≡ record (spec.serving self.old) { wanted = true }))
+            (¬ (spec.WantsThread (spec.serving self.old)) × (self.new ≡ spec.serving self.old)) }
+    {
         self.failed = 0;
         self.serving = self.serving.saturating_add(1);
-        if self.wanted || self.serving < self.threads || self.threads >= self.most {
+        if !self.wants_thread() {
             return false;
         }
         self.wanted = true;
@@ -70,7 +80,10 @@ impl Desk {
     }
 
     /// An accept has failed: it is left to be made. `true`: it was one too many.
-    pub(crate) fn accept_failed(&mut self) -> bool {
+    pub(crate) fn accept_failed(&mut self) -> bool
+        ensures given_back { self.new ≡ spec.given_back self.old }
+        ensures failed { IsTrue result ↔ spec.HasFailed self.new }
+    {
         self.left = self.left.saturating_add(1);
         self.failed = self.failed.saturating_add(1);
         self.has_failed()
@@ -78,7 +91,9 @@ impl Desk {
 
     /// Counts one more thread, where one is wanted; and only there.
     pub(crate) fn take_wanted(&mut self) -> bool
-        ensures { IsTrue result ↔ IsTrue self.old.wanted }
+        ensures { MatchBool result
+            (IsTrue self.old.wanted × (self.new ≡ spec.counted self.old))
+            ((self.old.wanted ≡ false) × (self.new ≡ self.old)) }
     {
         if !self.wanted {
             return false;
@@ -95,12 +110,16 @@ impl Desk {
     }
 
     /// Whether no further accept is begun.
-    pub(crate) fn is_over(&self) -> bool {
-        self.left == 0 || self.has_failed()
+    pub(crate) fn is_over(&self) -> bool
+        ensures { IsTrue result ↔ ¬ (spec.IsOpen self.now) }
+    {
+        !self.is_open()
     }
 
     /// How the server has ended.
-    pub(crate) fn end(&self) -> ServeEnd {
+    pub(crate) fn end(&self) -> ServeEnd
+        ensures { (result ≡ ended.AcceptsFailed) ↔ spec.HasFailed self.now }
+    {
         if self.has_failed() {
             ServeEnd::AcceptsFailed
         } else {
@@ -108,7 +127,21 @@ impl Desk {
         }
     }
 
-    fn has_failed(&self) -> bool {
-        self.failed >= MAX_FAILED
+    fn is_open(&self) -> bool
+        ensures { IsTrue result ↔ spec.IsOpen self.now }
+    {
+        0 < self.left && self.failed < MAX_FAILED
+    }
+
+    fn has_failed(&self) -> bool
+        ensures { IsTrue result ↔ spec.HasFailed self.now }
+    {
+        MAX_FAILED <= self.failed
+    }
+
+    fn wants_thread(&self) -> bool
+        ensures { IsTrue result ↔ spec.WantsThread self.now }
+    {
+        !self.wanted && self.threads <= self.serving && self.threads < self.most
     }
 }

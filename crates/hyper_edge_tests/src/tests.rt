@@ -17,6 +17,8 @@ use std::{io, str, thread};
 mod bodies;
 mod clients;
 mod faults;
+mod journals;
+mod origins;
 
 // The text with the ends of its lines.
 fn wire(alloc: Global, text: &str) -> Result<Vec<u8>, Fail> {
@@ -80,16 +82,20 @@ where
     Ok(EdgeService::new(rt.clone()?, alloc, source, how)?)
 }
 
-// Sockets of a listener on loopback, and its address. A client has so many milliseconds.
-fn sockets<R>(rt: &R, limit: u64) -> Result<(Sockets, SocketAddr), Fail>
+// Sockets of a listener on loopback, and its address. A client has so many milliseconds, or all time.
+fn sockets<R>(rt: &R, limit: Option<u64>) -> Result<(Sockets, SocketAddr), Fail>
 where
     R: Net<Stream = TcpStream, Listener = TcpListener>,
 {
     let listener = TcpListener::bind(rt, "127.0.0.1:0")?;
     let address = listener.local_addr()?;
+    let limit = match limit {
+        Some(limit) => Some(Duration::from_millis(limit)),
+        None => None,
+    };
     let limits = Limits {
-        request: Some(Duration::from_millis(limit)),
-        exchange: Some(Duration::from_millis(limit)),
+        request: limit,
+        exchange: limit,
     };
     Ok((Sockets::new(listener, limits)?, address))
 }
@@ -112,10 +118,18 @@ fn rest(alloc: Global, socket: &TcpStream) -> io::Result<Vec<u8>> {
     Ok(bytes)
 }
 
-// The status of a response and its body, with a space between.
+// The status of a response, the methods that it allows, where it says so, and its body, with a space
+// between.
 fn told(alloc: Global, response: &[u8]) -> Result<String, Fail> {
     let text = str::from_utf8(response).unwrap_or("");
     let (head, body) = text.split_once("\r\n\r\n").unwrap_or((text, ""));
     let (_, status) = head.split_once(" ").unwrap_or(("", head));
-    Ok(format!(in alloc; "{} {}", status.get(..3).unwrap_or(status), body.trim_end())?)
+    let status = status.get(..3).unwrap_or(status);
+    match head.split_once("\r\nallow: ") {
+        Some((_, allow)) => {
+            let (allow, _) = allow.split_once("\r\n").unwrap_or((allow, ""));
+            Ok(format!(in alloc; "{status} {allow} {}", body.trim_end())?)
+        }
+        None => Ok(format!(in alloc; "{status} {}", body.trim_end())?),
+    }
 }

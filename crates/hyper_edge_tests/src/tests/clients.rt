@@ -9,7 +9,7 @@ GET /f HTTP/1.1|host: a.test|| > 502 The page could not be assembled.
 GET /none HTTP/1.1|host: a.test|| > 502 The page could not be assembled.
 GET /p HTTP/1.1|host: a/b|| > 400 The request can't be read.
 GET /p HTTP/1.0|| > 400 The request can't be read.
-POST /p HTTP/1.1|host: a.test|content-length: 9|| > 405 Only GET is served.
+POST /p HTTP/1.1|host: a.test|content-length: 9|| > 405 GET Only GET is served.
 GET /p HTTP/1.1|host: a.test||GET /p HTTP/1.1|host: a.test|| > 200 A1B";
 
 fn ask_all<R>(rt: &R, alloc: Global, address: SocketAddr, rows: &str) -> Result<(), Fail>
@@ -29,7 +29,7 @@ where
 #[test]
 fn each_client_is_served_once(rt: HostRuntime) -> Result<(), Fail> {
     let alloc = rt.alloc();
-    let (acceptor, address) = sockets(&rt, 10_000)?;
+    let (acceptor, address) = sockets(&rt, Some(10_000))?;
     let service = service(&rt, alloc, pages(alloc, 1, b"1")?)?;
     let count = ROWS.lines().count() as u64;
     let (end, asked) = thread::join(
@@ -60,7 +60,7 @@ where
 #[test]
 fn two_threads_serve_many_clients(rt: HostRuntime) -> Result<(), Fail> {
     let alloc = rt.alloc();
-    let (acceptor, address) = sockets(&rt, 10_000)?;
+    let (acceptor, address) = sockets(&rt, Some(10_000))?;
     let service = service(&rt, alloc, pages(alloc, 1, b"1")?)?;
     let (end, asked) = thread::join(
         &rt,
@@ -96,7 +96,7 @@ where
 #[test]
 fn slow_clients_lose_their_connection(rt: HostRuntime) -> Result<(), Fail> {
     let alloc = rt.alloc();
-    let (acceptor, address) = sockets(&rt, 50)?;
+    let (acceptor, address) = sockets(&rt, Some(50))?;
     let fragment = vec![in alloc; b'x'; 10_000]?;
     let service = service(&rt, alloc, pages(alloc, 900, fragment.as_slice())?)?;
     let (end, asked) = thread::join(
@@ -122,7 +122,7 @@ where
 #[test]
 fn a_silent_client_holds_one_thread_alone(rt: HostRuntime) -> Result<(), Fail> {
     let alloc = rt.alloc();
-    let (acceptor, address) = sockets(&rt, 10_000)?;
+    let (acceptor, address) = sockets(&rt, Some(10_000))?;
     let service = service(&rt, alloc, pages(alloc, 1, b"1")?)?;
     let (end, asked) = thread::join(
         &rt,
@@ -131,5 +131,27 @@ fn a_silent_client_holds_one_thread_alone(rt: HostRuntime) -> Result<(), Fail> {
     );
     asked?;
     assert_eq!(rt; end, ServeEnd::Served);
+    Ok(())
+}
+
+#[test]
+fn without_a_limit_a_client_takes_its_time(rt: HostRuntime) -> Result<(), Fail> {
+    let alloc = rt.alloc();
+    let (acceptor, address) = sockets(&rt, None)?;
+    let service = service(&rt, alloc, pages(alloc, 1, b"1")?)?;
+    let half = asking(&rt, address, b"GET /p HT")?;
+    let (_, sent) = thread::join(
+        &rt,
+        || serve_accepts(&rt, &acceptor, &service, &NoJournal, 1, 1),
+        || {
+            thread::sleep(&rt, Duration::from_millis(100));
+            (&half).write_all(b"TP/1.1\r\nhost: a.test\r\n\r\n")
+        },
+    );
+    sent?;
+    assert_eq!(rt;
+        told(alloc, rest(alloc, &half)?.as_slice())?.as_str(),
+        "200 A1B"
+    );
     Ok(())
 }

@@ -140,7 +140,7 @@ where
     R: Wait + Threads + Net<Stream = TcpStream, Listener = TcpListener>,
     R: Clock + RandomSource + AllocGlobal + Clone + Drop + Send + Sync + Abort,
 {
-    let (sockets, address) = sockets(rt, 10_000)?;
+    let (sockets, address) = sockets(rt, Some(10_000))?;
     let failing = Failing {
         sockets,
         fails,
