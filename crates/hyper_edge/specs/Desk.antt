@@ -1,6 +1,6 @@
 -- When threads that serve may accept, when a further one is wanted, and when failed accepts end a
 -- server.
-use Rattle.std.specs.Prelude.{ℕ, ◌+◌, ◌-◌, ◌^◌, ◌<◌, ◌≤◌, min, true, false, IsFalse}
+use Rattle.std.specs.Prelude.{◌+◌, ◌-◌, ◌^◌, ◌<◌, ◌≤◌, min, false, IsFalse}
 use Rattle.hyper_edge.specs.declared.desk.Desk.{Desk}
 
 -- so many accepts have failed since the last that succeeded that none is made any more
