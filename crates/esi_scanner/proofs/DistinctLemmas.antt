@@ -50,7 +50,7 @@ cond_or true b = refl
 cond_or false b = refl
 
 -- one key more
-has_more : (keys more : List (Bor (List ℕ))) (names : List (List ℕ)) (name : List ℕ) (key : Bor (List ℕ)) → key.now ≡ name → HasNames keys names → ((q : Bor (List ℕ)) → has_key more q ≡ cond (is_eq (slice_cmp nat_cmp key.now q.now)) true (has_key keys q)) → HasNames more (name ∷ names)
+pub has_more : (keys more : List (Bor (List ℕ))) (names : List (List ℕ)) (name : List ℕ) (key : Bor (List ℕ)) → key.now ≡ name → HasNames keys names → ((q : Bor (List ℕ)) → has_key more q ≡ cond (is_eq (slice_cmp nat_cmp key.now q.now)) true (has_key keys q)) → HasNames more (name ∷ names)
 has_more keys more names name key is same added q =
     added q ∙ ap (λ b. cond b true (has_key keys q)) (is_eq-slice_cmp key.now q.now ∙ bytes_eq-flip key.now q.now)
     ∙ cond_or (bytes_eq q.now key.now) (has_key keys q) ∙ ap (λ b. bytes_eq q.now key.now || b) (same q) ∙ ap (λ n. bytes_eq q.now n || list_any (bytes_eq q.now) names) is

@@ -3,6 +3,7 @@ pub mod EntityLemmas
 pub mod Finds
 pub mod AttributeLemmas
 pub mod DistinctLemmas
+pub mod ProblemLemmas
 pub mod Places
 pub mod ScanLemmas
 pub mod RunLemmas

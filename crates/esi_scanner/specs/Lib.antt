@@ -4,3 +4,4 @@ pub mod Entities
 pub mod Tag
 pub mod Scan
 pub mod Spelling
+pub mod Problems

@@ -26,7 +26,7 @@ pub struct Tag {
 
 // White space and an attribute's name, and what follows.
 #[tactic(auto, unfolding(crate::specs::Tag::name_at))]
-fn name_at(text: &[u8]) -> Option<(&[u8], &[u8])>
+pub(crate) fn name_at(text: &[u8]) -> Option<(&[u8], &[u8])>
     ensures value { shown_pair result ≡ name_at text.now }
     ensures shorter { IfSome result (λ found. length found.1.now < length text.now) }
 {
@@ -40,7 +40,7 @@ fn name_at(text: &[u8]) -> Option<(&[u8], &[u8])>
 
 // What follows `=`.
 #[tactic(auto, unfolding(crate::specs::Tag::equals_at))]
-fn equals_at(text: &[u8]) -> Option<&[u8]>
+pub(crate) fn equals_at(text: &[u8]) -> Option<&[u8]>
     ensures value { option_copied result ≡ equals_at text.now }
     ensures shorter { IfSome result (λ rest. length rest.now ≤ length text.now) }
 {
@@ -50,7 +50,7 @@ fn equals_at(text: &[u8]) -> Option<&[u8]>
 
 // The bytes between two equal quotes, and what follows.
 #[tactic(auto, unfolding(crate::specs::Tag::quoted_at))]
-fn quoted_at(text: &[u8]) -> Option<(&[u8], &[u8])>
+pub(crate) fn quoted_at(text: &[u8]) -> Option<(&[u8], &[u8])>
     ensures value { shown_pair result ≡ quoted_at text.now }
     ensures shorter { IfSome result (λ found. length found.1.now ≤ length text.now) }
 {
@@ -102,7 +102,7 @@ fn attribute_at(alloc: Global, text: &[u8]) -> Result<Option<(Attribute, &[u8])>
 
 // The end of a tag: whether it is closed, and what follows.
 #[tactic(auto, unfolding(crate::specs::Tag::end_at))]
-fn end_at(text: &[u8]) -> Option<(bool, &[u8])>
+pub(crate) fn end_at(text: &[u8]) -> Option<(bool, &[u8])>
     ensures value { shown result ≡ end_at text.now }
     ensures shorter { IfSome result (λ found. length found.1.now < length text.now) }
 {
@@ -115,7 +115,7 @@ fn end_at(text: &[u8]) -> Option<(bool, &[u8])>
 
 // An element's name, and what follows.
 #[tactic(auto, unfolding(crate::specs::Tag::element_at))]
-fn element_at(text: &[u8]) -> Option<(ElementName, &[u8])>
+pub(crate) fn element_at(text: &[u8]) -> Option<(ElementName, &[u8])>
     ensures value { shown result ≡ element_at text.now }
     ensures shorter { IfSome result (λ found. length found.1.now ≤ length text.now) }
 {
