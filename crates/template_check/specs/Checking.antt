@@ -1,0 +1,45 @@
+-- What is wrong with a text.
+use Rattle.std.specs.Prelude.{ℕ, List, Option, Some, None, Result, Ok, Err}
+use Rattle.esi_scanner.specs.declared.token.Token.{Token}
+use Rattle.esi_scanner.specs.declared.problem.Problem.{Problem}
+use Rattle.esi_scanner.specs.declared.problem.Problem.TheVariants as problem
+use Rattle.esi_scanner.specs.declared.problem.Trouble.{Trouble}
+use Rattle.esi_scanner.specs.Problems.{trouble_at}
+use Rattle.esi_scanner.specs.Scan.{scan_of}
+use Rattle.esi_tree.specs.Tree.{Elements}
+use Rattle.esi_tree.specs.Reading.{tree_of}
+use Rattle.template_check.specs.declared.checker.Fault.{Fault}
+use Rattle.template_check.specs.declared.reason.Reason.{Reason}
+use Rattle.template_check.specs.declared.reason.Reason.TheVariants.{Malformed}
+use Rattle.template_check.specs.Reasons.{reason_of}
+
+-- a text that has tokens is asked for the token at the place, any other for the tag at which it has none
+abbrev reason_in : List ℕ → ℕ → Result (List Token) ℕ → Reason
+reason_in text place (Ok tokens) = reason_of tokens place
+reason_in text place (Err at) = Malformed (trouble_at text at)
+
+-- why a text is no template from this place on
+abbrev pub reason_at : List ℕ → ℕ → Reason
+reason_at text place = reason_in text place (scan_of text)
+
+abbrev fault_in : List ℕ → Result Elements ℕ → Option Fault
+fault_in text (Ok tree) = None
+fault_in text (Err place) = Some (record { place = place; reason = reason_at text place })
+
+-- nothing where a text is a template, else the place from which on it is none, and why
+abbrev pub fault_of : List ℕ → Option Fault
+fault_of text = fault_in text (tree_of text)
+
+-- where an author has to look: at the place of the trouble, unless that is what is lacking behind the tag
+abbrev place_in : ℕ → Trouble → Problem → ℕ
+place_in place trouble problem.TextEnds = place
+place_in place trouble problem.NoRemoveEnd = place
+place_in place trouble problem.NoBlockEnd = place
+place_in place trouble _ = trouble.place
+
+abbrev place_by : ℕ → Reason → ℕ
+place_by place (Malformed trouble) = place_in place trouble trouble.problem
+place_by place _ = place
+
+abbrev pub shown_at : Fault → ℕ
+shown_at fault = place_by fault.place fault.reason

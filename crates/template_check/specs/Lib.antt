@@ -1,0 +1,4 @@
+pub mod Positions
+pub mod OpenElements
+pub mod Reasons
+pub mod Checking

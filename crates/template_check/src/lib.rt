@@ -1,0 +1,19 @@
+//! What is wrong with a template, for the person who wrote it: where, and why.
+//!
+//! `check` is the one way in. A fault has the place that `template` of `esi_tree` tells, and a reason; `position_of`
+//! turns a place into a line and a column. `specs/Reasons.antt` says which reason a text has at a place,
+//! `specs/OpenElements.antt` which elements are open there, and `specs/Positions.antt` what a line and a column are.
+#![tactic(auto)]
+
+mod checker;
+mod elements;
+mod message;
+mod position;
+mod reason;
+mod reasons;
+
+pub use checker::{Fault, check};
+pub use elements::Opened;
+pub use message::Message;
+pub use position::{Position, position_of};
+pub use reason::Reason;

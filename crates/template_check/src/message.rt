@@ -1,0 +1,209 @@
+// What is wrong with a text, in words.
+use crate::checker::Fault;
+use crate::elements::Opened;
+use crate::position::{Position, position_of};
+use crate::reason::Reason;
+use esi_scanner::{ElementName, KnownAttribute, Problem, Trouble};
+use std::fmt::Write;
+use std::{fmt, str};
+
+/// A fault of a text, to be printed as `LINE:COLUMN: error: WORDS`, without a line feed.
+#[derive(Clone, Copy, Drop)]
+pub struct Message<'a> {
+    pub text: &'a [u8],
+    pub fault: Fault,
+}
+
+fn element(name: ElementName) -> &'static str {
+    str::from_utf8(name.as_bytes()).unwrap_or("")
+}
+
+fn attribute(name: KnownAttribute) -> &'static str {
+    str::from_utf8(name.as_bytes()).unwrap_or("")
+}
+
+fn is_word_byte(byte: u8) -> bool {
+    byte.is_ascii_alphanumeric() || matches!(byte, b'-' | b'_' | b':' | b'.')
+}
+
+// The name that stands at a place.
+fn word_at(text: &[u8], place: usize) -> &str {
+    let (_, rest) = text.split_at(place.min(text.len()));
+    let len = rest.iter().position(|byte| !is_word_byte(*byte));
+    let (word, _) = rest.split_at(len.unwrap_or(rest.len()));
+    str::from_utf8(word).unwrap_or("")
+}
+
+impl<'a> Message<'a> {
+    fn line_of(&self, opened: Opened) -> usize {
+        position_of(self.text, opened.place).line
+    }
+
+    fn write_trouble<W: fmt::Write>(
+        &self,
+        f: &mut fmt::Formatter<W>,
+        trouble: Trouble,
+    ) -> fmt::Result {
+        let word = word_at(self.text, trouble.place);
+        match trouble.problem {
+            Problem::UnknownElement => write!(f, "no element has the name `{word}`"),
+            Problem::NoSpace => write!(f, "white space is missing before the attribute `{word}`"),
+            Problem::NoEquals => write!(f, "`=` is missing behind the attribute `{word}`"),
+            Problem::NoQuote => write!(f, "the value of the attribute `{word}` needs quotes"),
+            Problem::OpenQuote => write!(
+                f,
+                "the quote before the value of the attribute `{word}` has no second one"
+            ),
+            Problem::Twice => write!(f, "the attribute `{word}` is given twice"),
+            Problem::TextEnds => write!(f, "the text ends before the tag does: `>` is missing"),
+            Problem::StrayByte => {
+                write!(f, "this can't stand in a tag: is `>` or a quote missing?")
+            }
+            Problem::NoRemoveEnd => write!(f, "<esi:remove> has no </esi:remove> behind it"),
+            Problem::NoBlockEnd => write!(f, "<!--esi has no --> behind it"),
+        }
+    }
+
+    fn write_misplaced<W: fmt::Write>(
+        &self,
+        f: &mut fmt::Formatter<W>,
+        name: ElementName,
+        within: Option<Opened>,
+    ) -> fmt::Result {
+        let inner = element(name);
+        if let Some(opened) = within {
+            let outer = element(opened.name);
+            let line = self.line_of(opened);
+            return write!(
+                f,
+                "<esi:{inner}> can't stand directly in <esi:{outer}> from line {line}: is </esi:{outer}> missing before it?"
+            );
+        }
+        match name {
+            ElementName::When | ElementName::Otherwise => {
+                write!(f, "<esi:{inner}> can stand in <esi:choose> alone")
+            }
+            _ => write!(f, "<esi:{inner}> can stand in <esi:try> alone"),
+        }
+    }
+
+    fn write_run<W: fmt::Write>(
+        &self,
+        f: &mut fmt::Formatter<W>,
+        within: Option<Opened>,
+    ) -> fmt::Result {
+        match within {
+            Some(opened) => {
+                let outer = element(opened.name);
+                let line = self.line_of(opened);
+                write!(
+                    f,
+                    "neither text nor <esi:remove> can stand directly in <esi:{outer}> from line {line}: is </esi:{outer}> missing before it?"
+                )
+            }
+            None => write!(f, "nothing can stand here"),
+        }
+    }
+
+    fn write_ends<W: fmt::Write>(
+        &self,
+        f: &mut fmt::Formatter<W>,
+        within: Option<Opened>,
+    ) -> fmt::Result {
+        match within {
+            Some(opened) => {
+                let outer = element(opened.name);
+                let line = self.line_of(opened);
+                write!(
+                    f,
+                    "the text ends, and <esi:{outer}> from line {line} is still open: </esi:{outer}> is missing"
+                )
+            }
+            None => write!(f, "the text ends too early"),
+        }
+    }
+
+    fn write_ending<W: fmt::Write>(
+        &self,
+        f: &mut fmt::Formatter<W>,
+        opened: Opened,
+        part: ElementName,
+    ) -> fmt::Result {
+        let outer = element(opened.name);
+        let line = self.line_of(opened);
+        let inner = element(part);
+        write!(f, "<esi:{outer}> from line {line} has no <esi:{inner}>")
+    }
+
+    fn write_closing<W: fmt::Write>(
+        &self,
+        f: &mut fmt::Formatter<W>,
+        name: ElementName,
+        within: Option<Opened>,
+    ) -> fmt::Result {
+        let ends = element(name);
+        match within {
+            Some(opened) => {
+                let inner = element(opened.name);
+                let line = self.line_of(opened);
+                write!(
+                    f,
+                    "</esi:{ends}> closes nothing here: <esi:{inner}> from line {line} is still open"
+                )
+            }
+            None => write!(f, "</esi:{ends}> closes nothing: no element is open"),
+        }
+    }
+
+    fn write_second<W: fmt::Write>(
+        &self,
+        f: &mut fmt::Formatter<W>,
+        name: ElementName,
+        within: Option<Opened>,
+    ) -> fmt::Result {
+        let inner = element(name);
+        match within {
+            Some(opened) => {
+                let outer = element(opened.name);
+                let line = self.line_of(opened);
+                write!(
+                    f,
+                    "<esi:{outer}> from line {line} has an <esi:{inner}> already"
+                )
+            }
+            None => write!(f, "a second <esi:{inner}>"),
+        }
+    }
+
+    fn write_reason<W: fmt::Write>(&self, f: &mut fmt::Formatter<W>) -> fmt::Result {
+        match self.fault.reason {
+            Reason::Malformed(trouble) => self.write_trouble(f, trouble),
+            Reason::NoRun(within) => self.write_run(f, within),
+            Reason::TooDeep => write!(f, "32 elements are open here, and no more may be"),
+            Reason::Misplaced { name, within } => self.write_misplaced(f, name, within),
+            Reason::Second { name, within } => self.write_second(f, name, within),
+            Reason::Lacks {
+                name,
+                attribute: lacked,
+            } => {
+                let inner = element(name);
+                let needed = attribute(lacked);
+                write!(f, "<esi:{inner}> needs the attribute `{needed}`")
+            }
+            Reason::BadTest => write!(f, "the attribute `test` can't be read as a test"),
+            Reason::NoWhen(opened) => self.write_ending(f, opened, ElementName::When),
+            Reason::NoHalf { part, opened } => self.write_ending(f, opened, part),
+            Reason::Unopened(name) => self.write_closing(f, name, None),
+            Reason::Crossed { name, opened } => self.write_closing(f, name, Some(opened)),
+            Reason::Ends(within) => self.write_ends(f, within),
+        }
+    }
+}
+
+impl fmt::Display for Message<'_> {
+    fn fmt<W: fmt::Write>(&self, f: &mut fmt::Formatter<W>) -> fmt::Result {
+        let Position { line, column } = self.fault.position(self.text);
+        write!(f, "{line}:{column}: error: ")?;
+        self.write_reason(f)
+    }
+}

@@ -1,0 +1,47 @@
+// Why a text is no template.
+use crate::elements::Opened;
+use esi_scanner::{ElementName, KnownAttribute, Trouble};
+
+/// Why a text is no template from a place on.
+#[derive(Clone, Copy, Debug, Drop, PartialEq, Eq)]
+pub enum Reason {
+    /// The tag there can't be read, or the block that begins there has no end.
+    Malformed(Trouble),
+    /// Text or a `remove` that can't stand directly in the innermost open element.
+    NoRun(Option<Opened>),
+    /// As many elements as may be open are open there.
+    TooDeep,
+    /// The element can't stand directly in the innermost open one, or, where none is open, by itself.
+    Misplaced {
+        name: ElementName,
+        within: Option<Opened>,
+    },
+    /// An element of this name stands in the innermost open one already, which takes one.
+    Second {
+        name: ElementName,
+        within: Option<Opened>,
+    },
+    /// The tag has no attribute of this name, which its element needs.
+    Lacks {
+        name: ElementName,
+        attribute: KnownAttribute,
+    },
+    /// The attribute `test` is no test.
+    BadTest,
+    /// The `choose` ends without a `when`.
+    NoWhen(Opened),
+    /// The `try` ends without this part.
+    NoHalf {
+        part: ElementName,
+        opened: Opened,
+    },
+    /// A closing tag where no element is open.
+    Unopened(ElementName),
+    /// A closing tag of another element than the innermost open one.
+    Crossed {
+        name: ElementName,
+        opened: Opened,
+    },
+    /// The text ends inside the innermost open element.
+    Ends(Option<Opened>),
+}

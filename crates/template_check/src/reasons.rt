@@ -1,0 +1,173 @@
+// Tells why no template goes on with a token.
+ghost use Rattle.std.specs.Prelude.{◌≡◌, ◌≤◌, length, reverse};
+ghost use Rattle.esi_tree.specs.Reading.{stands_in_run};
+ghost use Rattle.template_check.specs.Reasons as spec;
+
+use crate::elements::{Opened, has_part, innermost, open_count};
+use crate::reason::Reason;
+use esi_scanner::{Attributes, ElementName, Kind, KnownAttribute, Tag, Token};
+use esi_tree::OPEN_LIMIT;
+
+// Whether an element of this name may stand where any element may.
+fn stands_in_run(name: ElementName) -> bool
+    ensures { result ≡ stands_in_run name }
+{
+    matches!(
+        name,
+        ElementName::Include
+            | ElementName::Inline
+            | ElementName::Choose
+            | ElementName::Try
+            | ElementName::Comment
+            | ElementName::Vars
+    )
+}
+
+// Whether it may stand directly in an element of that name.
+fn stands_in(name: ElementName, outer: ElementName) -> bool
+    ensures { result ≡ spec.stands_in name outer }
+{
+    match outer {
+        ElementName::Include | ElementName::Comment => false,
+        ElementName::Choose => matches!(name, ElementName::When | ElementName::Otherwise),
+        ElementName::Try => matches!(name, ElementName::Attempt | ElementName::Except),
+        _ => stands_in_run(name),
+    }
+}
+
+// Whether it may stand directly in the innermost opened element.
+fn may_stand(name: ElementName, within: Option<Opened>) -> bool
+    ensures { result ≡ spec.may_stand name within }
+{
+    match within {
+        Some(opened) => stands_in(name, opened.name),
+        None => stands_in_run(name),
+    }
+}
+
+// Whether an element takes one of this name at most.
+fn is_single(name: ElementName) -> bool
+    ensures { result ≡ spec.is_single name }
+{
+    matches!(
+        name,
+        ElementName::Otherwise | ElementName::Attempt | ElementName::Except
+    )
+}
+
+// Why an element can't end. One of another name always can.
+fn ending(opened: Opened, before: &[Token]) -> Reason
+    ensures { result ≡ spec.ending opened (reverse before.now) }
+{
+    match opened.name {
+        ElementName::Choose => Reason::NoWhen(opened),
+        ElementName::Try => {
+            let part = if has_part(ElementName::Attempt, before) {
+                ElementName::Except
+            } else {
+                ElementName::Attempt
+            };
+            Reason::NoHalf { part, opened }
+        }
+        _ => Reason::Unopened(opened.name),
+    }
+}
+
+// Why a `when` can't be opened.
+fn when_lacks(attributes: &Attributes) -> Reason
+    ensures { result ≡ spec.when_lacks attributes.now }
+{
+    match attributes.value(KnownAttribute::Test) {
+        Some(_) => Reason::BadTest,
+        None => Reason::Lacks {
+            name: ElementName::When,
+            attribute: KnownAttribute::Test,
+        },
+    }
+}
+
+// Why a tag opens no element that may stand there, or one that can't end at once.
+fn lacking(tag: &Tag, place: usize) -> Reason
+    ensures { result ≡ spec.lacking tag.now place }
+{
+    let name = tag.name;
+    match name {
+        ElementName::Include => Reason::Lacks {
+            name,
+            attribute: KnownAttribute::Src,
+        },
+        ElementName::Inline => Reason::Lacks {
+            name,
+            attribute: KnownAttribute::Name,
+        },
+        ElementName::When => when_lacks(&tag.attributes),
+        ElementName::Try => Reason::NoHalf {
+            part: ElementName::Attempt,
+            opened: Opened { name, place },
+        },
+        _ => Reason::NoWhen(Opened { name, place }),
+    }
+}
+
+// Why no template goes on with an opening tag.
+fn open_reason(tag: &Tag, place: usize, before: &[Token]) -> Reason
+    ensures { result ≡ spec.open_reason tag.now place (reverse before.now) }
+{
+    let name = tag.name;
+    let within = innermost(before);
+    if open_count(before) >= OPEN_LIMIT {
+        Reason::TooDeep
+    } else if !may_stand(name, within) {
+        Reason::Misplaced { name, within }
+    } else if is_single(name) && has_part(name, before) {
+        Reason::Second { name, within }
+    } else {
+        lacking(tag, place)
+    }
+}
+
+// Why no template goes on with a closing tag.
+fn close_reason(name: ElementName, before: &[Token]) -> Reason
+    ensures { result ≡ spec.close_reason name (reverse before.now) }
+{
+    match innermost(before) {
+        Some(opened) if opened.name == name => ending(opened, before),
+        Some(opened) => Reason::Crossed { name, opened },
+        None => Reason::Unopened(name),
+    }
+}
+
+// Why no template goes on with this token, behind those that stand before it.
+fn token_reason(token: &Token, before: &[Token]) -> Reason
+    ensures { result ≡ spec.token_reason token.now (reverse before.now) }
+{
+    match &token.kind {
+        Kind::Open(tag) => open_reason(tag, token.span.start, before),
+        Kind::Close(name) => close_reason(*name, before),
+        _ => Reason::NoRun(innermost(before)),
+    }
+}
+
+// How many tokens begin before a place.
+fn count_before(tokens: &[Token], place: usize) -> usize
+    ensures value { result ≡ spec.count_before tokens.now place }
+    ensures within { result ≤ length tokens.now }
+{
+    for (i, token) in tokens.iter().enumerate() {
+        if token.span.start >= place {
+            return i;
+        }
+    }
+    tokens.len()
+}
+
+/// Why no template goes on with the token at this place; behind all tokens, why the text can't end there.
+pub(crate) fn reason_of(tokens: &[Token], place: usize) -> Reason
+    ensures { result ≡ spec.reason_of tokens.now place }
+{
+    let (before, after) = tokens.split_at(count_before(tokens, place));
+    match after {
+        [token, ..] => token_reason(token, before),
+        [] => Reason::Ends(innermost(before)),
+    }
+}
