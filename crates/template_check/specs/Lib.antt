@@ -2,3 +2,4 @@ pub mod Positions
 pub mod OpenElements
 pub mod Reasons
 pub mod Checking
+pub mod Laws

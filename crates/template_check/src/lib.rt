@@ -7,6 +7,7 @@
 
 mod checker;
 mod elements;
+pub mod laws;
 mod message;
 mod position;
 mod reason;

@@ -1,0 +1,17 @@
+//! Laws of positions, each the contract of a function that does nothing.
+ghost use Rattle.template_check.specs.Laws.{LineIsCounted, FirstLineIsCounted, ColumnIsCounted};
+
+/// A place's line is one more than the number of line feeds before it.
+pub fn lines_are_counted()
+    ensures { LineIsCounted }
+{}
+
+/// Where no line feed stands before a place, its column is one more than the number of bytes before it.
+pub fn columns_of_the_first_line_are_counted()
+    ensures { FirstLineIsCounted }
+{}
+
+/// Elsewhere its column is one more than the number of bytes between the last line feed before it and the place.
+pub fn columns_are_counted()
+    ensures { ColumnIsCounted }
+{}
