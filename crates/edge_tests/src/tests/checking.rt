@@ -1,0 +1,109 @@
+// Faults of templates in words: each with its line and column, told by hand.
+use super::headers::written_out;
+use edge_types::{NoMemory, SharedBytes};
+use esi_scanner::{Problem, Trouble, trouble_at};
+use std::alloc::Global;
+use std::process::Abort;
+use std::test::Fail;
+use template_check::{Message, Position, check, position_of};
+
+const TAGS: &str = r#"a<esi:bogus/> => 1:7: error: no element has the name `bogus`
+<esi:include src=/x/> => 1:14: error: the value of the attribute `src` needs quotes
+<esi:include src="/x"alt='/y'/> => 1:22: error: white space is missing before the attribute `alt`
+␊␊ <esi:vars a='1'␊  b='2' a='3'/> => 4:9: error: the attribute `a` is given twice
+<esi:include src/> => 1:14: error: `=` is missing behind the attribute `src`
+<esi:include src="/x/> => 1:14: error: the quote before the value of the attribute `src` has no second one
+é<esi:include src="/x"  => 1:3: error: the text ends before the tag does: `>` is missing
+<esi:try / > => 1:10: error: this can't stand in a tag: is `>` or a quote missing?
+x␊␉<esi:remove>y => 2:2: error: <esi:remove> has no </esi:remove> behind it
+x␍␊␍<!--esi y => 2:2: error: <!--esi has no --> behind it
+</esi:vars a> => 1:12: error: this can't stand in a tag: is `>` or a quote missing?
+</esi:Vars> => 1:7: error: no element has the name `Vars`
+</esi:vars => 1:1: error: the text ends before the tag does: `>` is missing"#;
+
+const ELEMENTS: &str =
+    r#"<esi:try>␊ a</esi:try> => 1:10: error: neither text nor <esi:remove> can stand directly in <esi:try> from line 1: is </esi:try> missing before it?
+<esi:when test="1">a</esi:when> => 1:1: error: <esi:when> can stand in <esi:choose> alone
+<esi:except/> => 1:1: error: <esi:except> can stand in <esi:try> alone
+<esi:choose>␊<esi:when test="1">a␊<esi:when test="2">b => 3:1: error: <esi:when> can't stand directly in <esi:when> from line 2: is </esi:when> missing before it?
+<esi:choose>␊<esi:otherwise>a</esi:otherwise>␊<esi:when test="1"/><esi:otherwise/> => 3:21: error: <esi:choose> from line 1 has an <esi:otherwise> already
+<esi:try>␊<esi:attempt>a</esi:attempt>␊<esi:attempt/> => 3:1: error: <esi:try> from line 1 has an <esi:attempt> already
+<esi:include/> => 1:1: error: <esi:include> needs the attribute `src`
+<esi:inline/> => 1:1: error: <esi:inline> needs the attribute `name`
+<esi:choose><esi:when>a => 1:13: error: <esi:when> needs the attribute `test`
+<esi:choose><esi:when test="1 = 1">a => 1:13: error: the attribute `test` can't be read as a test
+␊<esi:choose>␊</esi:choose> => 3:1: error: <esi:choose> from line 2 has no <esi:when>
+<esi:choose/> => 1:1: error: <esi:choose> from line 1 has no <esi:when>
+<esi:try>␊<esi:attempt/>␊</esi:try> => 3:1: error: <esi:try> from line 1 has no <esi:except>
+<esi:try>␊<esi:except/>␊</esi:try> => 3:1: error: <esi:try> from line 1 has no <esi:attempt>
+<esi:try/> => 1:1: error: <esi:try> from line 1 has no <esi:attempt>
+a</esi:vars> => 1:2: error: </esi:vars> closes nothing: no element is open
+<esi:try>␊␊<esi:attempt>␊</esi:try> => 4:1: error: </esi:try> closes nothing here: <esi:attempt> from line 3 is still open
+<esi:vars>␊<esi:vars>a</esi:vars>␊b => 3:2: error: the text ends, and <esi:vars> from line 1 is still open: </esi:vars> is missing
+<esi:vars>a</esi:vars> => no fault
+ => no fault"#;
+
+// The fault of a text in words.
+fn told(alloc: Global, text: &str) -> Result<String, NoMemory> {
+    let text = SharedBytes::copy_of(alloc, text.as_bytes())?;
+    match check(alloc, &text)? {
+        Some(fault) => {
+            let message = Message {
+                text: text.as_bytes(),
+                fault,
+            };
+            Ok(format!(in alloc; "{message}")?)
+        }
+        None => Ok(format!(in alloc; "no fault")?),
+    }
+}
+
+fn rows_hold(rt: &impl Abort, alloc: Global, rows: &str) -> Result<(), NoMemory> {
+    for row in rows.lines() {
+        let (text, wanted) = row.split_once(" => ").unwrap_or((row, ""));
+        let found = told(alloc, written_out(alloc, text)?.as_str())?;
+        assert_eq!(rt; found.as_str(), wanted, "in {text}");
+    }
+    Ok(())
+}
+
+#[test]
+fn faults_are_told_in_words(rt: HostRuntime) -> Result<(), Fail> {
+    rows_hold(&rt, rt.alloc(), TAGS)?;
+    Ok(rows_hold(&rt, rt.alloc(), ELEMENTS)?)
+}
+
+#[test]
+fn one_element_too_many_is_told(rt: HostRuntime) -> Result<(), Fail> {
+    let deep = "<esi:vars>\n".repeat(rt.alloc(), 33)?;
+    let found = told(rt.alloc(), deep.as_str())?;
+    let wanted = "33:1: error: 32 elements are open here, and no more may be";
+    assert_eq!(rt; found.as_str(), wanted);
+    Ok(())
+}
+
+#[test]
+fn places_have_lines_and_columns(rt: HostRuntime) {
+    let text = "a\r\n\té\n".as_bytes();
+    for (place, line, column) in [
+        (0, 1, 1),
+        (2, 1, 3),
+        (3, 2, 1),
+        (4, 2, 2),
+        (6, 2, 4),
+        (9, 3, 1),
+    ] {
+        assert!(rt;
+            position_of(text, place) == Position { line, column },
+            "at {place}"
+        );
+    }
+}
+
+#[test]
+fn a_malformed_tag_has_its_trouble(rt: HostRuntime) -> Result<(), Fail> {
+    let trouble = trouble_at(rt.alloc(), b"a<esi:vars b/>", 1)?;
+    let problem = Problem::NoEquals;
+    assert!(rt; trouble == Trouble { problem, place: 11 });
+    Ok(())
+}
