@@ -3,3 +3,4 @@ pub mod OpenElements
 pub mod Reasons
 pub mod Checking
 pub mod Laws
+pub mod Warnings

@@ -12,9 +12,11 @@ mod message;
 mod position;
 mod reason;
 mod reasons;
+mod warning;
 
 pub use checker::{Fault, check};
 pub use elements::Opened;
 pub use message::Message;
 pub use position::{Position, position_of};
 pub use reason::Reason;
+pub use warning::Warning;

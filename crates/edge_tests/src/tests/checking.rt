@@ -1,11 +1,12 @@
 // Faults of templates in words: each with its line and column, told by hand.
 use super::headers::written_out;
 use edge_types::{NoMemory, SharedBytes};
-use esi_scanner::{Problem, Trouble, trouble_at};
+use esi_scanner::{Kind, Problem, Trouble, scan, trouble_at};
 use std::alloc::Global;
+use std::fmt::Write;
 use std::process::Abort;
 use std::test::Fail;
-use template_check::{Message, Position, check, position_of};
+use template_check::{Message, Position, Warning, check, position_of};
 
 const TAGS: &str = r#"a<esi:bogus/> => 1:7: error: no element has the name `bogus`
 <esi:include src=/x/> => 1:14: error: the value of the attribute `src` needs quotes
@@ -105,5 +106,46 @@ fn a_malformed_tag_has_its_trouble(rt: HostRuntime) -> Result<(), Fail> {
     let trouble = trouble_at(rt.alloc(), b"a<esi:vars b/>", 1)?;
     let problem = Problem::NoEquals;
     assert!(rt; trouble == Trouble { problem, place: 11 });
+    Ok(())
+}
+
+// What the tags of a text are warned of, each behind the tag's place.
+fn warned(alloc: Global, text: &str) -> Result<String, NoMemory> {
+    let mut out = String::new(alloc);
+    let Ok(tokens) = scan(alloc, text.as_bytes()) else {
+        return Ok(out);
+    };
+    for token in &tokens {
+        if let Kind::Open(tag) = &token.kind {
+            for warning in &Warning::ALL {
+                if warning.is_of(tag) {
+                    write!(out, "{}: {warning}; ", token.span.start)?;
+                }
+            }
+        }
+    }
+    Ok(out)
+}
+
+#[test]
+fn tags_are_warned_of(rt: HostRuntime) -> Result<(), Fail> {
+    for (text, wanted) in [
+        (r#"<esi:include src="/x" alt="" onerror="continue"/>"#, ""),
+        (
+            r#"a<esi:include src="" onerror="ignore"/>"#,
+            "1: `onerror` says nothing here: its one value is `continue`; 1: an empty `src` asks for this page itself; ",
+        ),
+        (
+            r#"<esi:vars src="" onerror="" ttl="1"/>"#,
+            "0: an attribute here says nothing: the language doesn't name it; ",
+        ),
+        (
+            r#"<esi:include src="https://a.test/x"/>"#,
+            "0: `https:` is never asked: this include can only fail; ",
+        ),
+    ] {
+        let found = warned(rt.alloc(), text)?;
+        assert_eq!(rt; found.as_str(), wanted, "in {text}");
+    }
     Ok(())
 }
