@@ -45,7 +45,8 @@ pub struct HyperSource {
 }
 
 impl HyperSource {
-    /// A source that asks these origins, of an authority the first. A fetch may take this long from
+    /// A source that asks these origins, of an authority the first; one of the authority `*` is asked
+    /// where no other has it. A fetch may take this long from
     /// connecting to the last byte; without a limit as long as the origin takes.
     ///
     /// Refused where the system has no keys for the maps of fields.
