@@ -1,0 +1,6 @@
+use Rattle.std.proofs.Common.{map, take}
+use Rattle.edge_setup.specs.Words.{AreOrigins}
+use Rattle.edge_setup.proofs.origins.origins_in.Given as goal
+
+abbrev pub invariant-loop-word : goal.invariant-loop-word
+invariant-loop-word l = AreOrigins (map (λ word. word.now) (take l.word-index l.words)) l.origins.items

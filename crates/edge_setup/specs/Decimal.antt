@@ -1,0 +1,12 @@
+-- Decimal numbers: one digit or more, with any number of leading zeros.
+use Rattle.std.specs.Prelude.{◌≡◌, ◌&&◌, nat_lt, nat_le, ℕ, Bool, List, length, Option, Some, None, if◌then◌else◌}
+use Rattle.std.specs.List.{list_all}
+use Rattle.std.specs.Char.{is_ascii_digit}
+use Rattle.std.specs.Str.Parse.{digits_value}
+
+abbrev pub is_decimal : List ℕ → Bool
+is_decimal text = nat_lt 0 (length text) && list_all is_ascii_digit text
+
+-- the number that a text writes, where it is at most so large
+unfoldable pub decimal_of : List ℕ → ℕ → Option ℕ
+decimal_of text most = if is_decimal text && nat_le (digits_value 10 text) most then Some (digits_value 10 text) else None

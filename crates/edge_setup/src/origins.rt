@@ -1,0 +1,79 @@
+//! The origins that the words of `serve` name.
+ghost use Rattle.std.specs.Prelude.{◌≡◌, map, codes, [], ◌∷◌, ◌++◌, IfOk, IfSome, IsTrue};
+ghost use Rattle.clap.specs.Words.{all_of, found_of, rows_of};
+ghost use Rattle.edge_setup.specs.Words.{AreOrigins, NamesOrigin, SayOrigins};
+
+use crate::setup::Origin;
+use clap::ArgMatches;
+use edge_types::around;
+use std::alloc::{AllocError, Global};
+use std::net::SocketAddr;
+
+/// The origins that `--origin` names; none where a word names none, or an authority stands twice.
+pub(crate) fn origins_of(
+    alloc: Global,
+    matches: &ArgMatches<'_>,
+) -> Result<Option<Vec<Origin>>, AllocError>
+    ensures { IfOk result (λ found. IfSome found (λ origins. SayOrigins (all_of (codes "origin") (rows_of (found_of matches.now))) origins.items)) }
+{
+    match matches.get_raw("origin") {
+        Some(words) => origins_in(alloc, words),
+        None => Ok(Some(Vec::new(alloc))),
+    }
+}
+
+// The origins that words are.
+fn origins_in(alloc: Global, words: &[&str]) -> Result<Option<Vec<Origin>>, AllocError>
+    ensures { IfOk result (λ found. IfSome found (λ origins. AreOrigins (map (λ word. word.now) words.now) origins.items)) }
+{
+    let mut origins = Vec::new(alloc);
+    for word in words {
+        let Some(origin) = origin_of(alloc, word)? else {
+            return Ok(None);
+        };
+        if !add(&mut origins, origin)? {
+            return Ok(None);
+        }
+    }
+    Ok(Some(origins))
+}
+
+// Adds an origin, where none has its authority.
+fn add(origins: &mut Vec<Origin>, origin: Origin) -> Result<bool, AllocError>
+    ensures { IfOk result (λ added. IsTrue added → origins.new.items ≡ origins.old.items ++ origin ∷ []) }
+{
+    if has(origins.as_slice(), origin.authority.as_slice()) {
+        return Ok(false);
+    }
+    match origins.push(origin) {
+        Ok(()) => Ok(true),
+        Err(_) => Err(AllocError),
+    }
+}
+
+// Whether an origin has this authority.
+fn has(origins: &[Origin], authority: &[u8]) -> bool {
+    origins
+        .iter()
+        .any(|origin| origin.authority.as_slice() == authority)
+}
+
+// The origin that a word is.
+fn origin_of(alloc: Global, word: &str) -> Result<Option<Origin>, AllocError>
+    ensures { IfOk result (λ found. IfSome found (λ origin. NamesOrigin word.now origin.authority.items origin.address)) }
+{
+    let Some((authority, address)) = named_in(word.as_bytes()) else {
+        return Ok(None);
+    };
+    let authority = authority.to_vec(alloc)?;
+    Ok(Some(Origin { authority, address }))
+}
+
+// The authority that a word names, and its address.
+fn named_in(word: &[u8]) -> Option<(&[u8], SocketAddr)>
+    ensures { IfSome result (λ both. NamesOrigin word.now both.0.now both.1) }
+{
+    let (authority, address) = around(b'=', word)?;
+    let address = SocketAddr::parse_ascii(address).ok()?;
+    Some((authority, address))
+}

@@ -1,0 +1,107 @@
+//! What a server is told.
+
+ghost use Rattle.std.specs.Prelude.{◌≡◌};
+ghost use Rattle.edge_setup.specs.declared.setup.SetupFault.TheVariants as fault;
+
+use std::alloc::AllocError;
+use std::net::SocketAddr;
+
+/// An authority, and the address at which it is asked.
+#[derive(Drop)]
+pub struct Origin {
+    /// The host, with `:port` where that isn't 80, or `*` for every other authority.
+    pub authority: Vec<u8>,
+    /// Where it listens.
+    pub address: SocketAddr,
+}
+
+/// How pages are assembled and kept.
+#[derive(Clone, Copy)]
+pub struct Pages {
+    /// The threads that may work for a page.
+    pub workers: u32,
+    /// How many slots posts may open ahead.
+    pub ahead: u32,
+    /// The levels of includes under a page.
+    pub levels: u32,
+    /// The answers that each shard of the cache keeps.
+    pub capacity: u32,
+}
+
+/// How connections are served.
+#[derive(Clone, Copy)]
+pub struct Serving {
+    /// After so many connections the server ends.
+    pub accept: u64,
+    /// The milliseconds that a fetch may take; 0 for no limit.
+    pub timeout: u32,
+    /// The milliseconds that a client may take; 0 for no limit.
+    pub client_timeout: u32,
+    /// The connections that are served at once.
+    pub threads: u32,
+    /// Whether each request is told on standard error.
+    pub logs: bool,
+}
+
+/// What the words of `serve` ask for.
+#[derive(Drop)]
+pub struct Setup {
+    /// Where the server listens.
+    pub listen: SocketAddr,
+    /// The origins, no two of one authority.
+    pub origins: Vec<Origin>,
+    /// How pages are assembled and kept.
+    pub pages: Pages,
+    /// How connections are served.
+    pub serving: Serving,
+}
+
+/// The options of `serve` whose words may be no use.
+#[derive(Clone, Copy, Drop, PartialEq, Eq)]
+pub enum Named {
+    /// `--listen`: no address.
+    Listen,
+    /// `--origin`: no authority with an address, or one that stands twice.
+    Origin,
+    /// `--workers`: no number within the limits.
+    Workers,
+    /// `--ahead`: no number within the limits.
+    Ahead,
+    /// `--levels`: no number within the limits.
+    Levels,
+    /// `--capacity`: no number within the limits.
+    Capacity,
+    /// `--accept`: no number within the limits.
+    Accept,
+    /// `--timeout`: no number within the limits.
+    Timeout,
+    /// `--client-timeout`: no number within the limits.
+    ClientTimeout,
+    /// `--threads`: no number within the limits.
+    Threads,
+}
+
+/// Why the words of `serve` ask for nothing.
+#[derive(Clone, Copy, Drop, PartialEq, Eq)]
+pub enum SetupFault {
+    /// What an option says is no use.
+    Wrong(Named),
+    /// A growth was refused.
+    NoMemory,
+}
+
+impl From<Named> for SetupFault {
+    ghost from_gives = { λ named refusal. refusal ≡ fault.Wrong named };
+
+    fn from(named: Named) -> SetupFault {
+        SetupFault::Wrong(named)
+    }
+}
+
+impl From<AllocError> for SetupFault {
+    ghost from_gives = { λ _ refusal. refusal ≡ fault.NoMemory };
+
+    fn from(_: AllocError) -> SetupFault {
+        SetupFault::NoMemory
+    }
+}
