@@ -7,18 +7,25 @@ use Rattle.edge_case.specs.declared.ending.CaseEnd.TheVariants.{PagePrinted, Fau
 use Rattle.edge_case.specs.declared.ending.CaseFault.{CaseFault}
 use Rattle.edge_case.specs.declared.ending.CaseFault.TheVariants.{BadCase, NoMemory, Read, Write}
 use Rattle.edge_case.specs.Run.{IsNoCase, Prints, PrintsPart}
+use Rattle.edge_setup.specs.declared.setup.Setup.{Setup}
 use Rattle.edge_main.specs.declared.asked.Asked.{Asked}
-use Rattle.edge_main.specs.declared.asked.Asked.TheVariants.{Case}
-use Rattle.edge_main.specs.CommandLine.{Asks}
+use Rattle.edge_main.specs.declared.asked.Asked.TheVariants.{Case, Serve}
+use Rattle.edge_main.specs.CommandLine.{Asks, AsksServe}
 use Rattle.edge_main.specs.Program.{AsksLevels, Ends}
 use Rattle.edge_main.specs.Status.{status_of}
 
--- the levels that are asked for
-abbrev pub levels_in : Asked → ℕ
-levels_in (Case order ahead levels) = levels
+-- a case is asked for, at so many levels
+abbrev pub IsCaseAt : ℕ → Asked → Type 0
+IsCaseAt levels (Case order ahead n) = n ≡ levels
+IsCaseAt levels (Serve setup) = ⊥
 
-pub asks_levels : (words : List Text) (levels : ℕ) (asked : Asked) → Asks words asked → levels_in asked ≡ levels → AsksLevels words levels
+pub asks_levels : (words : List Text) (levels : ℕ) (asked : Asked) → Asks words asked → IsCaseAt levels asked → AsksLevels words levels
 asks_levels words levels (Case order ahead n) asks same = subst (AsksLevels words) same (order.items, ahead, asks)
+asks_levels words levels (Serve setup) asks same = absurd same
+
+-- what is asked for, where it is to serve
+pub asks_to_serve : (words : List Text) (asked : Asked) (setup : Setup) → asked ≡ Serve setup → Asks words asked → AsksServe words setup
+asks_to_serve words asked setup is asks = subst (Asks words) is asks
 
 pub ends : (words : List Text) (levels : ℕ) (input before after : Option (List ℕ)) (ended : Result CaseEnd CaseFault) → IfOk ended (λ end. Prints levels input before after end)
     → (IsErrOf ended BadCase → IsNoCase input) → IfErr ended (λ e. e ≢ Write → Keeps before after) → (IsErrOf ended Write → PrintsPart levels input before after) → AsksLevels words levels

@@ -1,7 +1,7 @@
 -- The command line of the program, by `clap`'s definitions of commands.
 use Rattle.std.specs.Prelude.{◌≡◌, ◌≤◌, ℕ, true, nat_le, List, [], ◌∷◌, codes, Option, Some, None, option_and_then, if◌then◌else◌}
 use Rattle.std.specs.Str.{bytes_eq}
-use Rattle.clap.specs.Words.{App, Row, Rule, Text, HasKind, fault_of, first_of, new_app, new_rule, subcommand_of, with_rule, with_subcommand}
+use Rattle.clap.specs.Words.{App, Row, Text, HasKind, fault_of, first_of, new_app, subcommand_of, with_rule, with_subcommand}
 use Rattle.clap.specs.Simple.{on_top}
 use Rattle.esi_meaning.specs.declared.limits.TheConstants.{MIN_LEVELS, MAX_LEVELS}
 use Rattle.esi_meaning.specs.Meaning.{AreLevels}
@@ -9,20 +9,15 @@ use Rattle.plan_runner.specs.declared.events.Event.{Event}
 use Rattle.plan_runner.specs.declared.page.TheConstants.{MAX_AHEAD}
 use Rattle.edge_case.specs.Decimal.{decimal_of}
 use Rattle.edge_case.specs.Order.{events_of}
+use Rattle.edge_setup.specs.Command.{named_option, serve_command, with_default}
+use Rattle.edge_setup.specs.Words.{IsWithin as IsWithinPages, IsWrong, SaysSetup}
+use Rattle.edge_setup.specs.declared.setup.Setup.{Setup}
 use Rattle.edge_main.specs.declared.asked.Asked.{Asked}
-use Rattle.edge_main.specs.declared.asked.Asked.TheVariants.{Case}
+use Rattle.edge_main.specs.declared.asked.Asked.TheVariants.{Case, Serve}
 use Rattle.edge_main.specs.declared.asked.Refusal.{Refusal}
-use Rattle.edge_main.specs.declared.asked.Refusal.TheVariants.{Words, Order, Ahead, Levels, NoMemory}
+use Rattle.edge_main.specs.declared.asked.Refusal.TheVariants as refusal
 
 -- ---- the command
-
--- an option `--NAME` with one word
-abbrev pub named_option : Text → Rule
-named_option name = record (new_rule name) { long = Some name; value_names = 1 }
-
--- the same, with what it says where it isn't there
-abbrev pub with_default : Text → Rule → Rule
-with_default word option = record option { defaults = word ∷ [] }
 
 -- the subcommand `case`: `--order`, `--ahead`, which says 16, and `--levels`, which says 4 where it isn't there
 abbrev pub case_command : App
@@ -32,9 +27,9 @@ case_command =
     (with_default (codes "16") (named_option (codes "ahead"))))
     (with_default (codes "4") (named_option (codes "levels")))
 
--- the program, which wants its subcommand
+-- the program, which wants a subcommand: `case` or `serve`
 abbrev pub program : App
-program = with_subcommand (on_top (λ s. record s { subcommand_required = true }) (new_app (codes "esi_edge"))) case_command.top
+program = with_subcommand (with_subcommand (on_top (λ s. record s { subcommand_required = true }) (new_app (codes "esi_edge"))) case_command.top) serve_command.top
 
 -- ---- what the words say
 
@@ -65,16 +60,35 @@ pub record AsksOf (met : Option (Text × List Row)) (order : List Event) (ahead 
   pub ahead_is : ahead_of (word_of (codes "ahead") met) ≡ Some ahead
   pub levels_are : levels_of (word_of (codes "levels") met) ≡ Some levels
 
+-- what the rows of `serve` ask for
+abbrev pub IsAskedToServe : List Row → Asked → Type 0
+IsAskedToServe rows (Case order ahead levels) = ⊥
+IsAskedToServe rows (Serve setup) = SaysSetup rows setup
+
+-- the matches are those of `serve`, and ask for this
+pub record AsksServeOf (met : Option (Text × List Row)) (setup : Setup) : Type 0 where
+  pub rows : List Row
+  pub met_is : met ≡ Some (codes "serve", rows)
+  pub says : SaysSetup rows setup
+
 abbrev pub IsAsked : Option (Text × List Row) → Asked → Type 0
 IsAsked met (Case order ahead levels) = AsksOf met order.items ahead levels
+IsAsked met (Serve setup) = AsksServeOf met setup
+
+-- why the rows of `serve` ask for nothing
+abbrev pub IsRefusedToServe : List Row → Refusal → Type 0
+IsRefusedToServe rows (refusal.Serve option) = IsWrong rows option
+IsRefusedToServe rows refusal.NoMemory = Unit {0}
+IsRefusedToServe rows _ = ⊥
 
 -- why they ask for nothing: what an option says, or want of memory
 abbrev pub IsRefusedBy : Option (Text × List Row) → Refusal → Type 0
-IsRefusedBy met (Words error) = ⊥
-IsRefusedBy met Order = order_of (word_of (codes "order") met) ≡ None
-IsRefusedBy met Ahead = ahead_of (word_of (codes "ahead") met) ≡ None
-IsRefusedBy met Levels = levels_of (word_of (codes "levels") met) ≡ None
-IsRefusedBy met NoMemory = Unit {0}
+IsRefusedBy met (refusal.Words error) = ⊥
+IsRefusedBy met refusal.Order = order_of (word_of (codes "order") met) ≡ None
+IsRefusedBy met refusal.Ahead = ahead_of (word_of (codes "ahead") met) ≡ None
+IsRefusedBy met refusal.Levels = levels_of (word_of (codes "levels") met) ≡ None
+IsRefusedBy met (refusal.Serve option) = (rows : List Row) × (met ≡ Some (codes "serve", rows)) × IsWrong rows option
+IsRefusedBy met refusal.NoMemory = Unit {0}
 
 -- ---- what the words ask for
 
@@ -83,16 +97,23 @@ pub record AsksCase (words : List Text) (order : List Event) (ahead levels : ℕ
   pub taken : fault_of program words ≡ []
   pub says : AsksOf (subcommand_of program words) order ahead levels
 
+-- the words are those of `serve`, and ask for a server that is set up so
+pub record AsksServe (words : List Text) (setup : Setup) : Type 0 where
+  pub taken : fault_of program words ≡ []
+  pub says : AsksServeOf (subcommand_of program words) setup
+
 -- the words ask for this
 abbrev pub Asks : List Text → Asked → Type 0
 Asks words (Case order ahead levels) = AsksCase words order.items ahead levels
+Asks words (Serve setup) = AsksServe words setup
 
 -- the words are refused so: as `clap` defines it, or for what an option says, or memory ran out
 abbrev pub IsRefused : List Text → Refusal → Type 0
-IsRefused words (Words error) = HasKind (fault_of program words) error
-IsRefused words NoMemory = Unit {0}
-IsRefused words refusal = (fault_of program words ≡ []) × IsRefusedBy (subcommand_of program words) refusal
+IsRefused words (refusal.Words error) = HasKind (fault_of program words) error
+IsRefused words refusal.NoMemory = Unit {0}
+IsRefused words why = (fault_of program words ≡ []) × IsRefusedBy (subcommand_of program words) why
 
 -- the numbers are within their limits
 abbrev pub IsWithin : Asked → Type 0
 IsWithin (Case order ahead levels) = (ahead ≤ MAX_AHEAD) × AreLevels levels
+IsWithin (Serve setup) = IsWithinPages setup.pages

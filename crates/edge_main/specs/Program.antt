@@ -1,17 +1,27 @@
 -- What stands behind each way in which the program ends, over any reader and writer.
-use Rattle.std.specs.Prelude.{◌⊎◌, ℕ, List, Option}
+use Rattle.std.specs.Prelude.{◌≡◌, ◌⊎◌, ℕ, List, Option}
 use Rattle.std.specs.Io.KnownBytes.{Keeps}
 use Rattle.clap.specs.Words.{Text}
 use Rattle.edge_case.specs.declared.ending.CaseEnd.TheVariants.{PagePrinted, FaultPrinted}
 use Rattle.edge_case.specs.Run.{IsNoCase, Prints, PrintsPart}
 use Rattle.edge_main.specs.declared.status.Status.{Status}
-use Rattle.edge_main.specs.declared.status.Status.TheVariants.{Page, PageFault, Usage, BadOrder, BadAhead, BadLevels, NotText, BadCase, NoMemory, InputOutput}
+use Rattle.edge_main.specs.declared.status.Status.TheVariants.{Page, PageFault, Served, Usage, BadOrder, BadAhead, BadLevels, BadServe, NotText, BadCase, NoMemory, InputOutput}
 use Rattle.plan_runner.specs.declared.events.Event.{Event}
-use Rattle.edge_main.specs.CommandLine.{AsksCase}
+use Rattle.edge_setup.specs.Words.{IsWithin}
+use Rattle.edge_setup.specs.declared.setup.Setup.{Setup}
+use Rattle.edge_main.specs.declared.program.Done.{Done}
+use Rattle.edge_main.specs.declared.program.Done.TheVariants.{Ran, Serves}
+use Rattle.edge_main.specs.CommandLine.{AsksCase, AsksServe}
 
 -- the words ask for a case at so many levels, whatever its events and its slots ahead are
 abbrev pub AsksLevels : List Text → ℕ → Type 0
 AsksLevels words levels = (order : List Event) × (ahead : ℕ) × AsksCase words order ahead levels
+
+-- nothing was written, and the words ask to serve so
+pub record AsksToServe (words : List Text) (before after : Option (List ℕ)) (setup : Setup) : Type 0 where
+  pub asks : AsksServe words setup
+  pub within : IsWithin setup.pages
+  pub untouched : after ≡ before
 
 -- what was read and written, by the words of the command line, where the program ends so
 abbrev pub Ends : List Text → Option (List ℕ) → Option (List ℕ) → Option (List ℕ) → Status → Type 0
@@ -20,8 +30,20 @@ Ends words input before after PageFault = (levels : ℕ) × AsksLevels words lev
 Ends words input before after BadCase = IsNoCase input × Keeps before after
 Ends words input before after NoMemory = Keeps before after
 Ends words input before after InputOutput = Keeps before after ⊎ ((levels : ℕ) × AsksLevels words levels × PrintsPart levels input before after)
+Ends words input before after Served = ⊥
 Ends words input before after Usage = ⊥
 Ends words input before after BadOrder = ⊥
 Ends words input before after BadAhead = ⊥
 Ends words input before after BadLevels = ⊥
+Ends words input before after (BadServe option) = ⊥
 Ends words input before after NotText = ⊥
+
+-- the same of what came of the words
+abbrev pub Does : List Text → Option (List ℕ) → Option (List ℕ) → Option (List ℕ) → Done → Type 0
+Does words input before after (Ran status) = Ends words input before after status
+Does words input before after (Serves setup) = AsksToServe words before after setup
+
+-- what is to be served is within its limits
+abbrev pub AreLimits : Done → Type 0
+AreLimits (Ran status) = Unit {0}
+AreLimits (Serves setup) = IsWithin setup.pages

@@ -4,6 +4,7 @@ ghost use Rattle.std.specs.Prelude.{◌≡◌};
 ghost use Rattle.edge_main.specs.declared.asked.Refusal.TheVariants as refused;
 
 use clap::Error;
+use edge_setup::{Named, Setup};
 use edge_types::NoMemory;
 use plan_runner::Event;
 use std::alloc::AllocError;
@@ -20,6 +21,8 @@ pub(crate) enum Asked {
         /// The levels of includes under the page.
         levels: u8,
     },
+    /// `serve`: pages are to be served as it says.
+    Serve(Setup),
 }
 
 /// Why the words ask for nothing.
@@ -33,6 +36,8 @@ pub(crate) enum Refusal {
     Ahead,
     /// What `--levels` names is no number within the limits.
     Levels,
+    /// What an option of `serve` names is no use.
+    Serve(Named),
     /// A growth was refused.
     NoMemory,
 }

@@ -1,28 +1,18 @@
 //! The command line, judged whole before anything is read.
-ghost use Rattle.std.specs.Prelude.{◌≡◌, ◌≤◌, false, map, string_bytes, option_map, IfOk, IfSome, MatchResult};
+ghost use Rattle.std.specs.Prelude.{◌≡◌, ◌≤◌, codes, false, map, string_bytes, option_map, Some, IfOk, IfSome, MatchResult};
 ghost use Rattle.esi_meaning.specs.Meaning.{AreLevels};
-ghost use Rattle.clap.specs.Words.{app_of, rule_of, subcommand_rows_of};
+ghost use Rattle.clap.specs.Words.{app_of, found_of, rows_of, subcommand_rows_of};
 ghost use Rattle.clap.specs.declared.builder.command.Command.TheViews.{out-Command as fields_of};
-ghost use Rattle.edge_main.specs.CommandLine.{program, case_command, named_option, with_default, word_of, order_of, ahead_of, levels_of, Asks, IsRefused, IsAsked, IsRefusedBy, IsWithin};
+ghost use Rattle.edge_main.specs.CommandLine.{program, case_command, word_of, order_of, ahead_of, levels_of, Asks, IsRefused, IsAsked, IsAskedToServe, IsRefusedBy, IsRefusedToServe, IsWithin};
 
 use crate::asked::{Asked, Refusal};
-use clap::{Arg, ArgMatches, Command};
+use clap::{ArgMatches, Command};
 use edge_case::{decimal_of, read_events};
+use edge_setup::{SetupFault, option, serve_command, setup_of};
 use edge_types::NoMemory;
 use esi_meaning::{MAX_LEVELS, are_levels};
 use plan_runner::{Event, MAX_AHEAD};
 use std::alloc::{AllocError, Global};
-
-// An option `--NAME` with one word.
-fn option<'a>(alloc: Global, name: &'a str, value: &'a str, help: &'a str) -> Arg<'a>
-    ensures rule { rule_of result ≡ named_option name.entry.now }
-    ensures local { result.global ≡ false }
-{
-    Arg::new(alloc, name)
-        .long(name)
-        .value_name(value)
-        .help(help)
-}
 
 // The subcommand `case`.
 fn case_command<'a>(alloc: Global) -> Result<Command<'a>, AllocError>
@@ -61,11 +51,13 @@ fn command<'a>(alloc: Global) -> Result<Command<'a>, AllocError>
     ensures { IfOk result (λ command. app_of command ≡ program) }
 {
     let case = case_command(alloc)?;
+    let serve = serve_command(alloc)?;
     Command::new(alloc, "esi_edge")
         .bin_name("esi_edge")?
         .about("Assembles pages from templates of the ESI Language Specification 1.0")
         .subcommand_required(true)
-        .subcommand(case)
+        .subcommand(case)?
+        .subcommand(serve)
 }
 
 // What an option of `case` says.
@@ -109,6 +101,37 @@ fn levels_of(word: Option<&str>) -> Option<u8>
 
 // What the matches ask for.
 fn asked_by(alloc: Global, matches: &ArgMatches<'_>) -> Result<Asked, Refusal>
+    ensures judged { MatchResult result (IsAsked (subcommand_rows_of matches.now)) (IsRefusedBy (subcommand_rows_of matches.now)) }
+    ensures within { IfOk result IsWithin }
+{
+    match serve_matches(matches) {
+        Some(own) => serve_asked_by(alloc, own),
+        None => case_asked_by(alloc, matches),
+    }
+}
+
+// The matches of `serve`, where that is the subcommand.
+fn serve_matches<'b, 'a>(matches: &'b ArgMatches<'a>) -> Option<&'b ArgMatches<'a>>
+    ensures { IfSome result (λ own. subcommand_rows_of matches.now ≡ Some (codes "serve", rows_of (found_of own.now))) }
+{
+    let own = matches.subcommand_matches("serve")?;
+    Some(own)
+}
+
+// What the matches of `serve` ask for.
+fn serve_asked_by(alloc: Global, own: &ArgMatches<'_>) -> Result<Asked, Refusal>
+    ensures judged { MatchResult result (IsAskedToServe (rows_of (found_of own.now))) (IsRefusedToServe (rows_of (found_of own.now))) }
+    ensures within { IfOk result IsWithin }
+{
+    match setup_of(alloc, own) {
+        Ok(setup) => Ok(Asked::Serve(setup)),
+        Err(SetupFault::Wrong(option)) => Err(Refusal::Serve(option)),
+        Err(SetupFault::NoMemory) => Err(Refusal::NoMemory),
+    }
+}
+
+// What the matches of `case` ask for.
+fn case_asked_by(alloc: Global, matches: &ArgMatches<'_>) -> Result<Asked, Refusal>
     ensures judged { MatchResult result (IsAsked (subcommand_rows_of matches.now)) (IsRefusedBy (subcommand_rows_of matches.now)) }
     ensures within { IfOk result IsWithin }
 {

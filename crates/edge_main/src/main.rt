@@ -1,25 +1,32 @@
-//! The program `esi_edge`: it reads a case text, assembles its page and prints what that comes to.
+//! The program `esi_edge`: it reads a case text, assembles its page and prints what that comes to, or
+//! serves pages over HTTP.
 #![tactic(auto)]
 
 ghost use Rattle.clap.specs.Words.{kind_of};
+ghost use Rattle.edge_main.specs.Program.{AreLimits};
 ghost use Rattle.edge_main.specs.Status.{IsEndOf, IsRefusedAs};
 
 mod asked;
 mod command_line;
 pub mod laws;
 mod program;
+mod serving;
 mod status;
 
 use asked::Refusal;
 use clap::error::ErrorKind;
-use program::run_words;
+use program::{Done, run_words};
+use serving::serve;
 use status::Status;
 use std::io;
 use std::process::ExitCode;
 
 fn main(rt: HostRuntime) -> ExitCode {
     let status = match words(&rt) {
-        Ok(words) => run(&rt, words.as_slice()),
+        Ok(words) => match run(&rt, words.as_slice()) {
+            Done::Ran(status) => status,
+            Done::Serves(setup) => serve(&rt, setup),
+        },
         Err(status) => status,
     };
     if let Some(line) = status.line() {
@@ -37,11 +44,13 @@ fn words(rt: &HostRuntime) -> Result<Vec<String>, Status> {
     }
 }
 
-// Judges the words, and does what they ask for over standard input and output.
-fn run(rt: &HostRuntime, words: &[String]) -> Status {
+// Judges the words, and runs the case that they ask for over standard input and output.
+fn run(rt: &HostRuntime, words: &[String]) -> Done
+    ensures { AreLimits result }
+{
     match run_words(rt.alloc(), words, &mut rt.reader(), &mut io::writer(rt)) {
-        Ok(status) => status,
-        Err(refusal) => refused(rt, &refusal),
+        Ok(done) => done,
+        Err(refusal) => Done::Ran(refused(rt, &refusal)),
     }
 }
 
@@ -54,6 +63,7 @@ fn refused(rt: &HostRuntime, refusal: &Refusal) -> Status
         Refusal::Order => Status::BadOrder,
         Refusal::Ahead => Status::BadAhead,
         Refusal::Levels => Status::BadLevels,
+        Refusal::Serve(option) => Status::BadServe(*option),
         Refusal::NoMemory => Status::NoMemory,
     }
 }

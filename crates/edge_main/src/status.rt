@@ -1,9 +1,10 @@
 //! Exit statuses.
 ghost use Rattle.std.specs.Prelude.{◌≡◌, option_map};
 ghost use Rattle.std.specs.Process.{exit_status};
-ghost use Rattle.edge_main.specs.Status.{code_of, help_status, line_of, status_of};
+ghost use Rattle.edge_main.specs.Status.{code_of, help_status, line_of, status_of, text_of};
 
 use edge_case::{CaseEnd, CaseFault};
+use edge_setup::Named;
 use std::io;
 use std::process::ExitCode;
 
@@ -14,6 +15,8 @@ pub(crate) enum Status {
     Page,
     /// A page's fault was printed.
     PageFault,
+    /// The server has served so many connections as it was to.
+    Served,
     /// The command line is no use of the program.
     Usage,
     /// What `--order` names is no list of events.
@@ -22,6 +25,8 @@ pub(crate) enum Status {
     BadAhead,
     /// What `--levels` names is no number within the limits.
     BadLevels,
+    /// What an option of `serve` names is no use.
+    BadServe(Named),
     /// A word of the command line isn't UTF-8.
     NotText,
     /// Standard input is no case text.
@@ -61,12 +66,13 @@ impl Status {
         ensures { exit_status result ≡ code_of self }
     {
         ExitCode::from(match self {
-            Status::Page => 0,
+            Status::Page | Status::Served => 0,
             Status::PageFault => 1,
             Status::Usage
             | Status::BadOrder
             | Status::BadAhead
             | Status::BadLevels
+            | Status::BadServe(_)
             | Status::NotText => 2,
             Status::BadCase => 3,
             Status::NoMemory => 4,
@@ -85,10 +91,31 @@ impl Status {
             ),
             Status::BadAhead => Some("error: --ahead takes a number from 0 to 256"),
             Status::BadLevels => Some("error: --levels takes a number from 1 to 8"),
+            Status::BadServe(option) => Some(text_of(option)),
             Status::BadCase => Some("bad case text"),
             Status::NoMemory => Some("no memory"),
             Status::InputOutput => Some("input or output failed"),
-            Status::Page | Status::PageFault | Status::Usage => None,
+            Status::Page | Status::PageFault | Status::Served | Status::Usage => None,
         }
+    }
+}
+
+// What an option of `serve` takes.
+fn text_of(option: Named) -> &'static str
+    ensures { result.now ≡ text_of option }
+{
+    match option {
+        Named::Listen => "error: --listen takes an address with a port, as 127.0.0.1:8080",
+        Named::Origin => {
+            "error: --origin takes AUTHORITY=ADDR, each authority once, as a.test=127.0.0.1:8080"
+        }
+        Named::Workers => "error: --workers takes a number from 1 to 16",
+        Named::Ahead => "error: --ahead takes a number from 0 to 256",
+        Named::Levels => "error: --levels takes a number from 1 to 8",
+        Named::Capacity => "error: --capacity takes a number from 1 to 1024",
+        Named::Accept => "error: --accept takes a number below 2 to the power of 64",
+        Named::Timeout => "error: --timeout takes milliseconds, from 0 to 86400000",
+        Named::ClientTimeout => "error: --client-timeout takes milliseconds, from 0 to 86400000",
+        Named::Threads => "error: --threads takes a number from 1 to 64",
     }
 }

@@ -1,6 +1,6 @@
-use Rattle.std.proofs.Common.{◌≡◌, map, string_bytes, [], ap, sym, subst, ◌∙◌}
+use Rattle.std.proofs.Common.{◌≡◌, map, string_bytes, [], ap, sym, subst, ◌∙◌, rules}
 use Rattle.std.specs.Prelude.{MatchResult, List, Option}
-use Rattle.clap.specs.Words.{App, Row, Text, fault_of, is_simple, is_simple_and_free, subcommand_of}
+use Rattle.clap.specs.Words.{App, HasKind, Row, Text, fault_of, is_simple, is_simple_and_free, subcommand_of}
 use Rattle.edge_main.specs.CommandLine.{program, IsAsked, IsRefusedBy}
 use Rattle.edge_main.proofs.Matches.{program_is_simple, program_is_free, judged}
 use Rattle.edge_main.proofs.command_line.asked.Goals as goal
@@ -13,3 +13,11 @@ returns-clause-judged c =
     let taken : fault_of program words ≡ [] = sym (ap (λ (a : App). fault_of a words) is) ∙ c.in_ok-matches.ensures.kinds (ap is_simple_and_free is ∙ program_is_free) in
     judged words c.asked_by.result taken
     (subst (λ (m : Option (Text × List Row)). MatchResult c.asked_by.result (IsAsked m) (IsRefusedBy m)) met c.asked_by.ensures.judged)
+
+pub returns-in_err-matches-clause-judged : goal.returns-in_err-matches-clause-judged
+returns-in_err-matches-clause-judged c =
+    let words = map string_bytes c.args.words.now in
+    let is = c.in_ok-command.ensures in
+    let kinds = c.in_err-matches.ensures.kinds (ap is_simple_and_free is ∙ program_is_free) in
+    let refused : HasKind (fault_of program words) c.in_err-matches.field-0.0 = subst (λ (a : App). HasKind (fault_of a words) c.in_err-matches.field-0.0) is kinds in
+    search rules

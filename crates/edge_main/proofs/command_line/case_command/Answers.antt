@@ -3,7 +3,7 @@ use Rattle.std.proofs.lemmas.Result.{IfOk-weaker}
 use Rattle.clap.specs.Words.{app_of, new_app, rule_of, with_rule}
 use Rattle.clap.specs.Simple.{app_of_fields}
 use Rattle.clap.specs.declared.builder.command.Command.TheViews.{out-Command as fields_of}
-use Rattle.edge_main.specs.CommandLine.{named_option, with_default}
+use Rattle.edge_setup.specs.Command.{named_option, with_default}
 use Rattle.edge_main.proofs.command_line.case_command.Goals as goal
 
 pub returns-clause-app : goal.returns-clause-app
