@@ -13,8 +13,9 @@ pub fn serve_command<'a>(alloc: Global) -> Result<Command<'a>, AllocError>
     ensures app { IfOk result (λ command. app_of command ≡ serve_command) }
     ensures local { IfOk result (λ command. (fields_of command).has_globals ≡ false) }
 {
-    let command = Command::new(alloc, "serve")
-        .about("Serves pages over HTTP/1.1, assembled of what origins answer");
+    let command = Command::new(alloc, "serve").about(
+        "Serves pages over HTTP/1.1, assembled of what origins answer",
+    );
     let command = with_addresses(alloc, command)?;
     let command = with_pages(alloc, command)?;
     let command = with_serving(alloc, command)?;

@@ -28,11 +28,7 @@ fn number_in(word: Option<&str>, least: u32, most: u32) -> Option<u32>
     ensures few { IfSome result (λ number. number ≤ most) }
 {
     let number = decimal_of(word?.as_bytes(), u64::from(most))? as u32;
-    if least <= number {
-        Some(number)
-    } else {
-        None
-    }
+    if least <= number { Some(number) } else { None }
 }
 
 // After how many connections the server ends.
