@@ -1,5 +1,5 @@
 -- Decimal numbers: one digit or more, with any number of leading zeros.
-use Rattle.std.specs.Prelude.{◌≡◌, ◌&&◌, nat_lt, nat_le, ℕ, Bool, List, length, Option, Some, None, if◌then◌else◌}
+use Rattle.std.specs.Prelude.{◌&&◌, nat_lt, nat_le, ℕ, Bool, List, length, Option, Some, None, if◌then◌else◌}
 use Rattle.std.specs.List.{list_all}
 use Rattle.std.specs.Char.{is_ascii_digit}
 use Rattle.std.specs.Str.Parse.{digits_value}

@@ -1,3 +1,4 @@
 pub mod Decimal
 pub mod Command
 pub mod Words
+pub mod Origins

@@ -1,6 +1,7 @@
 -- What the options of `serve` say, by the rows of `clap`'s matches.
-use Rattle.std.specs.Prelude.{◌≡◌, ◌≤◌, ℕ, ◌^◌, ◌-◌, Bool, true, false, nat_le, bytes_eq, List, [], ◌∷◌, map, codes, Option, Some, None, option_map, option_and_then, if◌then◌else◌}
+use Rattle.std.specs.Prelude.{◌≡◌, ◌≤◌, ℕ, Bool, false, nat_le, ◌||◌, bytes_eq, List, [], ◌∷◌, map, codes, Option, Some, None, option_and_then, if◌then◌else◌}
 use Rattle.std.specs.Str.{byte}
+use Rattle.std.specs.List.{list_any}
 use Rattle.std.specs.Option.{option_map_or}
 use Rattle.std.specs.Net.Grammar.{IsSocketText}
 use Rattle.std.specs.declared.net.socket_addr.SocketAddr.{SocketAddr}
@@ -59,10 +60,23 @@ AreOrigins [] (o ∷ os) = ⊥
 AreOrigins (w ∷ ws) [] = ⊥
 AreOrigins (w ∷ ws) (o ∷ os) = NamesOrigin w o.authority.items o.address × AreOrigins ws os
 
--- the words of the option are these origins; without the option there is none
+-- a text stands twice among these
+abbrev pub stands_twice : List Text → Bool
+stands_twice [] = false
+stands_twice (t ∷ ts) = list_any (bytes_eq t) ts || stands_twice ts
+
+-- what origins are asked for by
+abbrev pub authorities : List Origin → List Text
+authorities origins = map (λ origin. origin.authority.items) origins
+
+-- the words of the option are these origins, each authority once; without the option there is none
 abbrev pub SayOrigins : Option (List Text) → List Origin → Type 0
 SayOrigins None origins = origins ≡ []
-SayOrigins (Some words) origins = AreOrigins words origins
+SayOrigins (Some words) origins = AreOrigins words origins × (stands_twice (authorities origins) ≡ false)
+
+-- the words of the option are no such origins
+abbrev pub SayNoOrigins : Option (List Text) → Type 0
+SayNoOrigins words = (origins : List Origin) → SayOrigins words origins → ⊥
 
 -- ---- the options
 
@@ -91,7 +105,7 @@ pub record SaysSetup (rows : List Row) (setup : Setup) : Type 0 where
 -- what an option says is no use
 abbrev pub IsWrong : List Row → Named → Type 0
 IsWrong rows named.Listen = (address : SocketAddr) → IsAddress (first_of (codes "listen") rows) address → ⊥
-IsWrong rows named.Origin = Unit {0}
+IsWrong rows named.Origin = SayNoOrigins (all_of (codes "origin") rows)
 IsWrong rows named.Workers = number_in 1 16 (first_of (codes "workers") rows) ≡ None
 IsWrong rows named.Ahead = number_in 0 256 (first_of (codes "ahead") rows) ≡ None
 IsWrong rows named.Levels = number_in 1 8 (first_of (codes "levels") rows) ≡ None

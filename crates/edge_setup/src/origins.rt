@@ -1,7 +1,8 @@
 //! The origins that the words of `serve` name.
-ghost use Rattle.std.specs.Prelude.{◌≡◌, map, codes, [], ◌∷◌, ◌++◌, IfOk, IfSome, IsTrue};
+ghost use Rattle.std.specs.Prelude.{◌≡◌, map, codes, not, [], ◌∷◌, ◌++◌, Some, IfOk, IsTrue, MatchOption};
 ghost use Rattle.clap.specs.Words.{all_of, found_of, rows_of};
-ghost use Rattle.edge_setup.specs.Words.{AreOrigins, NamesOrigin, SayOrigins};
+ghost use Rattle.edge_setup.specs.Words.{NamesOrigin};
+ghost use Rattle.edge_setup.specs.Origins as spec;
 
 use crate::setup::Origin;
 use clap::ArgMatches;
@@ -14,7 +15,7 @@ pub(crate) fn origins_of(
     alloc: Global,
     matches: &ArgMatches<'_>,
 ) -> Result<Option<Vec<Origin>>, AllocError>
-    ensures { IfOk result (λ found. IfSome found (λ origins. SayOrigins (all_of (codes "origin") (rows_of (found_of matches.now))) origins.items)) }
+    ensures { IfOk result (spec.AreFound (all_of (codes "origin") (rows_of (found_of matches.now)))) }
 {
     match matches.get_raw("origin") {
         Some(words) => origins_in(alloc, words),
@@ -24,7 +25,7 @@ pub(crate) fn origins_of(
 
 // The origins that words are.
 fn origins_in(alloc: Global, words: &[&str]) -> Result<Option<Vec<Origin>>, AllocError>
-    ensures { IfOk result (λ found. IfSome found (λ origins. AreOrigins (map (λ word. word.now) words.now) origins.items)) }
+    ensures { IfOk result (spec.AreFound (Some (map (λ word. word.now) words.now))) }
 {
     let mut origins = Vec::new(alloc);
     for word in words {
@@ -40,7 +41,8 @@ fn origins_in(alloc: Global, words: &[&str]) -> Result<Option<Vec<Origin>>, Allo
 
 // Adds an origin, where none has its authority.
 fn add(origins: &mut Vec<Origin>, origin: Origin) -> Result<bool, AllocError>
-    ensures { IfOk result (λ added. IsTrue added → origins.new.items ≡ origins.old.items ++ origin ∷ []) }
+    ensures new { IfOk result (λ added. added ≡ not (spec.has origin.authority.items origins.old.items)) }
+    ensures more { IfOk result (λ added. IsTrue added → origins.new.items ≡ origins.old.items ++ origin ∷ []) }
 {
     if has(origins.as_slice(), origin.authority.as_slice()) {
         return Ok(false);
@@ -52,7 +54,9 @@ fn add(origins: &mut Vec<Origin>, origin: Origin) -> Result<bool, AllocError>
 }
 
 // Whether an origin has this authority.
-fn has(origins: &[Origin], authority: &[u8]) -> bool {
+fn has(origins: &[Origin], authority: &[u8]) -> bool
+    ensures { result ≡ spec.has authority.now origins.now }
+{
     origins
         .iter()
         .any(|origin| origin.authority.as_slice() == authority)
@@ -60,7 +64,7 @@ fn has(origins: &[Origin], authority: &[u8]) -> bool {
 
 // The origin that a word is.
 fn origin_of(alloc: Global, word: &str) -> Result<Option<Origin>, AllocError>
-    ensures { IfOk result (λ found. IfSome found (λ origin. NamesOrigin word.now origin.authority.items origin.address)) }
+    ensures { IfOk result (λ found. MatchOption found (spec.IsNoOrigin word.now) (λ origin. NamesOrigin word.now origin.authority.items origin.address)) }
 {
     let Some((authority, address)) = named_in(word.as_bytes()) else {
         return Ok(None);
@@ -71,7 +75,7 @@ fn origin_of(alloc: Global, word: &str) -> Result<Option<Origin>, AllocError>
 
 // The authority that a word names, and its address.
 fn named_in(word: &[u8]) -> Option<(&[u8], SocketAddr)>
-    ensures { IfSome result (λ both. NamesOrigin word.now both.0.now both.1) }
+    ensures { MatchOption result (spec.IsNoOrigin word.now) (λ both. NamesOrigin word.now both.0.now both.1) }
 {
     let (authority, address) = around(b'=', word)?;
     let address = SocketAddr::parse_ascii(address).ok()?;

@@ -1,18 +1,38 @@
-use Rattle.std.proofs.Common.{◌≡◌, ◌++◌, ◌∷◌, rules, subst, get_or, [], Bor, List, Option, IfSome}
+use Rattle.std.proofs.Common.{◌≡◌, ◌++◌, ◌∷◌, rules, subst, sym, get_or, [], true, false, Bor, List, Option, MatchOption}
 use Rattle.clap.specs.Words.{Text}
 use Rattle.edge_setup.specs.declared.setup.Origin.{Origin}
-use Rattle.edge_setup.specs.Words.{NamesOrigin}
-use Rattle.edge_setup.proofs.OriginLists.{origins_next}
+use Rattle.edge_setup.specs.Origins.{IsNoOrigin, has}
+use Rattle.edge_setup.specs.Words.{AreOrigins, NamesOrigin, authorities, stands_twice}
+use Rattle.edge_setup.proofs.OriginLists.{none_named, once_next, origins_next, twice_named}
 use Rattle.edge_setup.proofs.origins.origins_in.Goals as goal
 
 abbrev none : Bor Text
 none = record { ref_ptr = (0, 0); now = [] }
 
+-- what a word was read as
+abbrev Reads : Text → Option Origin → Type 0
+Reads word found = MatchOption found (IsNoOrigin word) (λ o. NamesOrigin word o.authority.items o.address)
+
+pub returns-in_default : goal.returns-in_default
+returns-in_default c =
+    let word : Text = (get_or c.args.words.now c.loop-word.word-index none).now in
+    let no : IsNoOrigin word = subst (Reads word) c.in_default.is c.in_ok-origin.ensures in
+    none_named c.args.words.now c.loop-word.word-index none c.loop-word-test.true no
+
+pub returns-then-not-branch : goal.returns-then-not-branch
+returns-then-not-branch c =
+    let word : Text = (get_or c.args.words.now c.loop-word.word-index none).now in
+    let origin = c.in-Some.origin in
+    let named : NamesOrigin word origin.authority.items origin.address = subst (Reads word) c.in-Some.is c.in_ok-origin.ensures in
+    let stands : has origin.authority.items c.loop-word.origins.items ≡ true = search rules in
+    twice_named c.args.words.now c.loop-word.word-index none c.loop-word.origins.items origin c.loop-word-test.true c.loop-word.invariant.0 named stands
+
 pub loop-word-preserved : goal.loop-word-preserved
 loop-word-preserved c =
-    let words = c.args.words.now in
-    let word : Text = (get_or words c.loop-word.word-index none).now in
+    let word : Text = (get_or c.args.words.now c.loop-word.word-index none).now in
     let origin = c.in-Some.origin in
-    let named : NamesOrigin word origin.authority.items origin.address = subst (λ (found : Option Origin). IfSome found (λ o. NamesOrigin word o.authority.items o.address)) c.in-Some.is c.in_ok-origin.ensures in
+    let named : NamesOrigin word origin.authority.items origin.address = subst (Reads word) c.in-Some.is c.in_ok-origin.ensures in
     let more : c.add.new.origins.items ≡ c.loop-word.origins.items ++ origin ∷ [] = search rules in
-    origins_next words c.loop-word.word-index none c.loop-word.origins.items c.add.new.origins.items origin c.loop-word-test.true c.loop-word.invariant named more
+    let new : has origin.authority.items c.loop-word.origins.items ≡ false = search rules in
+    ( subst (AreOrigins _) (sym more) (origins_next c.args.words.now c.loop-word.word-index none c.loop-word.origins.items origin c.loop-word-test.true c.loop-word.invariant.0 named)
+    , subst (λ (origins : List Origin). stands_twice (authorities origins) ≡ false) (sym more) (once_next c.loop-word.origins.items origin c.loop-word.invariant.1 new) )
