@@ -1,7 +1,8 @@
-//! What the words of `serve` say: which command line it has, and the addresses, origins and numbers
-//! that its options name.
+//! What the words of `serve` and of `check` say: which command lines they have, the addresses, origins and
+//! numbers that the options of `serve` name, and the files that are to be checked.
 #![tactic(auto)]
 
+mod check;
 mod command;
 mod decimal;
 mod options;
@@ -9,6 +10,7 @@ mod origins;
 mod setup;
 mod words;
 
+pub use check::{Checking, check_command, checking_of};
 pub use command::serve_command;
 pub use decimal::decimal_of;
 pub use options::{option, with_option};

@@ -14,8 +14,8 @@ use std::net::SocketAddr;
 // The most milliseconds of a limit: a day.
 const MAX_TIME: u32 = 86_400_000;
 
-// What an option says.
-fn word_of<'a>(matches: &ArgMatches<'a>, name: &str) -> Option<&'a str>
+/// What an option says.
+pub(crate) fn word_of<'a>(matches: &ArgMatches<'a>, name: &str) -> Option<&'a str>
     ensures { option_map (λ word. word.now) result ≡ first_of name.now (rows_of (found_of matches.now)) }
 {
     matches.get_str(name)
@@ -48,8 +48,8 @@ fn address_of(word: Option<&str>) -> Option<SocketAddr>
     word?.parse().ok()
 }
 
-// Whether a flag is there.
-fn is_set(word: Option<&str>) -> bool
+/// Whether a flag is there.
+pub(crate) fn is_set(word: Option<&str>) -> bool
     ensures { result ≡ is_set (option_map (λ w. w.now) word.entry) }
 {
     match word {
