@@ -1,2 +1,3 @@
 pub mod ElementLemmas
 pub mod PositionLemmas
+pub mod WarnedLemmas

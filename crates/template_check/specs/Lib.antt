@@ -4,3 +4,5 @@ pub mod Reasons
 pub mod Checking
 pub mod Laws
 pub mod Warnings
+pub mod Warned
+pub mod Report

@@ -1,5 +1,6 @@
 -- What a tag says that is no fault, and hardly meant.
-use Rattle.std.specs.Prelude.{ℕ, Bool, true, false, not, ◌&&◌, ◌==◌, List, length, codes, bytes_eq, Option, Some, None}
+use Rattle.std.specs.Prelude.{ℕ, Bool, true, false, not, ◌&&◌, ◌==◌, List, [], ◌∷◌, length, codes, bytes_eq, Option, Some, None, if◌then◌else◌}
+use Rattle.std.specs.Str.{byte}
 use Rattle.std.specs.List.{list_any}
 use Rattle.esi_scanner.specs.declared.attribute.Attribute.{Attribute}
 use Rattle.esi_scanner.specs.declared.attribute.AttributeName.{AttributeName}
@@ -16,6 +17,10 @@ use Rattle.template_check.specs.declared.warning.Warning.TheVariants as warning
 abbrev pub is_include : ElementName → Bool
 is_include element.Include = true
 is_include _ = false
+
+abbrev pub is_when : ElementName → Bool
+is_when element.When = true
+is_when _ = false
 
 -- whether a value is there that passes the test
 abbrev passes : (List ℕ → Bool) → Option (List ℕ) → Bool
@@ -41,9 +46,25 @@ is_source_empty attributes = passes (λ value. length value == 0) (value_of know
 abbrev pub is_source_secure : List Attribute → Bool
 is_source_secure attributes = passes (λ value. begins_with value (codes "https:")) (value_of known.Src attributes)
 
--- whether a tag is to be warned of so
+-- whether `''` stands at the front, and no bar before it
+abbrev pub begins_empty : Bool → List ℕ → Bool
+begins_empty behind_bar text = not behind_bar && begins_with text (codes "''")
+
+-- whether `''` stands in a test, but directly behind a bar, where it is a default; whether a bar stands before the
+-- text is given
+unfoldable pub stands_empty : Bool → List ℕ → Bool
+stands_empty behind_bar [] = false
+stands_empty behind_bar (b ∷ bs) =
+    if begins_empty behind_bar (b ∷ bs) then true else stands_empty (b == byte "|") bs
+
+abbrev pub has_empty_text : List Attribute → Bool
+has_empty_text attributes = passes (stands_empty false) (value_of known.Test attributes)
+
+-- whether a tag is to be warned of so; what isn't of tags alone never is
 abbrev pub is_of : Warning → Tag → Bool
 is_of warning.OnError tag = is_include tag.name && is_idle_onerror tag.attributes
 is_of warning.UnknownAttribute tag = list_any is_unknown tag.attributes
 is_of warning.EmptySource tag = is_include tag.name && is_source_empty tag.attributes
 is_of warning.SecureSource tag = is_include tag.name && is_source_secure tag.attributes
+is_of warning.EmptyText tag = is_when tag.name && has_empty_text tag.attributes
+is_of _ tag = false

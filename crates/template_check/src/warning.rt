@@ -1,5 +1,5 @@
 // What is no fault of a template, and hardly meant.
-ghost use Rattle.std.specs.Prelude.{◌≡◌};
+ghost use Rattle.std.specs.Prelude.{◌≡◌, false};
 ghost use Rattle.std.specs.List.{list_any};
 ghost use Rattle.template_check.specs.Warnings as spec;
 
@@ -7,7 +7,7 @@ use esi_scanner::{Attribute, AttributeName, Attributes, ElementName, KnownAttrib
 use std::fmt;
 use std::fmt::Write;
 
-/// What a tag says that is no fault, and hardly meant.
+/// What a template says that is no fault, and hardly meant.
 #[derive(Clone, Copy, Debug, Drop, PartialEq, Eq)]
 pub enum Warning {
     /// An `onerror` of an include that isn't `continue`: it counts as absent.
@@ -18,18 +18,29 @@ pub enum Warning {
     EmptySource,
     /// A `src` that begins with `https:`, which is never asked.
     SecureSource,
+    /// A `''` in a test that is no default: a comparison with it is false.
+    EmptyText,
+    /// A reference in text that stands outside `vars`, where it isn't replaced.
+    IdleReference,
+    /// A reference to a variable that there isn't: it stands for its default, or for nothing.
+    UnknownVariable,
+    /// A `$(` with which no reference begins: it stands for itself.
+    NoReference,
+    /// Text that looks like a tag of the language, and is none.
+    TagInText,
 }
 
 impl Warning {
-    /// All of them.
-    pub const ALL: [Warning; 4] = [
+    /// Those that an opening tag alone shows.
+    pub const OF_TAGS: [Warning; 5] = [
         Warning::OnError,
         Warning::UnknownAttribute,
         Warning::EmptySource,
         Warning::SecureSource,
+        Warning::EmptyText,
     ];
 
-    /// Whether a tag is to be warned of so. Takes no memory.
+    /// Whether a tag is to be warned of so; never with a warning that isn't of tags alone. Takes no memory.
     pub fn is_of(self, tag: &Tag) -> bool
         ensures { result ≡ spec.is_of self tag.now }
     {
@@ -38,6 +49,11 @@ impl Warning {
             Warning::UnknownAttribute => has_unknown(tag.attributes.as_slice()),
             Warning::EmptySource => is_include(tag) && is_source_empty(&tag.attributes),
             Warning::SecureSource => is_include(tag) && is_source_secure(&tag.attributes),
+            Warning::EmptyText => is_when(tag) && has_empty_text(&tag.attributes),
+            Warning::IdleReference
+            | Warning::UnknownVariable
+            | Warning::NoReference
+            | Warning::TagInText => false,
         }
     }
 }
@@ -46,6 +62,12 @@ fn is_include(tag: &Tag) -> bool
     ensures { result ≡ spec.is_include tag.now.name }
 {
     tag.name == ElementName::Include
+}
+
+fn is_when(tag: &Tag) -> bool
+    ensures { result ≡ spec.is_when tag.now.name }
+{
+    tag.name == ElementName::When
 }
 
 fn is_idle_onerror(attributes: &Attributes) -> bool
@@ -87,6 +109,38 @@ fn is_source_secure(attributes: &Attributes) -> bool
     }
 }
 
+// Whether `''` stands at the front, and no bar before it.
+fn begins_empty(behind_bar: bool, text: &[u8]) -> bool
+    ensures { result ≡ spec.begins_empty behind_bar text.now }
+{
+    !behind_bar && text.starts_with(b"''")
+}
+
+// Whether `''` stands in a test, but directly behind a bar, where it is a default.
+fn stands_empty(test: &[u8]) -> bool
+    ensures { result ≡ spec.stands_empty false test.now }
+{
+    let mut behind_bar = false;
+    let mut rest = test;
+    while let Some((byte, after)) = rest.split_first() {
+        if begins_empty(behind_bar, rest) {
+            return true;
+        }
+        behind_bar = *byte == b'|';
+        rest = after;
+    }
+    false
+}
+
+fn has_empty_text(attributes: &Attributes) -> bool
+    ensures { result ≡ spec.has_empty_text attributes.now }
+{
+    match attributes.value(KnownAttribute::Test) {
+        Some(value) => stands_empty(value),
+        None => false,
+    }
+}
+
 impl fmt::Display for Warning {
     fn fmt<W: fmt::Write>(&self, f: &mut fmt::Formatter<W>) -> fmt::Result {
         match self {
@@ -105,6 +159,24 @@ impl fmt::Display for Warning {
                 f,
                 "`https:` is never asked: this include can only fail"
             ),
+            Warning::EmptyText => write!(
+                f,
+                "a comparison with `''` is always false: a reference alone asks whether it is empty"
+            ),
+            Warning::IdleReference => write!(
+                f,
+                "this reference is printed as it stands: it isn't inside <esi:vars>"
+            ),
+            Warning::UnknownVariable => write!(
+                f,
+                "no variable has the name in this reference: it never has a value"
+            ),
+            Warning::NoReference => {
+                write!(f, "this `$(` begins no reference: it stands as it is")
+            }
+            Warning::TagInText => {
+                write!(f, "this is text and no tag: a tag begins with `<esi:`")
+            }
         }
     }
 }

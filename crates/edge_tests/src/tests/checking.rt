@@ -1,12 +1,11 @@
 // Faults of templates in words: each with its line and column, told by hand.
 use super::headers::written_out;
 use edge_types::{NoMemory, SharedBytes};
-use esi_scanner::{Kind, Problem, Trouble, scan, trouble_at};
+use esi_scanner::{Problem, Trouble, trouble_at};
 use std::alloc::Global;
-use std::fmt::Write;
 use std::process::Abort;
 use std::test::Fail;
-use template_check::{Message, Position, Warning, check, position_of};
+use template_check::{Message, Position, ReportFault, Told, check, position_of, report};
 
 const TAGS: &str = r#"a<esi:bogus/> => 1:7: error: no element has the name `bogus`
 <esi:include src=/x/> => 1:14: error: the value of the attribute `src` needs quotes
@@ -109,43 +108,53 @@ fn a_malformed_tag_has_its_trouble(rt: HostRuntime) -> Result<(), Fail> {
     Ok(())
 }
 
-// What the tags of a text are warned of, each behind the tag's place.
-fn warned(alloc: Global, text: &str) -> Result<String, NoMemory> {
-    let mut out = String::new(alloc);
-    let Ok(tokens) = scan(alloc, text.as_bytes()) else {
-        return Ok(out);
-    };
-    for token in &tokens {
-        if let Kind::Open(tag) = &token.kind {
-            for warning in &Warning::ALL {
-                if warning.is_of(tag) {
-                    write!(out, "{}: {warning}; ", token.span.start)?;
-                }
-            }
-        }
-    }
-    Ok(out)
+const WARNINGS: &str = r#"<esi:include src="/x" alt="" onerror="continue"/> => 
+a<esi:include src="" onerror="ignore"/> => f:1:2: warning: `onerror` says nothing here: its one value is `continue`␊f:1:2: warning: an empty `src` asks for this page itself␊
+<esi:vars src="" onerror="" ttl="1"/> => f:1:1: warning: an attribute here says nothing: the language doesn't name it␊
+␊␉<esi:include src="https://a.test/x"/> => f:2:2: warning: `https:` is never asked: this include can only fail␊
+<esi:choose><esi:when test="$(HTTP_HOST) == ''">a</esi:when></esi:choose> => f:1:13: warning: a comparison with `''` is always false: a reference alone asks whether it is empty␊
+<esi:choose><esi:when test="$(HTTP_HOST|'')">a</esi:when></esi:choose> => 
+a$(HTTP_HOST)b => f:1:2: warning: this reference is printed as it stands: it isn't inside <esi:vars>␊
+a$(FOO) $( $5 => 
+<esi:vars>␊é$(FOO)$(HTTP_HOST)$( x</esi:vars>$(QUERY_STRING) => f:2:3: warning: no variable has the name in this reference: it never has a value␊f:2:21: warning: this `$(` begins no reference: it stands as it is␊f:2:36: warning: this reference is printed as it stands: it isn't inside <esi:vars>␊
+<esi:vars><esi:try><esi:attempt>$(HTTP_HOST)</esi:attempt><esi:except/></esi:try></esi:vars> => 
+<esi:vars/>␍␊$(HTTP_HOST) => f:2:1: warning: this reference is printed as it stands: it isn't inside <esi:vars>␊
+<esi:include src="/$(" alt="$(FOO)"/> => f:1:1: warning: this `$(` begins no reference: it stands as it is␊f:1:1: warning: no variable has the name in this reference: it never has a value␊
+<ESI:include src="/x"/>< esi:vars></ Esi:vars>< b> => f:1:1: warning: this is text and no tag: a tag begins with `<esi:`␊f:1:24: warning: this is text and no tag: a tag begins with `<esi:`␊f:1:35: warning: this is text and no tag: a tag begins with `<esi:`␊
+␊$(HTTP_HOST)</esi:vars> => f:2:13: error: </esi:vars> closes nothing: no element is open␊f:2:1: warning: this reference is printed as it stands: it isn't inside <esi:vars>␊
+$(HTTP_HOST)<esi:bogus/> => f:1:18: error: no element has the name `bogus`␊
+ => "#;
+
+// What is told of a text in a file of the name `f`.
+fn reported(alloc: Global, text: &str) -> Result<Vec<u8>, ReportFault> {
+    let text = SharedBytes::copy_of(alloc, text.as_bytes())?;
+    let mut told = Vec::new(alloc);
+    let _ = report(alloc, &mut told, "f", &text)?;
+    Ok(told)
 }
 
 #[test]
-fn tags_are_warned_of(rt: HostRuntime) -> Result<(), Fail> {
-    for (text, wanted) in [
-        (r#"<esi:include src="/x" alt="" onerror="continue"/>"#, ""),
-        (
-            r#"a<esi:include src="" onerror="ignore"/>"#,
-            "1: `onerror` says nothing here: its one value is `continue`; 1: an empty `src` asks for this page itself; ",
-        ),
-        (
-            r#"<esi:vars src="" onerror="" ttl="1"/>"#,
-            "0: an attribute here says nothing: the language doesn't name it; ",
-        ),
-        (
-            r#"<esi:include src="https://a.test/x"/>"#,
-            "0: `https:` is never asked: this include can only fail; ",
-        ),
-    ] {
-        let found = warned(rt.alloc(), text)?;
-        assert_eq!(rt; found.as_str(), wanted, "in {text}");
+fn warnings_are_told_in_words(rt: HostRuntime) -> Result<(), Fail> {
+    let alloc = rt.alloc();
+    for row in WARNINGS.lines() {
+        let (text, wanted) = row.split_once(" => ").unwrap_or((row, ""));
+        let wanted = written_out(alloc, wanted)?;
+        let found = reported(alloc, written_out(alloc, text)?.as_str())?;
+        assert!(rt; found.as_slice() == wanted.as_bytes(), "in {text}");
     }
+    Ok(())
+}
+
+// What is told is counted, also where it is told of many places.
+#[test]
+fn what_is_told_is_counted(rt: HostRuntime) -> Result<(), Fail> {
+    let alloc = rt.alloc();
+    let text = "$(HTTP_HOST)\n".repeat(alloc, 300)?;
+    let text = SharedBytes::copy_of(alloc, text.as_bytes())?;
+    let mut lines = Vec::new(alloc);
+    let told = report(alloc, &mut lines, "f", &text)?;
+    let (errors, warnings) = (0, 300);
+    assert!(rt; told == Told { errors, warnings });
+    assert!(rt; lines.as_slice().starts_with(b"f:1:1: warning: "));
     Ok(())
 }

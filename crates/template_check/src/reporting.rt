@@ -1,0 +1,117 @@
+// Prints what is to be told of a text.
+ghost use Rattle.std.specs.Prelude.{◌≡◌, ◌≤◌, IfOk, length};
+ghost use Rattle.template_check.specs.Checking.{fault_of};
+ghost use Rattle.template_check.specs.Report.{fault_count, told_of};
+ghost use Rattle.template_check.specs.Warned.{warnings_of};
+
+use crate::checker::check;
+use crate::message::Message;
+use crate::position::Position;
+use crate::warned::{Warned, warnings};
+use edge_types::{NoMemory, SharedBytes};
+use std::alloc::Global;
+use std::io;
+use std::io::Write;
+use thiserror::Error;
+
+/// How much was told of a text.
+#[derive(Clone, Copy, Debug, Drop, PartialEq, Eq)]
+pub struct Told {
+    /// None or one: a text is read up to its first fault.
+    pub errors: usize,
+    pub warnings: usize,
+}
+
+/// Why not all could be told.
+#[derive(Clone, Copy, Debug, Drop, PartialEq, Eq, Error)]
+pub enum ReportFault {
+    #[error("no memory")]
+    NoMemory,
+    /// A write failed.
+    #[error("output failed")]
+    Write,
+}
+
+impl From<NoMemory> for ReportFault {
+    fn from(_: NoMemory) -> ReportFault {
+        ReportFault::NoMemory
+    }
+}
+
+impl From<io::Error> for ReportFault {
+    fn from(_: io::Error) -> ReportFault {
+        ReportFault::Write
+    }
+}
+
+// Prints the fault, where there is one.
+fn report_fault<W: Write>(
+    alloc: Global,
+    writer: &mut W,
+    name: &str,
+    text: &SharedBytes,
+) -> Result<usize, ReportFault>
+    ensures { IfOk result (λ errors. errors ≡ fault_count (fault_of text.now)) }
+{
+    match check(alloc, text)? {
+        Some(fault) => {
+            let message = Message {
+                text: text.as_bytes(),
+                fault,
+            };
+            writeln!(writer, "{name}:{message}")?;
+            Ok(1)
+        }
+        None => Ok(0),
+    }
+}
+
+// Prints a warning.
+fn print_warning<W: Write>(
+    writer: &mut W,
+    name: &str,
+    position: Position,
+    warned: Warned,
+) -> io::Result<()> {
+    let Position { line, column } = position;
+    let warning = warned.warning;
+    writeln!(writer, "{name}:{line}:{column}: warning: {warning}")
+}
+
+// Prints warnings. Each position is counted on from the last one, so that many take no longer than the text is.
+fn print_warnings<W: Write>(
+    writer: &mut W,
+    name: &str,
+    text: &[u8],
+    found: &[Warned],
+) -> io::Result<()> {
+    let mut position = Position::START;
+    let mut rest = text;
+    for warned in found {
+        let at = text.len() - rest.len();
+        let (between, after) = rest.split_at(warned.place.saturating_sub(at).min(rest.len()));
+        position = position.behind(between);
+        rest = after;
+        print_warning(writer, name, position, *warned)?;
+    }
+    Ok(())
+}
+
+/// Prints what is to be told of a text of this name: a line for its fault, where it is no template, then one for each
+/// warning, in the text's order, `NAME:LINE:COLUMN: error: WORDS` and `NAME:LINE:COLUMN: warning: WORDS`.
+pub fn report<W: Write>(
+    alloc: Global,
+    writer: &mut W,
+    name: &str,
+    text: &SharedBytes,
+) -> Result<Told, ReportFault>
+    ensures { IfOk result (λ told. told ≡ told_of text.now) }
+{
+    let errors = report_fault(alloc, writer, name, text)?;
+    let found = warnings(alloc, text.as_bytes())?;
+    print_warnings(writer, name, text.as_bytes(), found.as_slice())?;
+    Ok(Told {
+        errors,
+        warnings: found.len(),
+    })
+}

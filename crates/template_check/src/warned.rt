@@ -1,0 +1,305 @@
+// Collects what is no fault of a template, and hardly meant.
+ghost use Rattle.std.specs.Prelude.{◌≡◌, ◌≤◌, ◌<◌, ◌+◌, ◌^◌, ◌++◌, IfOk, OnOk, length};
+ghost use Rattle.esi_vars.specs.Shown.{shown_reference};
+ghost use Rattle.template_check.specs.Warned as spec;
+
+use crate::warning::Warning;
+use edge_types::{NoMemory, is_ws};
+use esi_scanner::{ElementName, Kind, KnownAttribute, ScanFault, Span, Tag, Token, scan};
+use esi_vars::{Reference, Variable, reference_at};
+use std::alloc::Global;
+
+/// A warning, and where it is due.
+#[derive(Clone, Copy, Debug, Drop, PartialEq, Eq)]
+pub struct Warned {
+    /// In bytes from the text's start: of the tag that is warned of, else of the byte in the text.
+    pub place: usize,
+    pub warning: Warning,
+}
+
+// Whether requests can say something of a variable.
+fn is_known(variable: &Variable) -> bool
+    ensures { result ≡ spec.is_known variable.now }
+{
+    !matches!(variable, Variable::Unknown(_))
+}
+
+// What a reference is warned of, or its lack behind `$(`, where references are replaced or are not.
+fn judged(replaced: bool, found: Option<(Reference, &[u8])>) -> Option<Warning>
+    ensures { result ≡ spec.judged replaced (shown_reference found.entry) }
+{
+    match found {
+        Some((reference, _)) if is_known(&reference.variable) => {
+            if replaced {
+                None
+            } else {
+                Some(Warning::IdleReference)
+            }
+        }
+        Some(_) if replaced => Some(Warning::UnknownVariable),
+        None if replaced => Some(Warning::NoReference),
+        _ => None,
+    }
+}
+
+// What the `$(` at the front of a text is warned of. Each reading ends before the second `$(` or quote behind it, so
+// that all places of a text together take time in proportion to its length.
+fn reference_warning(
+    alloc: Global,
+    replaced: bool,
+    text: &[u8],
+) -> Result<Option<Warning>, NoMemory>
+    ensures { IfOk result (λ found. found ≡ spec.reference_warning replaced text.now) }
+{
+    if text.starts_with(b"$(") {
+        Ok(judged(replaced, reference_at(alloc, text)?))
+    } else {
+        Ok(None)
+    }
+}
+
+// How many bytes of white space stand at the front.
+fn ws_len(text: &[u8]) -> usize
+    ensures value { result ≡ spec.ws_len text.now }
+    ensures within { result ≤ length text.now }
+{
+    for (i, byte) in text.iter().enumerate() {
+        if !is_ws(*byte) {
+            return i;
+        }
+    }
+    text.len()
+}
+
+// What follows the white space at the front.
+fn after_ws(text: &[u8]) -> &[u8]
+    ensures { result.now ≡ spec.after_ws text.now }
+{
+    let (_, rest) = text.split_at(ws_len(text));
+    rest
+}
+
+// Whether a text begins with `esi:`, in letters of any case.
+fn begins_name(text: &[u8]) -> bool
+    ensures { result ≡ spec.begins_name text.now }
+{
+    let (front, _) = text.split_at(text.len().min(4));
+    front.eq_ignore_ascii_case(b"esi:")
+}
+
+// What follows the `/` of a closing tag and the white space behind it, where there is one.
+fn after_slash(text: &[u8]) -> &[u8]
+    ensures { result.now ≡ spec.after_slash text.now }
+{
+    match text.strip_prefix(b"/".as_slice()) {
+        Some(rest) => after_ws(rest),
+        None => text,
+    }
+}
+
+// Whether what stands at the front looks like a tag.
+fn begins_tag(text: &[u8]) -> bool
+    ensures { result ≡ spec.begins_tag text.now }
+{
+    match text.strip_prefix(b"<".as_slice()) {
+        Some(rest) => begins_name(after_slash(after_ws(rest))),
+        None => false,
+    }
+}
+
+// What the front of a text is warned of.
+fn text_warning(alloc: Global, replaced: bool, text: &[u8]) -> Result<Option<Warning>, NoMemory>
+    ensures { IfOk result (λ found. found ≡ spec.text_warning replaced text.now) }
+{
+    if begins_tag(text) {
+        Ok(Some(Warning::TagInText))
+    } else {
+        reference_warning(alloc, replaced, text)
+    }
+}
+
+// One more, where there is one.
+fn add(found: &mut Vec<Warned>, place: usize, warning: Option<Warning>) -> Result<(), NoMemory>
+    ensures { OnOk result (found.new.items ≡ found.old.items ++ spec.warned place warning) }
+{
+    if let Some(warning) = warning {
+        found.push(Warned { place, warning })?;
+    }
+    Ok(())
+}
+
+// Those of a text that begins at a place.
+fn add_text(
+    alloc: Global,
+    found: &mut Vec<Warned>,
+    replaced: bool,
+    place: usize,
+    text: &[u8],
+) -> Result<(), NoMemory>
+    requires { place + length text.now < 2 ^ 64 }
+    ensures { OnOk result (found.new.items ≡ found.old.items ++ spec.text_warnings replaced place text.now) }
+{
+    for i in 0..text.len() {
+        let (_, here) = text.split_at(i);
+        let warning = text_warning(alloc, replaced, here)?;
+        add(found, place + i, warning)?;
+    }
+    Ok(())
+}
+
+// The first of the references in a value, where they are replaced.
+fn value_warning(alloc: Global, value: &[u8]) -> Result<Option<Warning>, NoMemory>
+    ensures { IfOk result (λ found. found ≡ spec.value_warning value.now) }
+{
+    for i in 0..value.len() {
+        let (_, here) = value.split_at(i);
+        let warning = reference_warning(alloc, true, here)?;
+        if warning.is_some() {
+            return Ok(warning);
+        }
+    }
+    Ok(None)
+}
+
+// The same of an attribute, where the tag has it.
+fn attribute_warning(
+    alloc: Global,
+    tag: &Tag,
+    attribute: KnownAttribute,
+) -> Result<Option<Warning>, NoMemory>
+    ensures { IfOk result (λ found. found ≡ spec.attribute_warning tag.now attribute) }
+{
+    match tag.attributes.value(attribute) {
+        Some(value) => value_warning(alloc, value),
+        None => Ok(None),
+    }
+}
+
+// Those of the values in which references are replaced.
+fn add_values(
+    alloc: Global,
+    found: &mut Vec<Warned>,
+    place: usize,
+    tag: &Tag,
+) -> Result<(), NoMemory>
+    ensures { OnOk result (found.new.items ≡ found.old.items ++ spec.value_warnings place tag.now) }
+{
+    match tag.name {
+        ElementName::Include => {
+            let of_source = attribute_warning(alloc, tag, KnownAttribute::Src)?;
+            let of_other = attribute_warning(alloc, tag, KnownAttribute::Alt)?;
+            add(found, place, of_source)?;
+            add(found, place, of_other)
+        }
+        ElementName::When => {
+            let of_test = attribute_warning(alloc, tag, KnownAttribute::Test)?;
+            add(found, place, of_test)
+        }
+        _ => Ok(()),
+    }
+}
+
+// A warning, where a tag is to be warned so.
+fn due(tag: &Tag, warning: Warning) -> Option<Warning>
+    ensures { result ≡ spec.due tag.now warning }
+{
+    if warning.is_of(tag) {
+        Some(warning)
+    } else {
+        None
+    }
+}
+
+// Those of these that a tag is to be warned of.
+fn add_each(
+    found: &mut Vec<Warned>,
+    place: usize,
+    tag: &Tag,
+    warnings: &[Warning],
+) -> Result<(), NoMemory>
+    ensures { OnOk result (found.new.items ≡ found.old.items ++ spec.each_warning place tag.now warnings.now) }
+{
+    for warning in warnings {
+        add(found, place, due(tag, *warning))?;
+    }
+    Ok(())
+}
+
+// Those of a tag.
+fn add_tag(alloc: Global, found: &mut Vec<Warned>, place: usize, tag: &Tag) -> Result<(), NoMemory>
+    ensures { OnOk result (found.new.items ≡ found.old.items ++ spec.tag_warnings place tag.now) }
+{
+    add_each(found, place, tag, &Warning::OF_TAGS)?;
+    add_values(alloc, found, place, tag)
+}
+
+// The bytes of a span.
+fn spanned(text: &[u8], span: Span) -> &[u8]
+    ensures value { result.now ≡ spec.spanned text.now span }
+    ensures within { span.start + length result.now < 2 ^ 64 }
+{
+    let (front, _) = text.split_at(span.end.min(text.len()));
+    let (_, run) = front.split_at(span.start.min(front.len()));
+    run
+}
+
+// Those of a token, by whether it stands inside `vars`.
+fn add_token(
+    alloc: Global,
+    found: &mut Vec<Warned>,
+    replaced: bool,
+    text: &[u8],
+    token: &Token,
+) -> Result<(), NoMemory>
+    ensures { OnOk result (found.new.items ≡ found.old.items ++ spec.token_warnings replaced text.now token.now) }
+{
+    match &token.kind {
+        Kind::Text => add_text(
+            alloc,
+            found,
+            replaced,
+            token.span.start,
+            spanned(text, token.span),
+        ),
+        Kind::Open(tag) => add_tag(alloc, found, token.span.start, tag),
+        _ => Ok(()),
+    }
+}
+
+// How many `vars` are open behind a token.
+fn depth_behind(depth: usize, kind: &Kind) -> usize
+    requires { depth < 2 ^ 63 }
+    ensures value { result ≡ spec.depth_behind depth kind.now }
+    ensures few { result ≤ depth + 1 }
+{
+    match kind {
+        Kind::Open(tag) if tag.name == ElementName::Vars && !tag.closed => depth + 1,
+        Kind::Close(ElementName::Vars) => depth.saturating_sub(1),
+        _ => depth,
+    }
+}
+
+// Those of tokens.
+fn token_warnings(alloc: Global, text: &[u8], tokens: &[Token]) -> Result<Vec<Warned>, NoMemory>
+    ensures { IfOk result (λ found. found.items ≡ spec.warnings_from 0 text.now tokens.now) }
+{
+    let mut found = Vec::new(alloc);
+    let mut depth: usize = 0;
+    for token in tokens {
+        add_token(alloc, &mut found, depth > 0, text, token)?;
+        depth = depth_behind(depth, &token.kind);
+    }
+    Ok(found)
+}
+
+/// What a text says that is no fault of a template, and hardly meant, in the text's order. Nothing is told of a text
+/// that has no tokens. `NoMemory` comes where a growth is refused.
+pub fn warnings(alloc: Global, text: &[u8]) -> Result<Vec<Warned>, NoMemory>
+    ensures { IfOk result (λ found. found.items ≡ spec.warnings_of text.now) }
+{
+    match scan(alloc, text) {
+        Ok(tokens) => token_warnings(alloc, text, tokens.as_slice()),
+        Err(ScanFault::Malformed(_)) => Ok(Vec::new(alloc)),
+        Err(ScanFault::NoMemory) => Err(NoMemory),
+    }
+}
