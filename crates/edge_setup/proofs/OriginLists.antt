@@ -30,7 +30,7 @@ pub origins_next : (words : List (Bor Text)) (i : ℕ) (d : Bor Text) (origins :
     → NamesOrigin (get_or words i d).now origin.authority.items origin.address → AreOrigins (texts (take (i + 1) words)) (origins ++ origin ∷ [])
 origins_next words i d origins origin within are named =
     subst (λ (ws : List Text). AreOrigins ws (origins ++ origin ∷ [])) (sym (map_more (λ (w : Bor Text). w.now) words i d within))
-        (origins_more (texts (take i words)) origins (get_or words i d).now origin are named)
+    (origins_more (texts (take i words)) origins (get_or words i d).now origin are named)
 
 -- ---- authorities that stand twice
 

@@ -33,6 +33,7 @@ loop-word-preserved c =
     let origin = c.in-Some.origin in
     let named : NamesOrigin word origin.authority.items origin.address = subst (Reads word) c.in-Some.is c.in_ok-origin.ensures in
     let more : c.add.new.origins.items ≡ c.loop-word.origins.items ++ origin ∷ [] = search rules in
-    let new : has origin.authority.items c.loop-word.origins.items ≡ false = search rules in
-    ( subst (AreOrigins _) (sym more) (origins_next c.args.words.now c.loop-word.word-index none c.loop-word.origins.items origin c.loop-word-test.true c.loop-word.invariant.0 named)
-    , subst (λ (origins : List Origin). stands_twice (authorities origins) ≡ false) (sym more) (once_next c.loop-word.origins.items origin c.loop-word.invariant.1 new) )
+    let new : has origin.authority.items c.loop-word.origins.items ≡ false = search rules in (
+      subst (AreOrigins _) (sym more) (origins_next c.args.words.now c.loop-word.word-index none c.loop-word.origins.items origin c.loop-word-test.true c.loop-word.invariant.0 named),
+      subst (λ (origins : List Origin). stands_twice (authorities origins) ≡ false) (sym more) (once_next c.loop-word.origins.items origin c.loop-word.invariant.1 new),
+    )
