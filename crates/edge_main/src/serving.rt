@@ -100,7 +100,7 @@ where
     let address = listener.local_addr()?;
     let limits = Limits {
         request: client,
-        exchange: client,
+        response: client,
     };
     Ok((Sockets::new(listener, limits)?, address))
 }

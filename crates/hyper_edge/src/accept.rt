@@ -38,7 +38,7 @@ impl Sockets {
     pub fn new(listener: TcpListener, limits: Limits) -> io::Result<Sockets> {
         let same = TcpStream::from(OwnedFd::from(listener.try_clone()?));
         same.set_read_timeout(limits.request)?;
-        same.set_write_timeout(limits.exchange)?;
+        same.set_write_timeout(limits.response)?;
         Ok(Sockets {
             listener,
             same,

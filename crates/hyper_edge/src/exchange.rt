@@ -10,16 +10,16 @@ use std::net::{Shutdown, TcpStream};
 use std::time::{Clock, Duration, Instant};
 use tokio::io::{AsyncRead, AsyncWrite};
 
-/// How long a client may take, from being accepted; `None` is as long as it likes. Neither may be
-/// zero.
+/// How long a client may take; `None` is as long as it likes, and so is more than can be added to
+/// the clock. Neither may be zero. What the edge itself takes for a page counts in neither.
 ///
 /// Our profile.
 #[derive(Clone, Copy)]
 pub struct Limits {
-    /// To send its request.
+    /// To send its request, from being accepted.
     pub request: Option<Duration>,
-    /// To have the whole response.
-    pub exchange: Option<Duration>,
+    /// To have the whole response, from its first write.
+    pub response: Option<Duration>,
 }
 
 /// One exchange with a client. Past its deadlines, where it has some, each read and write fails.
@@ -31,7 +31,9 @@ pub struct Exchange<R> {
     socket: TcpStream,
     clock: R,
     request_by: Option<Instant>,
-    exchange_by: Option<Instant>,
+    // The limit of the response, and when it ends, once something was written.
+    response: Option<Duration>,
+    response_by: Option<Instant>,
     has_read: bool,
     has_written: bool,
 }
@@ -39,14 +41,13 @@ pub struct Exchange<R> {
 impl<R: Clock + Drop> Exchange<R> {
     /// An exchange that begins now.
     pub(crate) fn new(socket: TcpStream, clock: R, limits: Limits) -> io::Result<Exchange<R>> {
-        let now = Instant::now(&clock)?;
-        let request_by = deadline(now, limits.request)?;
-        let exchange_by = deadline(now, limits.exchange)?;
+        let request_by = deadline(&clock, limits.request)?;
         Ok(Exchange {
             socket,
             clock,
             request_by,
-            exchange_by,
+            response: limits.response,
+            response_by: None,
             has_read: false,
             has_written: false,
         })
@@ -73,25 +74,25 @@ impl<R: Clock + Drop> Exchange<R> {
         (&self.socket).read(buf)
     }
 
+    // The time of the response begins with the first write, which the socket's own limit bounds too.
     fn write(&mut self, buf: &[u8]) -> io::Result<usize>
         ensures { WritesAtMost result buf.now }
     {
-        if self.has_written && self.is_late(self.exchange_by)? {
+        if !self.has_written {
+            self.response_by = deadline(&self.clock, self.response)?;
+            self.has_written = true;
+        } else if self.is_late(self.response_by)? {
             return Err(ErrorKind::TimedOut.into());
         }
-        self.has_written = true;
         (&self.socket).write(buf)
     }
 }
 
-// When a limit that begins now ends.
-fn deadline(now: Instant, limit: Option<Duration>) -> io::Result<Option<Instant>> {
-    let Some(limit) = limit else {
-        return Ok(None);
-    };
-    match now.checked_add(limit) {
-        Some(deadline) => Ok(Some(deadline)),
-        None => Err(ErrorKind::InvalidInput.into()),
+// When a limit that begins now ends; never, where the clock doesn't reach so far.
+fn deadline(clock: &impl Clock, limit: Option<Duration>) -> io::Result<Option<Instant>> {
+    match limit {
+        Some(limit) => Ok(Instant::now(clock)?.checked_add(limit)),
+        None => Ok(None),
     }
 }
 

@@ -18,6 +18,6 @@ pub use crew::serve_accepts;
 pub use desk::ServeEnd;
 pub use exchange::{Exchange, Limits};
 pub use journal::{Journal, NoJournal, Record};
-pub use responding::respond;
-pub use service::{Assembling, EdgeService};
+pub use responding::{Assembling, respond};
+pub use service::EdgeService;
 pub use serving::{Seat, serve_io};

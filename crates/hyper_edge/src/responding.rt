@@ -4,23 +4,57 @@ ghost use Rattle.std.specs.Prelude.{◌≡◌, ◌≤◌, ◌⊎◌, IfOk};
 ghost use Rattle.esi_meaning.specs.Meaning.{AreLevels};
 ghost use Rattle.fetch_workers.specs.Rests.{AreWorkers};
 ghost use Rattle.hyper_edge_head.specs.Sent.{IsRefusal, refusal, sent};
+ghost use Rattle.plan_runner.specs.declared.page.TheConstants.{MAX_AHEAD};
 ghost use Rattle.hyper_edge.specs.Responses as spec;
 
 use edge_types::{Answer, NoMemory, PageUrl, Request};
 use fetch_workers::{Source, assemble};
 use http::Response;
 use hyper_edge_head::{EdgeBody, Field, HeadFault, answer_head, refusal_of, response_of};
-use plan_runner::MAX_AHEAD;
 use std::alloc::Global;
 use std::sync::{Arc, Wait};
 use std::thread::Threads;
 
+/// How pages are assembled: the numbers of `assemble`, each within its limits.
+///
+/// Our profile.
+#[derive(Clone, Copy)]
+pub struct Assembling {
+    /// How many slots may be opened ahead.
+    pub ahead: u16,
+    /// How many threads may work for a page.
+    pub workers: u8,
+    /// How many levels of fragments there may be.
+    pub levels: u8,
+    ghost ahead_few: { ahead ≤ MAX_AHEAD },
+    ghost workers_few: { AreWorkers workers },
+    ghost levels_few: { AreLevels levels },
+}
+
+impl Assembling {
+    /// With these numbers.
+    pub fn new(ahead: u16, workers: u8, levels: u8) -> Assembling
+        requires ahead { ahead ≤ MAX_AHEAD }
+        requires workers { AreWorkers workers }
+        requires levels { AreLevels levels }
+        ensures ahead { result.ahead ≡ ahead }
+        ensures workers { result.workers ≡ workers }
+        ensures levels { result.levels ≡ levels }
+    {
+        Assembling {
+            ahead,
+            workers,
+            levels,
+        }
+    }
+}
+
 /// The response to the head of a request: the page that it asks for, of answers that the source
 /// gives.
 ///
-/// `method`, `target` and `fields` are as in `answer_head`; `ahead`, `workers` and `levels` as in
-/// `assemble`. Another method than `GET` gets 405, a head that asks for no page 400. Where memory or
-/// threads lack, the response is 503; a page's fault is 502.
+/// `method`, `target` and `fields` are as in `answer_head`. Another method than `GET` gets 405, a
+/// head that asks for no page 400. Where memory or threads lack, the response is 503; a page's fault
+/// is 502.
 ///
 /// The one refusal is want of memory for the response itself.
 ///
@@ -32,22 +66,15 @@ pub fn respond<R, S>(
     method: &[u8],
     target: &[u8],
     fields: &[Field<'_>],
-    ahead: u16,
-    workers: u8,
-    levels: u8,
+    how: Assembling,
 ) -> Result<Response<EdgeBody>, NoMemory>
 where
     R: Wait + Threads + Sync,
     S: Source<R> + Sync,
-    requires ahead { ahead ≤ MAX_AHEAD }
-    requires workers { AreWorkers workers }
-    requires levels { AreLevels levels }
     ensures { IfOk result (λ response.
-        spec.Responds (S.gives source.now) method.now target.now fields.now levels (sent response)) }
+        spec.Responds (S.gives source.now) method.now target.now fields.now how.levels (sent response)) }
 {
-    let responded = respond_with_log(
-        rt, alloc, source, method, target, fields, ahead, workers, levels,
-    )?;
+    let responded = respond_with_log(rt, alloc, source, method, target, fields, how)?;
     Ok(responded.response)
 }
 
@@ -66,21 +93,16 @@ pub(crate) fn respond_with_log<R, S>(
     method: &[u8],
     target: &[u8],
     fields: &[Field<'_>],
-    ahead: u16,
-    workers: u8,
-    levels: u8,
+    how: Assembling,
 ) -> Result<Responded, NoMemory>
 where
     R: Wait + Threads + Sync,
     S: Source<R> + Sync,
-    requires ahead { ahead ≤ MAX_AHEAD }
-    requires workers { AreWorkers workers }
-    requires levels { AreLevels levels }
     ensures { IfOk result (λ responded.
-        spec.Responds (S.gives source.now) method.now target.now fields.now levels (sent responded.response)) }
+        spec.Responds (S.gives source.now) method.now target.now fields.now how.levels (sent responded.response)) }
 {
     match answer_head(alloc, method, target, fields) {
-        Ok((url, request)) => paged(rt, alloc, source, url, request, ahead, workers, levels),
+        Ok((url, request)) => paged(rt, alloc, source, url, request, how),
         Err(HeadFault::Method) => refused(alloc, 405),
         Err(HeadFault::Unreadable) => refused(alloc, 400),
         Err(HeadFault::NoMemory) => no_room(alloc),
@@ -94,21 +116,26 @@ fn paged<R, S>(
     source: &S,
     url: PageUrl,
     request: Request,
-    ahead: u16,
-    workers: u8,
-    levels: u8,
+    how: Assembling,
 ) -> Result<Responded, NoMemory>
 where
     R: Wait + Threads + Sync,
     S: Source<R> + Sync,
-    requires ahead { ahead ≤ MAX_AHEAD }
-    requires workers { AreWorkers workers }
-    requires levels { AreLevels levels }
     ensures { IfOk result (λ responded.
         (sent responded.response ≡ refusal 503)
-        ⊎ spec.TellsPageAt (S.gives source.now) url request levels (sent responded.response)) }
+        ⊎ spec.TellsPageAt (S.gives source.now) url request how.levels (sent responded.response)) }
 {
-    match assemble(rt, alloc, source, url, request, ahead, workers, levels) {
+    let page = assemble(
+        rt,
+        alloc,
+        source,
+        url,
+        request,
+        how.ahead,
+        how.workers,
+        how.levels,
+    );
+    match page {
         Ok(page) => Ok(Responded {
             response: response_of(alloc, page.outcome)?,
             log: page.log,

@@ -1,12 +1,7 @@
 //! What answers the requests of a connection.
 
-ghost use Rattle.std.specs.Prelude.{◌≤◌};
-ghost use Rattle.esi_meaning.specs.Meaning.{AreLevels};
-ghost use Rattle.fetch_workers.specs.Rests.{AreWorkers};
-ghost use Rattle.plan_runner.specs.declared.page.TheConstants.{MAX_AHEAD};
-
 use crate::journal::Note;
-use crate::responding::{Responded, no_room, respond_with_log};
+use crate::responding::{Assembling, Responded, no_room, respond_with_log};
 use edge_types::NoMemory;
 use fetch_workers::Source;
 use http::header::HeaderValue;
@@ -19,32 +14,6 @@ use std::random::RandomSource;
 use std::sync::{Arc, Wait};
 use std::thread::Threads;
 use std::time::{Clock, Instant};
-
-/// How pages are assembled.
-#[derive(Clone, Copy)]
-pub struct Assembling {
-    ahead: u16,
-    workers: u8,
-    levels: u8,
-    ghost ahead_few: { ahead ≤ MAX_AHEAD },
-    ghost workers_few: { AreWorkers workers },
-    ghost levels_few: { AreLevels levels },
-}
-
-impl Assembling {
-    /// With these numbers, which are those of `assemble`.
-    pub fn new(ahead: u16, workers: u8, levels: u8) -> Assembling
-        requires ahead { ahead ≤ MAX_AHEAD }
-        requires workers { AreWorkers workers }
-        requires levels { AreLevels levels }
-    {
-        Assembling {
-            ahead,
-            workers,
-            levels,
-        }
-    }
-}
 
 /// What answers requests for pages from a source, by a runtime of its own.
 #[derive(Drop)]
@@ -131,7 +100,6 @@ where
         target: &[u8],
         fields: &[Field<'_>],
     ) -> Result<Responded, NoMemory> {
-        let how = self.how;
         respond_with_log(
             &self.rt,
             self.alloc,
@@ -139,9 +107,7 @@ where
             method,
             target,
             fields,
-            how.ahead,
-            how.workers,
-            how.levels,
+            self.how,
         )
     }
 }

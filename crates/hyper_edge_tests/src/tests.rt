@@ -1,103 +1,162 @@
-// Edges in the process that asks them. A text that is sent stands as the socket has it, with `|` for
-// the end of a line.
-use edge_types::{Answer, Control, Octets, PageUrl, SharedBytes, Table};
-use fetch_workers::{Source, TableSource};
+// Edges in the process that asks them, over sockets on loopback.
+ghost use Rattle.std.specs.Prelude.{◌≡◌, IfOk};
+
+use edge_types::{Answer, Control, NoMemory, Octets, PageUrl, SharedBytes};
+use fetch_workers::Source;
 use hyper_edge::{Assembling, EdgeService, Limits, NoJournal, ServeEnd, Sockets, serve_accepts};
 use std::alloc::{AllocGlobal, Global};
-use std::io::{Read, Write};
+use std::io::{ErrorKind, Read, Write};
 use std::net::{Net, Shutdown, SocketAddr, TcpListener, TcpStream};
 use std::process::Abort;
 use std::random::RandomSource;
 use std::sync::{Arc, Wait};
 use std::test::Fail;
 use std::thread::Threads;
-use std::time::{Clock, Duration};
+use std::time::{Clock, Duration, Instant};
 use std::{io, str, thread};
 
 mod bodies;
 mod clients;
 mod faults;
-mod journals;
-mod origins;
 
-// The text with the ends of its lines.
-fn wire(alloc: Global, text: &str) -> Result<Vec<u8>, Fail> {
-    let mut bytes = Vec::new(alloc);
-    for b in text.as_bytes() {
-        match *b {
-            b'|' => bytes.extend_from_slice(b"\r\n")?,
-            other => bytes.push(other)?,
-        }
-    }
-    Ok(bytes)
+// What asks for the page.
+const ASKED: &[u8] = b"GET /p HTTP/1.1\r\nhost: a.test\r\n\r\n";
+
+// A source that gives each URL the same fragment, and `/p` a template: `A`, so many times that
+// fragment, and `B`. Each answer takes its time.
+#[derive(Clone, Copy)]
+struct Pages {
+    fragments: usize,
+    fragment: usize,
+    millis: u64,
 }
 
-// An answer of `http://a.test` and the path: a template.
-fn answer(alloc: Global, path: &str, body: &[u8]) -> Result<Arc<Answer>, Fail> {
-    let text = format!(in alloc; "http://a.test{path}")?;
-    let url = PageUrl::parse(alloc, text.as_bytes())?.ok_or("a URL")?;
-    let control = Control {
-        esi: true,
-        ..Control::default()
-    };
-    let answer = Answer::got(
-        url,
-        200,
-        Octets::copy_of(alloc, b"text/html")?,
-        control,
-        SharedBytes::copy_of(alloc, body)?,
-    );
-    Ok(Arc::new(alloc, answer.ok_or("an answer")?)?)
-}
+// `A1B`.
+const SHORT: Pages = Pages {
+    fragments: 1,
+    fragment: 1,
+    millis: 0,
+};
 
-// A page `/p` of `A`, so many times the fragment, and `B`; beside it one that fails, `/f`.
-fn pages(alloc: Global, count: u16, fragment: &[u8]) -> Result<TableSource, Fail> {
-    let mut page = b"A".to_vec(alloc)?;
-    for _ in 0..count {
-        page.extend_from_slice(b"<esi:include src='/x'/>")?;
+impl Pages {
+    fn page(self, alloc: Global) -> Result<SharedBytes, NoMemory> {
+        let mut page = b"A".to_vec(alloc)?;
+        for _ in 0..self.fragments {
+            page.extend_from_slice(b"<esi:include src='/x'/>")?;
+        }
+        page.push(b'B')?;
+        SharedBytes::of(page)
     }
-    page.push(b'B')?;
-    let mut table = Table::new(alloc);
-    let answers = [
-        answer(alloc, "/p", page.as_slice())?,
-        answer(alloc, "/x", fragment)?,
-        answer(alloc, "/f", b"<esi:include src='/none'/>")?,
-    ];
-    for answer in answers {
-        if table.insert(answer).is_err() {
-            return Err("an answer twice".into());
+
+    fn answer(self, alloc: Global, url: &PageUrl) -> Result<Answer, NoMemory>
+        ensures { IfOk result (λ answer. answer.url ≡ url.now) }
+    {
+        let control = Control {
+            esi: url.as_bytes().ends_with(b"/p"),
+            ..Control::default()
+        };
+        let kind = Octets::copy_of(alloc, b"text/html")?;
+        let body = if control.esi {
+            self.page(alloc)?
+        } else {
+            SharedBytes::of(vec![in alloc; b'1'; self.fragment]?)?
+        };
+        match Answer::got(url.share()?, 200, kind, control, body) {
+            Some(answer) => Ok(answer),
+            None => Ok(Answer::failed(url.share()?)),
         }
     }
-    Ok(TableSource::new(table))
+}
+
+impl<R: Clock> Source<R> for Pages {
+    ghost use Rattle.std.specs.Prelude.{◌≡◌};
+
+    ghost gives = { λ _ url answer. answer.url ≡ url };
+
+    ghost names_url = { λ _ _ _ named. named };
+
+    fn fetch(&self, rt: &R, alloc: Global, url: &PageUrl) -> Result<Arc<Answer>, NoMemory> {
+        thread::sleep(rt, Duration::from_millis(self.millis));
+        let answer = self.answer(alloc, url)?;
+        Ok(Arc::new(alloc, answer)?)
+    }
+}
+
+// Milliseconds as a limit.
+fn millis(millis: u64) -> Option<Duration> {
+    Some(Duration::from_millis(millis))
 }
 
 // A service over a source.
-fn service<R, S>(rt: &R, alloc: Global, source: S) -> Result<EdgeService<S, R>, Fail>
+fn service<R>(rt: &R, pages: Pages) -> Result<EdgeService<Pages, R>, Fail>
 where
-    R: RandomSource + Clone + Drop,
-    S: Drop,
+    R: RandomSource + AllocGlobal + Clone + Drop,
 {
     let how = Assembling::new(16, 4, 4);
-    let source = Arc::new(alloc, source)?;
-    Ok(EdgeService::new(rt.clone()?, alloc, source, how)?)
+    let source = Arc::new(rt.alloc(), pages)?;
+    Ok(EdgeService::new(rt.clone()?, rt.alloc(), source, how)?)
 }
 
-// Sockets of a listener on loopback, and its address. A client has so many milliseconds, or all time.
-fn sockets<R>(rt: &R, limit: Option<u64>) -> Result<(Sockets, SocketAddr), Fail>
+// Sockets of a listener on loopback, and its address.
+fn sockets<R>(rt: &R, limits: Limits) -> Result<(Sockets, SocketAddr), Fail>
 where
     R: Net<Stream = TcpStream, Listener = TcpListener>,
 {
     let listener = TcpListener::bind(rt, "127.0.0.1:0")?;
     let address = listener.local_addr()?;
-    let limit = match limit {
-        Some(limit) => Some(Duration::from_millis(limit)),
-        None => None,
-    };
-    let limits = Limits {
-        request: limit,
-        exchange: limit,
-    };
     Ok((Sockets::new(listener, limits)?, address))
+}
+
+// Who comes to an edge. What they are told is wrong where one of them gives up.
+#[derive(Clone, Copy)]
+enum Visitors {
+    Rows,
+    Slow,
+    BesideASilentOne,
+    LateBy(u64),
+    Dripping(u64),
+    Reading(bodies::Reader),
+}
+
+impl Visitors {
+    fn come<R>(self, rt: &R, address: SocketAddr) -> Result<(), Fail>
+    where
+        R: Net<Stream = TcpStream, Listener = TcpListener> + Clock + AllocGlobal + Abort,
+    {
+        match self {
+            Visitors::Rows => clients::ask_each(rt, address),
+            Visitors::Slow => clients::ask_slowly(rt, address),
+            Visitors::BesideASilentOne => clients::ask_beside_another(rt, address),
+            Visitors::LateBy(millis) => clients::ask_late(rt, address, millis),
+            Visitors::Dripping(limit) => clients::drip(rt, address, limit),
+            Visitors::Reading(reader) => reader.read(rt, address),
+        }
+    }
+}
+
+// So many clients come to an edge, which ends with the last of them.
+fn meet<R>(
+    rt: &R,
+    pages: Pages,
+    limits: Limits,
+    threads: u16,
+    count: u64,
+    visitors: Visitors,
+) -> Result<(), Fail>
+where
+    R: Wait + Threads + Net<Stream = TcpStream, Listener = TcpListener>,
+    R: Clock + RandomSource + AllocGlobal + Clone + Drop + Send + Sync + Abort,
+{
+    let (acceptor, address) = sockets(rt, limits)?;
+    let service = service(rt, pages)?;
+    let (end, came) = thread::join(
+        rt,
+        || serve_accepts(rt, &acceptor, &service, &NoJournal, threads, count),
+        || visitors.come(rt, address),
+    );
+    came?;
+    assert_eq!(rt; end, ServeEnd::Served);
+    Ok(())
 }
 
 // A connection that sends this text.
@@ -111,25 +170,17 @@ where
 }
 
 // What comes over a connection, to its end.
-fn rest(alloc: Global, socket: &TcpStream) -> io::Result<Vec<u8>> {
+fn rest(alloc: Global, mut socket: &TcpStream) -> io::Result<Vec<u8>> {
     let mut bytes = Vec::new(alloc);
-    let mut socket = socket;
     socket.read_to_end(&mut bytes)?;
     Ok(bytes)
 }
 
-// The status of a response, the methods that it allows, where it says so, and its body, with a space
-// between.
+// The status of a response and its body, with a space between.
 fn told(alloc: Global, response: &[u8]) -> Result<String, Fail> {
     let text = str::from_utf8(response).unwrap_or("");
     let (head, body) = text.split_once("\r\n\r\n").unwrap_or((text, ""));
     let (_, status) = head.split_once(" ").unwrap_or(("", head));
     let status = status.get(..3).unwrap_or(status);
-    match head.split_once("\r\nallow: ") {
-        Some((_, allow)) => {
-            let (allow, _) = allow.split_once("\r\n").unwrap_or((allow, ""));
-            Ok(format!(in alloc; "{status} {allow} {}", body.trim_end())?)
-        }
-        None => Ok(format!(in alloc; "{status} {}", body.trim_end())?),
-    }
+    Ok(format!(in alloc; "{status} {}", body.trim_end())?)
 }

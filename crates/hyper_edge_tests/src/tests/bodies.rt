@@ -1,61 +1,100 @@
-// Long bodies go out whole.
+// Long bodies, and the time that they have.
 use super::*;
 
-// Reads on to the end, and tells how many bytes came. Who reads slowly pauses between reads.
-fn count<R: Clock>(rt: &R, socket: &TcpStream, is_slow: bool) -> io::Result<usize> {
-    let mut buf = [0u8; 65_536];
-    let mut socket = socket;
-    let mut count = 0usize;
-    for _ in 0..u64::MAX {
-        let got = socket.read(&mut buf)?;
-        if got == 0 {
-            break;
-        }
-        count = count.saturating_add(got);
-        if is_slow {
-            thread::sleep(rt, Duration::from_micros(100));
-        }
-    }
-    Ok(count)
+// Asks for the page, and reads it, with a pause of so many microseconds behind each read. Without
+// one it has ended its input behind its request.
+#[derive(Clone, Copy)]
+pub(super) struct Reader {
+    micros: u64,
+    // So many bytes of the body are to come, or fewer where the edge is to hang up within.
+    body: usize,
+    is_cut: bool,
 }
 
-// The bytes that a client is sent, with a head of at most 200. It has ended its input behind its
-// request, or it reads slowly.
-fn response_len<R>(rt: &R, address: SocketAddr, is_slow: bool) -> Result<usize, Fail>
-where
-    R: Net<Stream = TcpStream, Listener = TcpListener> + Clock,
-{
-    let socket = asking(rt, address, b"GET /p HTTP/1.1\r\nhost: a.test\r\n\r\n")?;
-    if !is_slow {
-        socket.shutdown(Shutdown::Write)?;
+impl Reader {
+    pub(super) fn read<R>(self, rt: &R, address: SocketAddr) -> Result<(), Fail>
+    where
+        R: Net<Stream = TcpStream, Listener = TcpListener> + Clock + Abort,
+    {
+        let socket = asking(rt, address, ASKED)?;
+        if self.micros == 0 {
+            socket.shutdown(Shutdown::Write)?;
+        }
+        let came = self.count(rt, &socket);
+        let is_right = if self.is_cut {
+            65_536 < came && came < self.body
+        } else {
+            // The head has at most 200 bytes.
+            self.body < came && came < self.body.saturating_add(200)
+        };
+        assert!(rt; is_right, "{came} of {}", self.body);
+        Ok(())
     }
-    Ok(count(rt, &socket, is_slow)?)
+
+    // How many bytes come, to the end.
+    fn count(self, rt: &impl Clock, mut socket: &TcpStream) -> usize {
+        let mut buf = [0u8; 65_536];
+        let mut count = 0usize;
+        for _ in 0..u64::MAX {
+            let got = socket.read(&mut buf).unwrap_or(0);
+            if got == 0 {
+                break;
+            }
+            count = count.saturating_add(got);
+            if self.micros > 0 {
+                thread::sleep(rt, Duration::from_micros(self.micros));
+            }
+        }
+        count
+    }
 }
 
-fn goes_out_whole<R>(rt: &R, alloc: Global, count: u16, is_slow: bool) -> Result<(), Fail>
+// One reader of a page of so many fragments, which takes so many milliseconds to make.
+fn is_read<R>(
+    rt: &R,
+    fragments: u16,
+    making: u64,
+    limit: u64,
+    micros: u64,
+    is_cut: bool,
+) -> Result<(), Fail>
 where
     R: Wait + Threads + Net<Stream = TcpStream, Listener = TcpListener>,
     R: Clock + RandomSource + AllocGlobal + Clone + Drop + Send + Sync + Abort,
 {
-    let (acceptor, address) = sockets(rt, Some(50_000))?;
-    let fragment = vec![in alloc; b'x'; 250_000]?;
-    let service = service(rt, alloc, pages(alloc, count, fragment.as_slice())?)?;
-    let (_, len) = thread::join(
-        rt,
-        || serve_accepts(rt, &acceptor, &service, &NoJournal, 1, 1),
-        || response_len(rt, address, is_slow),
-    );
-    let body = 2 + 250_000 * usize::from(count);
-    let len = len?;
-    assert!(rt; body < len && len < body + 200, "{count}: {len}");
-    Ok(())
+    let pages = Pages {
+        fragments: usize::from(fragments),
+        fragment: 250_000,
+        millis: making,
+    };
+    let limits = Limits {
+        request: millis(50_000),
+        response: millis(limit),
+    };
+    let reader = Reader {
+        micros,
+        body: 2 + 250_000 * usize::from(fragments),
+        is_cut,
+    };
+    meet(rt, pages, limits, 1, 1, Visitors::Reading(reader))
 }
 
 #[test]
 fn each_piece_goes_out(rt: HostRuntime) -> Result<(), Fail> {
-    let alloc = rt.alloc();
-    goes_out_whole(&rt, alloc, 17, false)?;
-    goes_out_whole(&rt, alloc, 41, false)?;
-    goes_out_whole(&rt, alloc, 900, false)?;
-    goes_out_whole(&rt, alloc, 900, true)
+    for fragments in [17, 41, 900] {
+        is_read(&rt, fragments, 0, 50_000, 0, false)?;
+    }
+    is_read(&rt, 200, 0, 50_000, 100, false)
+}
+
+// To read on to the end would take seven seconds, though no write waits for long.
+#[test]
+fn a_response_has_to_be_read_in_time(rt: HostRuntime) -> Result<(), Fail> {
+    is_read(&rt, 200, 0, 400, 10_000, true)
+}
+
+// The page and its fragment take longer than a client may.
+#[test]
+fn a_page_may_take_its_time(rt: HostRuntime) -> Result<(), Fail> {
+    is_read(&rt, 17, 700, 1_000, 0, false)
 }

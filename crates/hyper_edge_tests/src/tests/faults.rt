@@ -5,7 +5,6 @@ ghost use Rattle.std.specs.Io.{ReadsAtMost, WritesAtMost};
 use super::*;
 use futures::task::{Context, Poll};
 use hyper_edge::{Accept, Exchange, Seat, serve_io};
-use std::io::ErrorKind;
 use std::sync::atomic::{AtomicU64, Ordering};
 use tokio::io::{AsyncRead, AsyncWrite};
 
@@ -83,14 +82,14 @@ impl AsyncWrite for Script {
 }
 
 // How many bytes a client in memory is sent whose reads and writes fail after so many.
-fn written<R>(rt: &R, alloc: Global, seat: &mut Seat, moves: u64) -> Result<u64, Fail>
+fn written<R>(rt: &R, seat: &mut Seat, moves: u64) -> Result<u64, Fail>
 where
     R: Wait + Threads + Clock + RandomSource + AllocGlobal + Clone + Drop + Sync,
 {
-    let service = service(rt, alloc, pages(alloc, 1, b"1")?)?;
-    let count = Arc::new(alloc, AtomicU64::new(0))?;
+    let service = service(rt, SHORT)?;
+    let count = Arc::new(rt.alloc(), AtomicU64::new(0))?;
     let io = Script {
-        input: wire(alloc, "GET /p HTTP/1.1|host: a.test||")?,
+        input: ASKED.to_vec(rt.alloc())?,
         is_read: false,
         moves,
         written: count.clone()?,
@@ -101,14 +100,13 @@ where
 
 #[test]
 fn a_stream_that_fails_ends_its_exchange_alone(rt: HostRuntime) -> Result<(), Fail> {
-    let alloc = rt.alloc();
     let mut seat = Seat::new(&rt)?;
-    let whole = written(&rt, alloc, &mut seat, 100)?;
+    let whole = written(&rt, &mut seat, 100)?;
     assert!(rt; whole > 3);
     for moves in 0..6 {
-        let sent = written(&rt, alloc, &mut seat, moves)?;
+        let sent = written(&rt, &mut seat, moves)?;
         assert!(rt; sent <= whole, "{moves}");
-        assert_eq!(rt; written(&rt, alloc, &mut seat, 100)?, whole, "{moves}");
+        assert_eq!(rt; written(&rt, &mut seat, 100)?, whole, "{moves}");
     }
     Ok(())
 }
@@ -135,33 +133,37 @@ impl<R: Clock + Wait + Clone + Drop + Send> Accept<R> for Failing {
 }
 
 // How a server ends whose accepts fail so often before and after one, and what its client was told.
-fn ended<R>(rt: &R, alloc: Global, fails: u64) -> Result<(ServeEnd, u64, String), Fail>
+fn ended<R>(rt: &R, fails: u64) -> Result<(ServeEnd, u64, String), Fail>
 where
     R: Wait + Threads + Net<Stream = TcpStream, Listener = TcpListener>,
-    R: Clock + RandomSource + AllocGlobal + Clone + Drop + Send + Sync + Abort,
+    R: Clock + RandomSource + AllocGlobal + Clone + Drop + Send + Sync,
 {
-    let (sockets, address) = sockets(rt, Some(10_000))?;
+    let limits = Limits {
+        request: millis(10_000),
+        response: millis(10_000),
+    };
+    let (sockets, address) = sockets(rt, limits)?;
     let failing = Failing {
         sockets,
         fails,
         accepts: AtomicU64::new(0),
     };
-    let service = service(rt, alloc, pages(alloc, 1, b"1")?)?;
-    let socket = asking(rt, address, b"GET /p HTTP/1.1\r\nhost: a.test\r\n\r\n")?;
+    let service = service(rt, SHORT)?;
+    let socket = asking(rt, address, ASKED)?;
     let end = serve_accepts(rt, &failing, &service, &NoJournal, 1, u64::MAX);
     let accepts = failing.accepts.load(Ordering::SeqCst);
     drop(failing);
-    let got = rest(alloc, &socket).unwrap_or(Vec::new(alloc));
-    Ok((end, accepts, told(alloc, got.as_slice())?))
+    let got = rest(rt.alloc(), &socket).unwrap_or(Vec::new(rt.alloc()));
+    Ok((end, accepts, told(rt.alloc(), got.as_slice())?))
 }
 
 #[test]
 fn sixteen_failed_accepts_end_a_server(rt: HostRuntime) -> Result<(), Fail> {
-    let (end, accepts, told) = ended(&rt, rt.alloc(), 15)?;
+    let (end, accepts, told) = ended(&rt, 15)?;
     assert_eq!(rt; end, ServeEnd::AcceptsFailed);
     assert_eq!(rt; accepts, 32);
     assert_eq!(rt; told.as_str(), "200 A1B");
-    let (end, accepts, told) = ended(&rt, rt.alloc(), 16)?;
+    let (end, accepts, told) = ended(&rt, 16)?;
     assert_eq!(rt; end, ServeEnd::AcceptsFailed);
     assert_eq!(rt; accepts, 16);
     assert_eq!(rt; told.as_str(), " ");
