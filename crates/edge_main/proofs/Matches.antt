@@ -9,10 +9,10 @@ use Rattle.clap.specs.declared.parser.matches.SubCommand.{SubCommand}
 use Rattle.clap.proofs.WalkLemmas.{first_value-rows}
 use Rattle.clap.proofs.OnLiterals.{clap_on_literals}
 use Rattle.edge_main.specs.declared.asked.Asked.{Asked}
-use Rattle.edge_main.specs.declared.asked.Asked.TheVariants.{Case, Serve}
+use Rattle.edge_main.specs.declared.asked.Asked.TheVariants.{Case, Serve, Check}
 use Rattle.edge_main.specs.declared.asked.Refusal.{Refusal}
 use Rattle.edge_main.specs.declared.asked.Refusal.TheVariants as refusal
-use Rattle.edge_main.specs.CommandLine.{program, word_of, IsAsked, IsAskedToServe, IsRefusedBy, IsRefusedToServe, Asks, IsRefused}
+use Rattle.edge_main.specs.CommandLine.{program, word_of, IsAsked, IsAskedToCheck, IsAskedToServe, IsRefusedBy, IsRefusedToCheck, IsRefusedToServe, Asks, IsRefused}
 
 pub name_of_rows : {Z : Type 0} (sub : Option (Box SubCommand Z)) → option_map (λ p. p.0) (subcommand_rows sub) ≡ option_map (λ b. (out-SubCommand (box_value b)).name.now) sub
 name_of_rows None = refl
@@ -40,6 +40,7 @@ pub judged : (words : List Text) (result : Result Asked Refusal) → fault_of pr
     → MatchResult result (IsAsked (subcommand_of program words)) (IsRefusedBy (subcommand_of program words)) → MatchResult result (Asks words) (IsRefused words)
 judged words (Ok (Case order ahead levels)) taken says = record { taken = taken; says = says }
 judged words (Ok (Serve setup)) taken says = record { taken = taken; says = says }
+judged words (Ok (Check checking)) taken says = record { taken = taken; says = says }
 judged words (Err (refusal.Words error)) taken says = absurd says
 judged words (Err refusal.Order) taken says = (taken, says)
 judged words (Err refusal.Ahead) taken says = (taken, says)
@@ -52,12 +53,26 @@ pub served : (met : Option (Text × List Row)) (rows : List Row) (result : Resul
     → MatchResult result (IsAskedToServe rows) (IsRefusedToServe rows) → MatchResult result (IsAsked met) (IsRefusedBy met)
 served met rows (Ok (Case order ahead levels)) is says = absurd says
 served met rows (Ok (Serve setup)) is says = record { rows = rows; met_is = is; says = says }
+served met rows (Ok (Check checking)) is says = absurd says
 served met rows (Err (refusal.Words error)) is says = absurd says
 served met rows (Err refusal.Order) is says = absurd says
 served met rows (Err refusal.Ahead) is says = absurd says
 served met rows (Err refusal.Levels) is says = absurd says
 served met rows (Err (refusal.Serve option)) is says = (rows, is, says)
 served met rows (Err refusal.NoMemory) is says = tt
+
+-- what the rows of `check` ask for, the matches do
+pub checked : (met : Option (Text × List Row)) (rows : List Row) (result : Result Asked Refusal) → met ≡ Some (codes "check", rows)
+    → MatchResult result (IsAskedToCheck rows) IsRefusedToCheck → MatchResult result (IsAsked met) (IsRefusedBy met)
+checked met rows (Ok (Case order ahead levels)) is says = absurd says
+checked met rows (Ok (Serve setup)) is says = absurd says
+checked met rows (Ok (Check checking)) is says = record { rows = rows; met_is = is; says = says }
+checked met rows (Err (refusal.Words error)) is says = absurd says
+checked met rows (Err refusal.Order) is says = absurd says
+checked met rows (Err refusal.Ahead) is says = absurd says
+checked met rows (Err refusal.Levels) is says = absurd says
+checked met rows (Err (refusal.Serve option)) is says = absurd says
+checked met rows (Err refusal.NoMemory) is says = tt
 
 -- a subcommand of this name with these rows
 pub entered : (met : Option (Text × List Row)) (name : Text) (rows : List Row) → option_map (λ p. p.0) met ≡ Some name → option_map (λ p. p.1) met ≡ Some rows → met ≡ Some (name, rows)

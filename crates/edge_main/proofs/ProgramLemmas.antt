@@ -7,10 +7,11 @@ use Rattle.edge_case.specs.declared.ending.CaseEnd.TheVariants.{PagePrinted, Fau
 use Rattle.edge_case.specs.declared.ending.CaseFault.{CaseFault}
 use Rattle.edge_case.specs.declared.ending.CaseFault.TheVariants.{BadCase, NoMemory, Read, Write}
 use Rattle.edge_case.specs.Run.{IsNoCase, Prints, PrintsPart}
+use Rattle.edge_setup.specs.declared.check.Checking.{Checking}
 use Rattle.edge_setup.specs.declared.setup.Setup.{Setup}
 use Rattle.edge_main.specs.declared.asked.Asked.{Asked}
-use Rattle.edge_main.specs.declared.asked.Asked.TheVariants.{Case, Serve}
-use Rattle.edge_main.specs.CommandLine.{Asks, AsksServe}
+use Rattle.edge_main.specs.declared.asked.Asked.TheVariants.{Case, Serve, Check}
+use Rattle.edge_main.specs.CommandLine.{Asks, AsksCheck, AsksServe}
 use Rattle.edge_main.specs.Program.{AsksLevels, Ends}
 use Rattle.edge_main.specs.Status.{status_of}
 
@@ -18,14 +19,20 @@ use Rattle.edge_main.specs.Status.{status_of}
 abbrev pub IsCaseAt : ℕ → Asked → Type 0
 IsCaseAt levels (Case order ahead n) = n ≡ levels
 IsCaseAt levels (Serve setup) = ⊥
+IsCaseAt levels (Check checking) = ⊥
 
 pub asks_levels : (words : List Text) (levels : ℕ) (asked : Asked) → Asks words asked → IsCaseAt levels asked → AsksLevels words levels
 asks_levels words levels (Case order ahead n) asks same = subst (AsksLevels words) same (order.items, ahead, asks)
 asks_levels words levels (Serve setup) asks same = absurd same
+asks_levels words levels (Check checking) asks same = absurd same
 
 -- what is asked for, where it is to serve
 pub asks_to_serve : (words : List Text) (asked : Asked) (setup : Setup) → asked ≡ Serve setup → Asks words asked → AsksServe words setup
 asks_to_serve words asked setup is asks = subst (Asks words) is asks
+
+-- and where it is to check
+pub asks_to_check : (words : List Text) (asked : Asked) (checking : Checking) → asked ≡ Check checking → Asks words asked → AsksCheck words checking
+asks_to_check words asked checking is asks = subst (Asks words) is asks
 
 pub ends : (words : List Text) (levels : ℕ) (input before after : Option (List ℕ)) (ended : Result CaseEnd CaseFault) → IfOk ended (λ end. Prints levels input before after end)
     → (IsErrOf ended BadCase → IsNoCase input) → IfErr ended (λ e. e ≢ Write → Keeps before after) → (IsErrOf ended Write → PrintsPart levels input before after) → AsksLevels words levels

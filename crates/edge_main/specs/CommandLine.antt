@@ -9,11 +9,13 @@ use Rattle.plan_runner.specs.declared.events.Event.{Event}
 use Rattle.plan_runner.specs.declared.page.TheConstants.{MAX_AHEAD}
 use Rattle.edge_case.specs.Decimal.{decimal_of}
 use Rattle.edge_case.specs.Order.{events_of}
+use Rattle.edge_setup.specs.Check.{check_command, SaysChecking}
 use Rattle.edge_setup.specs.Command.{named_option, serve_command, with_default}
 use Rattle.edge_setup.specs.Words.{IsWithin as IsWithinPages, IsWrong, SaysSetup}
+use Rattle.edge_setup.specs.declared.check.Checking.{Checking}
 use Rattle.edge_setup.specs.declared.setup.Setup.{Setup}
 use Rattle.edge_main.specs.declared.asked.Asked.{Asked}
-use Rattle.edge_main.specs.declared.asked.Asked.TheVariants.{Case, Serve}
+use Rattle.edge_main.specs.declared.asked.Asked.TheVariants.{Case, Serve, Check}
 use Rattle.edge_main.specs.declared.asked.Refusal.{Refusal}
 use Rattle.edge_main.specs.declared.asked.Refusal.TheVariants as refusal
 
@@ -27,9 +29,10 @@ case_command =
     (with_default (codes "16") (named_option (codes "ahead"))))
     (with_default (codes "4") (named_option (codes "levels")))
 
--- the program, which wants a subcommand: `case` or `serve`
+-- the program, which wants a subcommand: `case`, `serve` or `check`
 abbrev pub program : App
-program = with_subcommand (with_subcommand (on_top (λ s. record s { subcommand_required = true }) (new_app (codes "esi_edge"))) case_command.top) serve_command.top
+program =
+    with_subcommand (with_subcommand (with_subcommand (on_top (λ s. record s { subcommand_required = true }) (new_app (codes "esi_edge"))) case_command.top) serve_command.top) check_command.top
 
 -- ---- what the words say
 
@@ -64,6 +67,13 @@ pub record AsksOf (met : Option (Text × List Row)) (order : List Event) (ahead 
 abbrev pub IsAskedToServe : List Row → Asked → Type 0
 IsAskedToServe rows (Case order ahead levels) = ⊥
 IsAskedToServe rows (Serve setup) = SaysSetup rows setup
+IsAskedToServe rows (Check checking) = ⊥
+
+-- what the rows of `check` ask for
+abbrev pub IsAskedToCheck : List Row → Asked → Type 0
+IsAskedToCheck rows (Case order ahead levels) = ⊥
+IsAskedToCheck rows (Serve setup) = ⊥
+IsAskedToCheck rows (Check checking) = SaysChecking rows checking
 
 -- the matches are those of `serve`, and ask for this
 pub record AsksServeOf (met : Option (Text × List Row)) (setup : Setup) : Type 0 where
@@ -71,15 +81,27 @@ pub record AsksServeOf (met : Option (Text × List Row)) (setup : Setup) : Type 
   pub met_is : met ≡ Some (codes "serve", rows)
   pub says : SaysSetup rows setup
 
+-- the matches are those of `check`, and ask for this
+pub record AsksCheckOf (met : Option (Text × List Row)) (checking : Checking) : Type 0 where
+  pub rows : List Row
+  pub met_is : met ≡ Some (codes "check", rows)
+  pub says : SaysChecking rows checking
+
 abbrev pub IsAsked : Option (Text × List Row) → Asked → Type 0
 IsAsked met (Case order ahead levels) = AsksOf met order.items ahead levels
 IsAsked met (Serve setup) = AsksServeOf met setup
+IsAsked met (Check checking) = AsksCheckOf met checking
 
 -- why the rows of `serve` ask for nothing
 abbrev pub IsRefusedToServe : List Row → Refusal → Type 0
 IsRefusedToServe rows (refusal.Serve option) = IsWrong rows option
 IsRefusedToServe rows refusal.NoMemory = Unit {0}
 IsRefusedToServe rows _ = ⊥
+
+-- and those of `check`: for want of memory alone
+abbrev pub IsRefusedToCheck : Refusal → Type 0
+IsRefusedToCheck refusal.NoMemory = Unit {0}
+IsRefusedToCheck _ = ⊥
 
 -- why they ask for nothing: what an option says, or want of memory
 abbrev pub IsRefusedBy : Option (Text × List Row) → Refusal → Type 0
@@ -102,10 +124,16 @@ pub record AsksServe (words : List Text) (setup : Setup) : Type 0 where
   pub taken : fault_of program words ≡ []
   pub says : AsksServeOf (subcommand_of program words) setup
 
+-- the words are those of `check`, and ask for these files
+pub record AsksCheck (words : List Text) (checking : Checking) : Type 0 where
+  pub taken : fault_of program words ≡ []
+  pub says : AsksCheckOf (subcommand_of program words) checking
+
 -- the words ask for this
 abbrev pub Asks : List Text → Asked → Type 0
 Asks words (Case order ahead levels) = AsksCase words order.items ahead levels
 Asks words (Serve setup) = AsksServe words setup
+Asks words (Check checking) = AsksCheck words checking
 
 -- the words are refused so: as `clap` defines it, or for what an option says, or memory ran out
 abbrev pub IsRefused : List Text → Refusal → Type 0
@@ -117,3 +145,4 @@ IsRefused words why = (fault_of program words ≡ []) × IsRefusedBy (subcommand
 abbrev pub IsWithin : Asked → Type 0
 IsWithin (Case order ahead levels) = (ahead ≤ MAX_AHEAD) × AreLevels levels
 IsWithin (Serve setup) = IsWithinPages setup.pages
+IsWithin (Check checking) = Unit {0}

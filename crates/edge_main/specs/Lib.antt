@@ -2,3 +2,4 @@ pub mod Status
 pub mod CommandLine
 pub mod Laws
 pub mod Program
+pub mod Checked

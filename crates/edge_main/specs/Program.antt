@@ -5,13 +5,14 @@ use Rattle.clap.specs.Words.{Text}
 use Rattle.edge_case.specs.declared.ending.CaseEnd.TheVariants.{PagePrinted, FaultPrinted}
 use Rattle.edge_case.specs.Run.{IsNoCase, Prints, PrintsPart}
 use Rattle.edge_main.specs.declared.status.Status.{Status}
-use Rattle.edge_main.specs.declared.status.Status.TheVariants.{Page, PageFault, Served, Usage, BadOrder, BadAhead, BadLevels, BadServe, NotText, BadCase, NoMemory, InputOutput}
+use Rattle.edge_main.specs.declared.status.Status.TheVariants.{Page, PageFault, Served, Checked, FaultFound, Usage, BadOrder, BadAhead, BadLevels, BadServe, NotText, BadCase, NoMemory, InputOutput}
 use Rattle.plan_runner.specs.declared.events.Event.{Event}
 use Rattle.edge_setup.specs.Words.{IsWithin}
+use Rattle.edge_setup.specs.declared.check.Checking.{Checking}
 use Rattle.edge_setup.specs.declared.setup.Setup.{Setup}
 use Rattle.edge_main.specs.declared.program.Done.{Done}
-use Rattle.edge_main.specs.declared.program.Done.TheVariants.{Ran, Serves}
-use Rattle.edge_main.specs.CommandLine.{AsksCase, AsksServe}
+use Rattle.edge_main.specs.declared.program.Done.TheVariants.{Ran, Serves, Checks}
+use Rattle.edge_main.specs.CommandLine.{AsksCase, AsksCheck, AsksServe}
 
 -- the words ask for a case at so many levels, whatever its events and its slots ahead are
 abbrev pub AsksLevels : List Text → ℕ → Type 0
@@ -23,6 +24,11 @@ pub record AsksToServe (words : List Text) (before after : Option (List ℕ)) (s
   pub within : IsWithin setup.pages
   pub untouched : after ≡ before
 
+-- nothing was written, and the words ask to check these files
+pub record AsksToCheck (words : List Text) (before after : Option (List ℕ)) (checking : Checking) : Type 0 where
+  pub asks : AsksCheck words checking
+  pub untouched : after ≡ before
+
 -- what was read and written, by the words of the command line, where the program ends so
 abbrev pub Ends : List Text → Option (List ℕ) → Option (List ℕ) → Option (List ℕ) → Status → Type 0
 Ends words input before after Page = (levels : ℕ) × AsksLevels words levels × Prints levels input before after PagePrinted
@@ -31,6 +37,8 @@ Ends words input before after BadCase = IsNoCase input × Keeps before after
 Ends words input before after NoMemory = Keeps before after
 Ends words input before after InputOutput = Keeps before after ⊎ ((levels : ℕ) × AsksLevels words levels × PrintsPart levels input before after)
 Ends words input before after Served = ⊥
+Ends words input before after Checked = ⊥
+Ends words input before after FaultFound = ⊥
 Ends words input before after Usage = ⊥
 Ends words input before after BadOrder = ⊥
 Ends words input before after BadAhead = ⊥
@@ -42,8 +50,10 @@ Ends words input before after NotText = ⊥
 abbrev pub Does : List Text → Option (List ℕ) → Option (List ℕ) → Option (List ℕ) → Done → Type 0
 Does words input before after (Ran status) = Ends words input before after status
 Does words input before after (Serves setup) = AsksToServe words before after setup
+Does words input before after (Checks checking) = AsksToCheck words before after checking
 
 -- what is to be served is within its limits
 abbrev pub AreLimits : Done → Type 0
 AreLimits (Ran status) = Unit {0}
 AreLimits (Serves setup) = IsWithin setup.pages
+AreLimits (Checks checking) = Unit {0}

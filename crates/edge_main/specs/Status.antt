@@ -12,13 +12,15 @@ use Rattle.edge_setup.specs.declared.setup.Named.TheVariants as named
 use Rattle.edge_main.specs.declared.asked.Refusal.{Refusal}
 use Rattle.edge_main.specs.declared.asked.Refusal.TheVariants as refusal
 use Rattle.edge_main.specs.declared.status.Status.{Status}
-use Rattle.edge_main.specs.declared.status.Status.TheVariants.{Page, PageFault, Served, Usage, BadOrder, BadAhead, BadLevels, BadServe, NotText, BadCase, NoMemory, InputOutput}
+use Rattle.edge_main.specs.declared.status.Status.TheVariants.{Page, PageFault, Served, Checked, FaultFound, Usage, BadOrder, BadAhead, BadLevels, BadServe, NotText, BadCase, NoMemory, InputOutput}
 
 -- the exit status
 abbrev pub code_of : Status → ℕ
 code_of Page = 0
 code_of PageFault = 1
 code_of Served = 0
+code_of Checked = 0
+code_of FaultFound = 1
 code_of Usage = 2
 code_of BadOrder = 2
 code_of BadAhead = 2
@@ -47,6 +49,8 @@ abbrev pub line_of : Status → Option (List ℕ)
 line_of Page = None
 line_of PageFault = None
 line_of Served = None
+line_of Checked = None
+line_of FaultFound = None
 line_of Usage = None
 line_of BadOrder = Some (codes "error: --order takes events with commas between: c, a, or p and one to four digits")
 line_of BadAhead = Some (codes "error: --ahead takes a number from 0 to 256")

@@ -4,14 +4,14 @@ ghost use Rattle.std.specs.Prelude.{◌≡◌};
 ghost use Rattle.edge_main.specs.declared.asked.Refusal.TheVariants as refused;
 
 use clap::Error;
-use edge_setup::{Named, Setup};
+use edge_setup::{Checking, Named, Setup};
 use edge_types::NoMemory;
 use plan_runner::Event;
 use std::alloc::AllocError;
 
 /// What the words of the command line ask for.
 #[derive(Drop)]
-pub(crate) enum Asked {
+pub(crate) enum Asked<'a> {
     /// `case`: standard input is a case, which is to be run.
     Case {
         /// The events that run first.
@@ -23,6 +23,8 @@ pub(crate) enum Asked {
     },
     /// `serve`: pages are to be served as it says.
     Serve(Setup),
+    /// `check`: these templates are to be checked.
+    Check(Checking<'a>),
 }
 
 /// Why the words ask for nothing.

@@ -1,14 +1,14 @@
 //! The command line, judged whole before anything is read.
-ghost use Rattle.std.specs.Prelude.{◌≡◌, ◌≤◌, codes, false, map, string_bytes, option_map, Some, IfOk, IfSome, MatchResult};
+ghost use Rattle.std.specs.Prelude.{◌≡◌, ◌≤◌, false, map, string_bytes, option_map, Some, IfOk, IfSome, MatchResult};
 ghost use Rattle.esi_meaning.specs.Meaning.{AreLevels};
 ghost use Rattle.clap.specs.Words.{app_of, found_of, rows_of, subcommand_rows_of};
 ghost use Rattle.clap.specs.declared.builder.command.Command.TheViews.{out-Command as fields_of};
-ghost use Rattle.edge_main.specs.CommandLine.{program, case_command, word_of, order_of, ahead_of, levels_of, Asks, IsRefused, IsAsked, IsAskedToServe, IsRefusedBy, IsRefusedToServe, IsWithin};
+ghost use Rattle.edge_main.specs.CommandLine.{program, case_command, word_of, order_of, ahead_of, levels_of, Asks, IsRefused, IsAsked, IsAskedToCheck, IsAskedToServe, IsRefusedBy, IsRefusedToCheck, IsRefusedToServe, IsWithin};
 
 use crate::asked::{Asked, Refusal};
 use clap::{ArgMatches, Command};
 use edge_case::{decimal_of, read_events};
-use edge_setup::{SetupFault, option, serve_command, setup_of};
+use edge_setup::{SetupFault, check_command, checking_of, option, serve_command, setup_of};
 use edge_types::NoMemory;
 use esi_meaning::{MAX_LEVELS, are_levels};
 use plan_runner::{Event, MAX_AHEAD};
@@ -52,12 +52,14 @@ fn command<'a>(alloc: Global) -> Result<Command<'a>, AllocError>
 {
     let case = case_command(alloc)?;
     let serve = serve_command(alloc)?;
+    let check = check_command(alloc)?;
     Command::new(alloc, "esi_edge")
         .bin_name("esi_edge")?
         .about("Assembles pages from templates of the ESI Language Specification 1.0")
         .subcommand_required(true)
         .subcommand(case)?
-        .subcommand(serve)
+        .subcommand(serve)?
+        .subcommand(check)
 }
 
 // What an option of `case` says.
@@ -100,26 +102,29 @@ fn levels_of(word: Option<&str>) -> Option<u8>
 }
 
 // What the matches ask for.
-fn asked_by(alloc: Global, matches: &ArgMatches<'_>) -> Result<Asked, Refusal>
+fn asked_by<'a>(alloc: Global, matches: &ArgMatches<'a>) -> Result<Asked<'a>, Refusal>
     ensures judged { MatchResult result (IsAsked (subcommand_rows_of matches.now)) (IsRefusedBy (subcommand_rows_of matches.now)) }
     ensures within { IfOk result IsWithin }
 {
-    match serve_matches(matches) {
-        Some(own) => serve_asked_by(alloc, own),
-        None => case_asked_by(alloc, matches),
+    if let Some(own) = matches_of(matches, "serve") {
+        return serve_asked_by(alloc, own);
     }
+    if let Some(own) = matches_of(matches, "check") {
+        return check_asked_by(alloc, own);
+    }
+    case_asked_by(alloc, matches)
 }
 
-// The matches of `serve`, where that is the subcommand.
-fn serve_matches<'b, 'a>(matches: &'b ArgMatches<'a>) -> Option<&'b ArgMatches<'a>>
-    ensures { IfSome result (λ own. subcommand_rows_of matches.now ≡ Some (codes "serve", rows_of (found_of own.now))) }
+// The matches of the subcommand, where it has this name.
+fn matches_of<'b, 'a>(matches: &'b ArgMatches<'a>, name: &str) -> Option<&'b ArgMatches<'a>>
+    ensures { IfSome result (λ own. subcommand_rows_of matches.now ≡ Some (name.now, rows_of (found_of own.now))) }
 {
-    let own = matches.subcommand_matches("serve")?;
+    let own = matches.subcommand_matches(name)?;
     Some(own)
 }
 
 // What the matches of `serve` ask for.
-fn serve_asked_by(alloc: Global, own: &ArgMatches<'_>) -> Result<Asked, Refusal>
+fn serve_asked_by<'a>(alloc: Global, own: &ArgMatches<'a>) -> Result<Asked<'a>, Refusal>
     ensures judged { MatchResult result (IsAskedToServe (rows_of (found_of own.now))) (IsRefusedToServe (rows_of (found_of own.now))) }
     ensures within { IfOk result IsWithin }
 {
@@ -130,8 +135,16 @@ fn serve_asked_by(alloc: Global, own: &ArgMatches<'_>) -> Result<Asked, Refusal>
     }
 }
 
+// What the matches of `check` ask for.
+fn check_asked_by<'a>(alloc: Global, own: &ArgMatches<'a>) -> Result<Asked<'a>, Refusal>
+    ensures judged { MatchResult result (IsAskedToCheck (rows_of (found_of own.now))) IsRefusedToCheck }
+    ensures within { IfOk result IsWithin }
+{
+    Ok(Asked::Check(checking_of(alloc, own)?))
+}
+
 // What the matches of `case` ask for.
-fn case_asked_by(alloc: Global, matches: &ArgMatches<'_>) -> Result<Asked, Refusal>
+fn case_asked_by<'a>(alloc: Global, matches: &ArgMatches<'a>) -> Result<Asked<'a>, Refusal>
     ensures judged { MatchResult result (IsAsked (subcommand_rows_of matches.now)) (IsRefusedBy (subcommand_rows_of matches.now)) }
     ensures within { IfOk result IsWithin }
 {
@@ -148,7 +161,7 @@ fn case_asked_by(alloc: Global, matches: &ArgMatches<'_>) -> Result<Asked, Refus
 }
 
 /// What the words of the command line ask for.
-pub(crate) fn asked(alloc: Global, words: &[String]) -> Result<Asked, Refusal>
+pub(crate) fn asked<'a>(alloc: Global, words: &'a [String]) -> Result<Asked<'a>, Refusal>
     ensures judged { MatchResult result (Asks (map string_bytes words.now)) (IsRefused (map string_bytes words.now)) }
     ensures within { IfOk result IsWithin }
 {

@@ -1,5 +1,5 @@
-//! The program `esi_edge`: it reads a case text, assembles its page and prints what that comes to, or
-//! serves pages over HTTP.
+//! The program `esi_edge`: it reads a case text, assembles its page and prints what that comes to,
+//! serves pages over HTTP, or tells what is wrong with templates.
 #![tactic(auto)]
 
 ghost use Rattle.clap.specs.Words.{kind_of};
@@ -7,6 +7,7 @@ ghost use Rattle.edge_main.specs.Program.{AreLimits};
 ghost use Rattle.edge_main.specs.Status.{IsEndOf, IsRefusedAs};
 
 mod asked;
+mod checking;
 mod command_line;
 pub mod laws;
 mod program;
@@ -14,6 +15,7 @@ mod serving;
 mod status;
 
 use asked::Refusal;
+use checking::check;
 use clap::error::ErrorKind;
 use program::{Done, run_words};
 use serving::serve;
@@ -26,6 +28,7 @@ fn main(rt: HostRuntime) -> ExitCode {
         Ok(words) => match run(&rt, words.as_slice()) {
             Done::Ran(status) => status,
             Done::Serves(setup) => serve(&rt, setup),
+            Done::Checks(checking) => check(&rt, &checking),
         },
         Err(status) => status,
     };
@@ -45,7 +48,7 @@ fn words(rt: &HostRuntime) -> Result<Vec<String>, Status> {
 }
 
 // Judges the words, and runs the case that they ask for over standard input and output.
-fn run(rt: &HostRuntime, words: &[String]) -> Done
+fn run<'a>(rt: &HostRuntime, words: &'a [String]) -> Done<'a>
     ensures { AreLimits result }
 {
     match run_words(rt.alloc(), words, &mut rt.reader(), &mut io::writer(rt)) {

@@ -7,29 +7,32 @@ use crate::asked::{Asked, Refusal};
 use crate::command_line::asked;
 use crate::status::Status;
 use edge_case::run_case;
-use edge_setup::Setup;
+use edge_setup::{Checking, Setup};
 use std::alloc::Global;
 use std::io::{Read, Write};
 
 /// What came of the words.
 #[derive(Drop)]
-pub(crate) enum Done {
+pub(crate) enum Done<'a> {
     /// A case was run, and ended so.
     Ran(Status),
     /// Pages are to be served as it says.
     Serves(Setup),
+    /// These templates are to be checked.
+    Checks(Checking<'a>),
 }
 
 /// Judges the words of the command line whole, and then runs the case that they ask for, by the
-/// events, with the slots ahead and at the levels that they name; or hands on how they ask to serve.
+/// events, with the slots ahead and at the levels that they name; or hands on how they ask to serve, or
+/// what they ask to check.
 ///
 /// Where they ask for no case, nothing was read or written.
-pub(crate) fn run_words<R: Read, W: Write>(
+pub(crate) fn run_words<'a, R: Read, W: Write>(
     alloc: Global,
-    words: &[String],
+    words: &'a [String],
     reader: &mut R,
     writer: &mut W,
-) -> Result<Done, Refusal>
+) -> Result<Done<'a>, Refusal>
     ensures ran { IfOk result (Does (map string_bytes words.now) (R.remaining reader.old)
         (W.contents writer.old) (W.contents writer.new)) }
     ensures why { IfErr result (IsRefused (map string_bytes words.now)) }
@@ -45,5 +48,6 @@ pub(crate) fn run_words<R: Read, W: Write>(
             Ok(Done::Ran(Status::of(ended)))
         }
         Asked::Serve(setup) => Ok(Done::Serves(setup)),
+        Asked::Check(checking) => Ok(Done::Checks(checking)),
     }
 }

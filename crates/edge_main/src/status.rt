@@ -17,6 +17,10 @@ pub(crate) enum Status {
     PageFault,
     /// The server has served so many connections as it was to.
     Served,
+    /// The files were checked, and have no fault.
+    Checked,
+    /// A file has a fault, or a warning that counts as one.
+    FaultFound,
     /// The command line is no use of the program.
     Usage,
     /// What `--order` names is no list of events.
@@ -66,8 +70,8 @@ impl Status {
         ensures { exit_status result ≡ code_of self }
     {
         ExitCode::from(match self {
-            Status::Page | Status::Served => 0,
-            Status::PageFault => 1,
+            Status::Page | Status::Served | Status::Checked => 0,
+            Status::PageFault | Status::FaultFound => 1,
             Status::Usage
             | Status::BadOrder
             | Status::BadAhead
@@ -95,7 +99,12 @@ impl Status {
             Status::BadCase => Some("bad case text"),
             Status::NoMemory => Some("no memory"),
             Status::InputOutput => Some("input or output failed"),
-            Status::Page | Status::PageFault | Status::Served | Status::Usage => None,
+            Status::Page
+            | Status::PageFault
+            | Status::Served
+            | Status::Checked
+            | Status::FaultFound
+            | Status::Usage => None,
         }
     }
 }

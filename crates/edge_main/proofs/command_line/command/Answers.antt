@@ -11,4 +11,5 @@ returns c =
     let top_is : app_of c.subcommand_required.result ≡ on_top (λ s. record s { subcommand_required = true }) (new_app (codes "esi_edge")) =
     ap app_of_fields c.subcommand_required.ensures ∙ ap (on_top (λ s. record s { subcommand_required = true })) about_is in
     let first_is = c.in_ok-subcommand.ensures.shape c.in_ok-case.ensures.local ∙ ap₂ with_subcommand top_is (ap (λ (a : App). a.top) c.in_ok-case.ensures.app) in
-    IfOk-weaker c.subcommand-2.result _ _ (λ command adds. adds.shape c.in_ok-serve.ensures.local ∙ ap₂ with_subcommand first_is (ap (λ (a : App). a.top) c.in_ok-serve.ensures.app)) c.subcommand-2.ensures
+    let second_is = c.in_ok-subcommand-2.ensures.shape c.in_ok-serve.ensures.local ∙ ap₂ with_subcommand first_is (ap (λ (a : App). a.top) c.in_ok-serve.ensures.app) in
+    IfOk-weaker c.subcommand-3.result _ _ (λ command adds. adds.shape c.in_ok-check.ensures.local ∙ ap₂ with_subcommand second_is (ap (λ (a : App). a.top) c.in_ok-check.ensures.app)) c.subcommand-3.ensures

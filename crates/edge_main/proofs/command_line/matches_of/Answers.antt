@@ -1,11 +1,11 @@
-use Rattle.std.proofs.Common.{◌∙◌, codes, refl}
+use Rattle.std.proofs.Common.{◌∙◌, refl}
 use Rattle.clap.specs.Words.{found_of, rows_of, subcommand_rows_of}
 use Rattle.clap.specs.declared.parser.matches.ArgMatches.TheViews.{out-ArgMatches}
 use Rattle.edge_main.proofs.Matches.{entered, name_of_rows}
-use Rattle.edge_main.proofs.command_line.serve_matches.Goals as goal
+use Rattle.edge_main.proofs.command_line.matches_of.Goals as goal
 
 pub returns : goal.returns
 returns c =
     let matches = c.args.matches.now in
     let found = c.in_ok-own.ensures in
-    entered (subcommand_rows_of matches) (codes "serve") (rows_of (found_of c.in_ok-own.own.now)) (name_of_rows (out-ArgMatches matches).subcommand ∙ found.found.0 refl) found.rows
+    entered (subcommand_rows_of matches) c.args.name.now (rows_of (found_of c.in_ok-own.own.now)) (name_of_rows (out-ArgMatches matches).subcommand ∙ found.found.0 refl) found.rows
