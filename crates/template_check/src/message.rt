@@ -26,6 +26,15 @@ fn is_word_byte(byte: u8) -> bool {
     byte.is_ascii_alphanumeric() || matches!(byte, b'-' | b'_' | b':' | b'.')
 }
 
+// The elements that alone can stand directly in this one; none where nothing can.
+fn parts_of(name: ElementName) -> Option<&'static str> {
+    match name {
+        ElementName::Choose => Some("<esi:when> and <esi:otherwise>"),
+        ElementName::Try => Some("<esi:attempt> and <esi:except>"),
+        _ => None,
+    }
+}
+
 // The name that stands at a place.
 fn word_at(text: &[u8], place: usize) -> &str {
     let (_, rest) = text.split_at(place.min(text.len()));
@@ -46,9 +55,12 @@ impl<'a> Message<'a> {
     ) -> fmt::Result {
         let word = word_at(self.text, trouble.place);
         match trouble.problem {
-            Problem::UnknownElement => write!(f, "no element has the name `{word}`"),
+            Problem::UnknownElement => write!(
+                f,
+                "no element has the name `{word}`: there are include, inline, choose, when, otherwise, try, attempt, except, vars, comment and remove"
+            ),
             Problem::NoSpace => write!(f, "white space is missing before the attribute `{word}`"),
-            Problem::NoEquals => write!(f, "`=` is missing behind the attribute `{word}`"),
+            Problem::NoEquals => write!(f, "`=` is missing after the attribute `{word}`"),
             Problem::NoQuote => write!(f, "the value of the attribute `{word}` needs quotes"),
             Problem::OpenQuote => write!(
                 f,
@@ -59,8 +71,8 @@ impl<'a> Message<'a> {
             Problem::StrayByte => {
                 write!(f, "this can't stand in a tag: is `>` or a quote missing?")
             }
-            Problem::NoRemoveEnd => write!(f, "<esi:remove> has no </esi:remove> behind it"),
-            Problem::NoBlockEnd => write!(f, "<!--esi has no --> behind it"),
+            Problem::NoRemoveEnd => write!(f, "<esi:remove> has no </esi:remove> after it"),
+            Problem::NoBlockEnd => write!(f, "<!--esi has no --> after it"),
         }
     }
 
@@ -96,10 +108,16 @@ impl<'a> Message<'a> {
             Some(opened) => {
                 let outer = element(opened.name);
                 let line = self.line_of(opened);
-                write!(
-                    f,
-                    "neither text nor <esi:remove> can stand directly in <esi:{outer}> from line {line}: is </esi:{outer}> missing before it?"
-                )
+                match parts_of(opened.name) {
+                    Some(parts) => write!(
+                        f,
+                        "only {parts} can stand directly in <esi:{outer}> from line {line}: move this, or close <esi:{outer}> before it"
+                    ),
+                    None => write!(
+                        f,
+                        "<esi:{outer}> from line {line} is still open here: end its tag with `/>`"
+                    ),
+                }
             }
             None => write!(f, "nothing can stand here"),
         }
@@ -190,7 +208,10 @@ impl<'a> Message<'a> {
                 let needed = attribute(lacked);
                 write!(f, "<esi:{inner}> needs the attribute `{needed}`")
             }
-            Reason::BadTest => write!(f, "the attribute `test` can't be read as a test"),
+            Reason::BadTest => write!(
+                f,
+                "the attribute `test` can't be read as a test, such as $(HTTP_COOKIE{{name}})=='text'"
+            ),
             Reason::NoWhen(opened) => self.write_ending(f, opened, ElementName::When),
             Reason::NoHalf { part, opened } => self.write_ending(f, opened, part),
             Reason::Unopened(name) => self.write_closing(f, name, None),

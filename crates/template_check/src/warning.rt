@@ -157,7 +157,7 @@ impl fmt::Display for Warning {
             Warning::EmptySource => write!(f, "an empty `src` asks for this page itself"),
             Warning::SecureSource => write!(
                 f,
-                "`https:` is never asked: this include can only fail"
+                "this can only fail: `http:` URLs and paths are asked, `https:` never"
             ),
             Warning::EmptyText => write!(
                 f,
@@ -169,13 +169,16 @@ impl fmt::Display for Warning {
             ),
             Warning::UnknownVariable => write!(
                 f,
-                "no variable has the name in this reference: it never has a value"
+                "no variable has this name: there are HTTP_ACCEPT_LANGUAGE, HTTP_COOKIE, HTTP_HOST, HTTP_REFERER, HTTP_USER_AGENT and QUERY_STRING"
             ),
             Warning::NoReference => {
                 write!(f, "this `$(` begins no reference: it stands as it is")
             }
             Warning::TagInText => {
-                write!(f, "this is text and no tag: a tag begins with `<esi:`")
+                write!(
+                    f,
+                    "this is text and no tag: a tag begins with `<esi:`, in small letters and without spaces"
+                )
             }
         }
     }

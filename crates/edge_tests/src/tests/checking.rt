@@ -7,22 +7,25 @@ use std::process::Abort;
 use std::test::Fail;
 use template_check::{Message, Position, ReportFault, Told, check, position_of, report};
 
-const TAGS: &str = r#"a<esi:bogus/> => 1:7: error: no element has the name `bogus`
+const TAGS: &str =
+    r#"a<esi:bogus/> => 1:7: error: no element has the name `bogus`: there are include, inline, choose, when, otherwise, try, attempt, except, vars, comment and remove
 <esi:include src=/x/> => 1:14: error: the value of the attribute `src` needs quotes
 <esi:include src="/x"alt='/y'/> => 1:22: error: white space is missing before the attribute `alt`
 ␊␊ <esi:vars a='1'␊  b='2' a='3'/> => 4:9: error: the attribute `a` is given twice
-<esi:include src/> => 1:14: error: `=` is missing behind the attribute `src`
+<esi:include src/> => 1:14: error: `=` is missing after the attribute `src`
 <esi:include src="/x/> => 1:14: error: the quote before the value of the attribute `src` has no second one
 é<esi:include src="/x"  => 1:3: error: the text ends before the tag does: `>` is missing
 <esi:try / > => 1:10: error: this can't stand in a tag: is `>` or a quote missing?
-x␊␉<esi:remove>y => 2:2: error: <esi:remove> has no </esi:remove> behind it
-x␍␊␍<!--esi y => 2:2: error: <!--esi has no --> behind it
+x␊␉<esi:remove>y => 2:2: error: <esi:remove> has no </esi:remove> after it
+x␍␊␍<!--esi y => 2:2: error: <!--esi has no --> after it
 </esi:vars a> => 1:12: error: this can't stand in a tag: is `>` or a quote missing?
-</esi:Vars> => 1:7: error: no element has the name `Vars`
+</esi:Vars> => 1:7: error: no element has the name `Vars`: there are include, inline, choose, when, otherwise, try, attempt, except, vars, comment and remove
 </esi:vars => 1:1: error: the text ends before the tag does: `>` is missing"#;
 
 const ELEMENTS: &str =
-    r#"<esi:try>␊ a</esi:try> => 1:10: error: neither text nor <esi:remove> can stand directly in <esi:try> from line 1: is </esi:try> missing before it?
+    r#"<esi:try>␊ a</esi:try> => 1:10: error: only <esi:attempt> and <esi:except> can stand directly in <esi:try> from line 1: move this, or close <esi:try> before it
+<esi:choose>␊<p>␊<esi:when test="1">a => 1:13: error: only <esi:when> and <esi:otherwise> can stand directly in <esi:choose> from line 1: move this, or close <esi:choose> before it
+<esi:include src="/x">␊a => 1:23: error: <esi:include> from line 1 is still open here: end its tag with `/>`
 <esi:when test="1">a</esi:when> => 1:1: error: <esi:when> can stand in <esi:choose> alone
 <esi:except/> => 1:1: error: <esi:except> can stand in <esi:try> alone
 <esi:choose>␊<esi:when test="1">a␊<esi:when test="2">b => 3:1: error: <esi:when> can't stand directly in <esi:when> from line 2: is </esi:when> missing before it?
@@ -31,7 +34,7 @@ const ELEMENTS: &str =
 <esi:include/> => 1:1: error: <esi:include> needs the attribute `src`
 <esi:inline/> => 1:1: error: <esi:inline> needs the attribute `name`
 <esi:choose><esi:when>a => 1:13: error: <esi:when> needs the attribute `test`
-<esi:choose><esi:when test="1 = 1">a => 1:13: error: the attribute `test` can't be read as a test
+<esi:choose><esi:when test="1 = 1">a => 1:13: error: the attribute `test` can't be read as a test, such as $(HTTP_COOKIE{name})=='text'
 ␊<esi:choose>␊</esi:choose> => 3:1: error: <esi:choose> from line 2 has no <esi:when>
 <esi:choose/> => 1:1: error: <esi:choose> from line 1 has no <esi:when>
 <esi:try>␊<esi:attempt/>␊</esi:try> => 3:1: error: <esi:try> from line 1 has no <esi:except>
@@ -111,18 +114,18 @@ fn a_malformed_tag_has_its_trouble(rt: HostRuntime) -> Result<(), Fail> {
 const WARNINGS: &str = r#"<esi:include src="/x" alt="" onerror="continue"/> => 
 a<esi:include src="" onerror="ignore"/> => f:1:2: warning: `onerror` says nothing here: its one value is `continue`␊f:1:2: warning: an empty `src` asks for this page itself␊
 <esi:vars src="" onerror="" ttl="1"/> => f:1:1: warning: an attribute here says nothing: the language doesn't name it␊
-␊␉<esi:include src="https://a.test/x"/> => f:2:2: warning: `https:` is never asked: this include can only fail␊
+␊␉<esi:include src="https://a.test/x"/> => f:2:2: warning: this can only fail: `http:` URLs and paths are asked, `https:` never␊
 <esi:choose><esi:when test="$(HTTP_HOST) == ''">a</esi:when></esi:choose> => f:1:13: warning: a comparison with `''` is always false: a reference alone asks whether it is empty␊
 <esi:choose><esi:when test="$(HTTP_HOST|'')">a</esi:when></esi:choose> => 
 a$(HTTP_HOST)b => f:1:2: warning: this reference is printed as it stands: it isn't inside <esi:vars>␊
 a$(FOO) $( $5 => 
-<esi:vars>␊é$(FOO)$(HTTP_HOST)$( x</esi:vars>$(QUERY_STRING) => f:2:3: warning: no variable has the name in this reference: it never has a value␊f:2:21: warning: this `$(` begins no reference: it stands as it is␊f:2:36: warning: this reference is printed as it stands: it isn't inside <esi:vars>␊
+<esi:vars>␊é$(FOO)$(HTTP_HOST)$( x</esi:vars>$(QUERY_STRING) => f:2:3: warning: no variable has this name: there are HTTP_ACCEPT_LANGUAGE, HTTP_COOKIE, HTTP_HOST, HTTP_REFERER, HTTP_USER_AGENT and QUERY_STRING␊f:2:21: warning: this `$(` begins no reference: it stands as it is␊f:2:36: warning: this reference is printed as it stands: it isn't inside <esi:vars>␊
 <esi:vars><esi:try><esi:attempt>$(HTTP_HOST)</esi:attempt><esi:except/></esi:try></esi:vars> => 
 <esi:vars/>␍␊$(HTTP_HOST) => f:2:1: warning: this reference is printed as it stands: it isn't inside <esi:vars>␊
-<esi:include src="/$(" alt="$(FOO)"/> => f:1:1: warning: this `$(` begins no reference: it stands as it is␊f:1:1: warning: no variable has the name in this reference: it never has a value␊
-<ESI:include src="/x"/>< esi:vars></ Esi:vars>< b> => f:1:1: warning: this is text and no tag: a tag begins with `<esi:`␊f:1:24: warning: this is text and no tag: a tag begins with `<esi:`␊f:1:35: warning: this is text and no tag: a tag begins with `<esi:`␊
+<esi:include src="/$(" alt="$(FOO)"/> => f:1:1: warning: this `$(` begins no reference: it stands as it is␊f:1:1: warning: no variable has this name: there are HTTP_ACCEPT_LANGUAGE, HTTP_COOKIE, HTTP_HOST, HTTP_REFERER, HTTP_USER_AGENT and QUERY_STRING␊
+<ESI:include src="/x"/>< esi:vars></ Esi:vars>< b> => f:1:1: warning: this is text and no tag: a tag begins with `<esi:`, in small letters and without spaces␊f:1:24: warning: this is text and no tag: a tag begins with `<esi:`, in small letters and without spaces␊f:1:35: warning: this is text and no tag: a tag begins with `<esi:`, in small letters and without spaces␊
 ␊$(HTTP_HOST)</esi:vars> => f:2:13: error: </esi:vars> closes nothing: no element is open␊f:2:1: warning: this reference is printed as it stands: it isn't inside <esi:vars>␊
-$(HTTP_HOST)<esi:bogus/> => f:1:18: error: no element has the name `bogus`␊
+$(HTTP_HOST)<esi:bogus/> => f:1:18: error: no element has the name `bogus`: there are include, inline, choose, when, otherwise, try, attempt, except, vars, comment and remove␊
  => "#;
 
 // What is told of a text in a file of the name `f`.
