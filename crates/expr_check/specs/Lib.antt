@@ -1,0 +1,4 @@
+pub mod Walks
+pub mod Troubles
+pub mod Shown
+pub mod Laws
