@@ -1,3 +1,10 @@
 pub mod ElementLemmas
+pub mod OpenLemmas
+pub mod PartLemmas
+pub mod PlaceLemmas
 pub mod PositionLemmas
+pub mod ReadLemmas
+pub mod RefusalLemmas
+pub mod SayLemmas
+pub mod TagLemmas
 pub mod WarnedLemmas

@@ -1,14 +1,16 @@
 -- Warnings that are collected step by step.
-use Rattle.std.proofs.Common.{◌≡◌, ℕ, ◌+◌, ◌==◌, ◌<◌, ◌≤◌, Bool, true, false, List, [], ◌∷◌, ◌++◌, drop, length, get_or, nat_lt, refl, sym, ◌∙◌, ap, append_assoc, arith, Option, Some, None, is_some}
+use Rattle.std.proofs.Common.{◌≡◌, ℕ, ◌+◌, ◌==◌, ◌<◌, ◌≤◌, Bool, true, false, List, [], ◌∷◌, ◌++◌, drop, length, get_or, nat_lt, refl, sym, ◌∙◌, ap, append_assoc, arith, Option, Some, None, is_some, codes}
 use Rattle.std.proofs.lemmas.List.{drop_more, drop_all, append-nil, nil_from_length}
 use Rattle.std.specs.Str.{byte}
 use Rattle.template_check.specs.Warnings.{begins_empty, stands_empty}
 use Rattle.std.specs.Option.{option_or}
+use Rattle.edge_types.specs.Asked.{asked, resolve}
 use Rattle.esi_scanner.specs.declared.tag.Tag.{Tag}
 use Rattle.esi_scanner.specs.declared.token.Token.{Token}
 use Rattle.template_check.specs.declared.warned.Warned.{Warned}
 use Rattle.template_check.specs.declared.warning.Warning.{Warning}
-use Rattle.template_check.specs.Warned.{warned, text_warning, text_warnings, reference_warning, value_warning, each_warning, due, token_warnings, depth_behind, warnings_from}
+use Rattle.template_check.specs.declared.warning.Warning.TheVariants as warning
+use Rattle.template_check.specs.Warned.{warned, text_warning, text_warnings, reference_warning, value_warning, name_warning, each_warning, due, token_warnings, depth_behind, warnings_from}
 
 -- one step more of what is collected: `all` is what there is, `rest` what is left
 pub added : (initial all found now step rest later : List Warned) → found ++ rest ≡ initial ++ all → rest ≡ step ++ later → now ≡ found ++ step → now ++ later ≡ initial ++ all
@@ -106,3 +108,10 @@ unfolding stands_empty
 empty-step behind_bar rest after b is none =
     let begins : begins_empty behind_bar (b ∷ after) ≡ false = ap (begins_empty behind_bar) (sym is) ∙ none in
     ap (stands_empty behind_bar) is ∙ rw begins refl
+
+-- a name that stands for a URL, and one that doesn't
+pub name-fine : (name page url : List ℕ) → asked None (codes "http://localhost/") ≡ Some page → resolve page name ≡ Some url → None ≡ name_warning name
+name-fine name page url at is = rw (at, is) refl
+
+pub name-idle : (name page : List ℕ) → asked None (codes "http://localhost/") ≡ Some page → resolve page name ≡ None → Some warning.IdleName ≡ name_warning name
+name-idle name page at none = rw (at, none) refl

@@ -1,20 +1,21 @@
 -- What is wrong with a text.
-use Rattle.std.specs.Prelude.{ℕ, List, Option, Some, None, Result, Ok, Err}
+use Rattle.std.specs.Prelude.{ℕ, ◌-◌, List, drop, length, min, Option, Some, None, Result, Ok, Err}
 use Rattle.esi_scanner.specs.declared.token.Token.{Token}
 use Rattle.esi_scanner.specs.declared.problem.Problem.{Problem}
 use Rattle.esi_scanner.specs.declared.problem.Problem.TheVariants as problem
 use Rattle.esi_scanner.specs.declared.problem.Trouble.{Trouble}
+use Rattle.esi_scanner.specs.Bytes.{after_ws}
 use Rattle.esi_scanner.specs.Problems.{trouble_at}
 use Rattle.esi_scanner.specs.Scan.{scan_of}
 use Rattle.esi_tree.specs.Tree.{Elements}
 use Rattle.esi_tree.specs.Reading.{tree_of}
 use Rattle.template_check.specs.declared.checker.Fault.{Fault}
 use Rattle.template_check.specs.declared.reason.Reason.{Reason}
-use Rattle.template_check.specs.declared.reason.Reason.TheVariants.{Malformed}
+use Rattle.template_check.specs.declared.reason.Reason.TheVariants.{Malformed, NoRun}
 use Rattle.template_check.specs.Reasons.{reason_of}
 
 -- a text that has tokens is asked for the token at the place, any other for the tag at which it has none
-abbrev reason_in : List ℕ → ℕ → Result (List Token) ℕ → Reason
+abbrev pub reason_in : List ℕ → ℕ → Result (List Token) ℕ → Reason
 reason_in text place (Ok tokens) = reason_of tokens place
 reason_in text place (Err at) = Malformed (trouble_at text at)
 
@@ -37,9 +38,15 @@ place_in place trouble problem.NoRemoveEnd = place
 place_in place trouble problem.NoBlockEnd = place
 place_in place trouble _ = trouble.place
 
-abbrev place_by : ℕ → Reason → ℕ
-place_by place (Malformed trouble) = place_in place trouble trouble.problem
-place_by place _ = place
+-- where the first byte that is no white space stands, from a place on
+abbrev pub visible_from : List ℕ → ℕ → ℕ
+visible_from text place = length text - length (after_ws (drop (min place (length text)) text))
 
-abbrev pub shown_at : Fault → ℕ
-shown_at fault = place_by fault.place fault.reason
+-- and of text that can't stand there behind the white space before it
+abbrev place_by : List ℕ → ℕ → Reason → ℕ
+place_by text place (Malformed trouble) = place_in place trouble trouble.problem
+place_by text place (NoRun within) = visible_from text place
+place_by text place _ = place
+
+abbrev pub shown_at : List ℕ → Fault → ℕ
+shown_at text fault = place_by text fault.place fault.reason

@@ -2,6 +2,7 @@ pub mod Positions
 pub mod OpenElements
 pub mod Reasons
 pub mod Checking
+pub mod Refusals
 pub mod Laws
 pub mod Warnings
 pub mod Warned

@@ -10,6 +10,7 @@ use Rattle.esi_scanner.specs.declared.token.Kind.{Kind}
 use Rattle.esi_scanner.specs.declared.token.Kind.TheVariants as kinds
 use Rattle.esi_scanner.specs.declared.token.Token.{Token}
 use Rattle.esi_scanner.specs.Tag.{value_of}
+use Rattle.expr_check.specs.Troubles.{trouble_of}
 use Rattle.esi_tree.specs.declared.open_elements.TheConstants.{OPEN_LIMIT}
 use Rattle.esi_tree.specs.Reading.{is_same, stands_in_run}
 use Rattle.template_check.specs.declared.elements.Opened.{Opened}
@@ -57,15 +58,15 @@ abbrev pub ending : Opened → List Token → Reason
 ending opened before = ending_by opened.name opened before
 
 -- why a `when` can't be opened: it has no test, or one that can't be read
-abbrev by_test : Option (List ℕ) → Reason
+abbrev pub by_test : Option (List ℕ) → Reason
 by_test None = why.Lacks element.When known.Test
-by_test (Some test) = why.BadTest
+by_test (Some test) = why.BadTest (trouble_of test)
 
 abbrev pub when_lacks : List Attribute → Reason
 when_lacks attributes = by_test (value_of known.Test attributes)
 
 -- why a tag opens no element, or one that can't end at once
-abbrev lacking_by : ElementName → List Attribute → ℕ → Reason
+abbrev pub lacking_by : ElementName → List Attribute → ℕ → Reason
 lacking_by element.Include attributes place = why.Lacks element.Include known.Src
 lacking_by element.Inline attributes place = why.Lacks element.Inline known.Name
 lacking_by element.When attributes place = when_lacks attributes
@@ -84,7 +85,7 @@ open_reason tag place before =
     else (if is_single tag.name && has_part tag.name 0 before then why.Second tag.name within else lacking tag place))
 
 -- and with a closing tag
-abbrev close_in : ElementName → Option Opened → List Token → Reason
+abbrev pub close_in : ElementName → Option Opened → List Token → Reason
 close_in name None before = why.Unopened name
 close_in name (Some opened) before = if is_same opened.name name then ending opened before else why.Crossed name opened
 
@@ -92,7 +93,7 @@ abbrev pub close_reason : ElementName → List Token → Reason
 close_reason name before = close_in name (innermost 0 before) before
 
 -- and with any token
-abbrev by_kind : Kind → ℕ → List Token → Reason
+abbrev pub by_kind : Kind → ℕ → List Token → Reason
 by_kind (kinds.Open tag) place before = open_reason tag place before
 by_kind (kinds.Close name) place before = close_reason name before
 by_kind _ place before = why.NoRun (innermost 0 before)
@@ -105,7 +106,7 @@ abbrev pub count_before : List Token → ℕ → ℕ
 count_before tokens place = prefix_len (λ (token : Token). nat_lt token.span.start place) tokens
 
 -- of the first token behind others, else of the text's end
-abbrev first_reason : List Token → List Token → Reason
+abbrev pub first_reason : List Token → List Token → Reason
 first_reason before [] = why.Ends (innermost 0 before)
 first_reason before (token ∷ tokens) = token_reason token before
 

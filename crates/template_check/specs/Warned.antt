@@ -2,6 +2,7 @@
 use Rattle.std.specs.Prelude.{ℕ, ◌+◌, ◌-◌, Bool, true, false, not, ◌&&◌, nat_lt, List, [], ◌∷◌, ◌++◌, take, drop, length, min, codes, Option, Some, None, Result, Ok, Err, if◌then◌else◌}
 use Rattle.std.specs.Option.{option_or}
 use Rattle.std.specs.Str.{str_eq_ignore_ascii_case}
+use Rattle.edge_types.specs.Asked.{asked, resolve}
 use Rattle.esi_scanner.specs.declared.attribute.KnownAttribute.{KnownAttribute}
 use Rattle.esi_scanner.specs.declared.attribute.KnownAttribute.TheVariants as known
 use Rattle.esi_scanner.specs.declared.element_name.ElementName.{ElementName}
@@ -95,10 +96,31 @@ warning_in (Some value) = value_warning value
 abbrev pub attribute_warning : Tag → KnownAttribute → Option Warning
 attribute_warning tag attribute = warning_in (value_of attribute tag.attributes)
 
--- references are replaced in the sources of an include and read in the test of a `when`
+-- what an inline's name is warned of: that it stands for no URL that is asked; names are tried at one page, since
+-- relative ones stand for a URL at any
+abbrev by_url : Option (List ℕ) → Option Warning
+by_url None = Some warning.IdleName
+by_url (Some url) = None
+
+abbrev at_page : List ℕ → Option (List ℕ) → Option Warning
+at_page name None = None
+at_page name (Some page) = by_url (resolve page name)
+
+abbrev pub name_warning : List ℕ → Option Warning
+name_warning name = at_page name (asked None (codes "http://localhost/"))
+
+abbrev of_name : Option (List ℕ) → Option Warning
+of_name None = None
+of_name (Some name) = name_warning name
+
+abbrev pub inline_warning : Tag → Option Warning
+inline_warning tag = of_name (value_of known.Name tag.attributes)
+
+-- references are replaced in the sources of an include and read in the test of a `when`; an inline has a name
 abbrev values_by : ElementName → ℕ → Tag → List Warned
 values_by element.Include place tag = warned place (attribute_warning tag known.Src) ++ warned place (attribute_warning tag known.Alt)
 values_by element.When place tag = warned place (attribute_warning tag known.Test)
+values_by element.Inline place tag = warned place (inline_warning tag)
 values_by _ place tag = []
 
 abbrev pub value_warnings : ℕ → Tag → List Warned

@@ -1,11 +1,12 @@
 // What is wrong with a text.
 ghost use Rattle.std.specs.Prelude.{◌≡◌, IfOk};
-ghost use Rattle.template_check.specs.Checking.{reason_at, fault_of, shown_at};
+ghost use Rattle.template_check.specs.Checking.{reason_at, fault_of, visible_from, shown_at};
 ghost use Rattle.template_check.specs.Positions as positions;
 
 use crate::position::{Position, position_of};
 use crate::reason::Reason;
 use crate::reasons::reason_of;
+use crate::warned::after_ws;
 use edge_types::{NoMemory, SharedBytes};
 use esi_scanner::{Problem, ScanFault, scan, trouble_at};
 use esi_tree::{TreeFault, template};
@@ -19,26 +20,37 @@ pub struct Fault {
     pub reason: Reason,
 }
 
+// Where the first byte that is no white space stands, from this place on.
+fn visible_from(text: &[u8], place: usize) -> usize
+    ensures { result ≡ visible_from text.now place }
+{
+    let (_, rest) = text.split_at(place.min(text.len()));
+    text.len() - after_ws(rest).len()
+}
+
 impl Fault {
-    // Where an author has to look: within a tag that can't be read at the trouble's own place, where there is one.
-    fn shown_at(&self) -> usize
-        ensures { result ≡ shown_at self.now }
+    // Where an author has to look: within a tag that can't be read at the trouble's own place, where there is one, and of
+    // text behind the white space before it.
+    fn shown_at(&self, text: &[u8]) -> usize
+        ensures { result ≡ shown_at text.now self.now }
     {
         match self.reason {
             Reason::Malformed(trouble) => match trouble.problem {
                 Problem::TextEnds | Problem::NoRemoveEnd | Problem::NoBlockEnd => self.place,
                 _ => trouble.place,
             },
+            Reason::NoRun(_) => visible_from(text, self.place),
             _ => self.place,
         }
     }
 
     /// The line and the column in this text at which an author has to look: those of the fault's place, but within a tag
-    /// those of the name of the element or the attribute, or of the byte, that is wrong. Takes no memory.
+    /// those of the name of the element or the attribute, or of the byte, that is wrong, and of text those of its first
+    /// byte that is no white space. Takes no memory.
     pub fn position(&self, text: &[u8]) -> Position
-        ensures { result ≡ positions.position_of text.now (shown_at self.now) }
+        ensures { result ≡ positions.position_of text.now (shown_at text.now self.now) }
     {
-        position_of(text, self.shown_at())
+        position_of(text, self.shown_at(text))
     }
 }
 
@@ -47,7 +59,7 @@ fn reason_at(alloc: Global, text: &[u8], place: usize) -> Result<Reason, NoMemor
     ensures { IfOk result (λ reason. reason ≡ reason_at text.now place) }
 {
     match scan(alloc, text) {
-        Ok(tokens) => Ok(reason_of(tokens.as_slice(), place)),
+        Ok(tokens) => reason_of(alloc, tokens.as_slice(), place),
         Err(ScanFault::Malformed(at)) => Ok(Reason::Malformed(trouble_at(alloc, text, at)?)),
         Err(ScanFault::NoMemory) => Err(NoMemory),
     }

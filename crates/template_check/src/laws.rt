@@ -1,5 +1,6 @@
-//! Laws of positions, each the contract of a function that does nothing.
+//! Laws of positions and of reasons, each the contract of a function that does nothing.
 ghost use Rattle.template_check.specs.Laws.{LineIsCounted, FirstLineIsCounted, ColumnIsCounted};
+ghost use Rattle.template_check.specs.Refusals.{ReasonsAreTrue};
 
 /// A place's line is one more than the number of line feeds before it.
 pub fn lines_are_counted()
@@ -14,4 +15,9 @@ pub fn columns_of_the_first_line_are_counted()
 /// Elsewhere its column is one more than the number of bytes between the last line feed before it and the place.
 pub fn columns_are_counted()
     ensures { ColumnIsCounted }
+{}
+
+/// Where a text is no template, the reason is true of the reading that stops at the fault's place.
+pub fn reasons_are_true()
+    ensures { ReasonsAreTrue }
 {}

@@ -4,6 +4,7 @@ use crate::elements::Opened;
 use crate::position::{Position, position_of};
 use crate::reason::Reason;
 use esi_scanner::{ElementName, KnownAttribute, Problem, Trouble};
+use expr_check::TestTrouble;
 use std::fmt::Write;
 use std::{fmt, str};
 
@@ -208,10 +209,13 @@ impl<'a> Message<'a> {
                 let needed = attribute(lacked);
                 write!(f, "<esi:{inner}> needs the attribute `{needed}`")
             }
-            Reason::BadTest => write!(
-                f,
-                "the attribute `test` can't be read as a test, such as $(HTTP_COOKIE{{name}})=='text'"
-            ),
+            Reason::BadTest(TestTrouble { problem, place }) => {
+                let byte = place.saturating_add(1);
+                write!(
+                    f,
+                    "the attribute `test` can't be read from its byte {byte} on: {problem}; a test looks like $(HTTP_COOKIE{{name}})=='text'"
+                )
+            }
             Reason::NoWhen(opened) => self.write_ending(f, opened, ElementName::When),
             Reason::NoHalf { part, opened } => self.write_ending(f, opened, part),
             Reason::Unopened(name) => self.write_closing(f, name, None),

@@ -1,6 +1,7 @@
 // Why a text is no template.
 use crate::elements::Opened;
 use esi_scanner::{ElementName, KnownAttribute, Trouble};
+use expr_check::TestTrouble;
 
 /// Why a text is no template from a place on.
 #[derive(Clone, Copy, Debug, Drop, PartialEq, Eq)]
@@ -26,8 +27,8 @@ pub enum Reason {
         name: ElementName,
         attribute: KnownAttribute,
     },
-    /// The attribute `test` is no test.
-    BadTest,
+    /// The attribute `test` is no test: how far it was read, in bytes of its value, and what is wrong there.
+    BadTest(TestTrouble),
     /// The `choose` ends without a `when`.
     NoWhen(Opened),
     /// The `try` ends without this part.

@@ -1,12 +1,15 @@
 // Tells why no template goes on with a token.
-ghost use Rattle.std.specs.Prelude.{◌≡◌, ◌≤◌, length, reverse};
+ghost use Rattle.std.specs.Prelude.{◌≡◌, ◌≤◌, length, reverse, IfOk};
 ghost use Rattle.esi_tree.specs.Reading.{stands_in_run};
 ghost use Rattle.template_check.specs.Reasons as spec;
 
 use crate::elements::{Opened, has_part, innermost, open_count};
 use crate::reason::Reason;
+use edge_types::NoMemory;
 use esi_scanner::{Attributes, ElementName, Kind, KnownAttribute, Tag, Token};
 use esi_tree::OPEN_LIMIT;
+use expr_check::trouble_of;
+use std::alloc::Global;
 
 // Whether an element of this name may stand where any element may.
 fn stands_in_run(name: ElementName) -> bool
@@ -74,55 +77,55 @@ fn ending(opened: Opened, before: &[Token]) -> Reason
 }
 
 // Why a `when` can't be opened.
-fn when_lacks(attributes: &Attributes) -> Reason
-    ensures { result ≡ spec.when_lacks attributes.now }
+fn when_lacks(alloc: Global, attributes: &Attributes) -> Result<Reason, NoMemory>
+    ensures { IfOk result (λ reason. reason ≡ spec.when_lacks attributes.now) }
 {
     match attributes.value(KnownAttribute::Test) {
-        Some(_) => Reason::BadTest,
-        None => Reason::Lacks {
+        Some(test) => Ok(Reason::BadTest(trouble_of(alloc, test)?)),
+        None => Ok(Reason::Lacks {
             name: ElementName::When,
             attribute: KnownAttribute::Test,
-        },
+        }),
     }
 }
 
 // Why a tag opens no element that may stand there, or one that can't end at once.
-fn lacking(tag: &Tag, place: usize) -> Reason
-    ensures { result ≡ spec.lacking tag.now place }
+fn lacking(alloc: Global, tag: &Tag, place: usize) -> Result<Reason, NoMemory>
+    ensures { IfOk result (λ reason. reason ≡ spec.lacking tag.now place) }
 {
     let name = tag.name;
     match name {
-        ElementName::Include => Reason::Lacks {
+        ElementName::Include => Ok(Reason::Lacks {
             name,
             attribute: KnownAttribute::Src,
-        },
-        ElementName::Inline => Reason::Lacks {
+        }),
+        ElementName::Inline => Ok(Reason::Lacks {
             name,
             attribute: KnownAttribute::Name,
-        },
-        ElementName::When => when_lacks(&tag.attributes),
-        ElementName::Try => Reason::NoHalf {
+        }),
+        ElementName::When => when_lacks(alloc, &tag.attributes),
+        ElementName::Try => Ok(Reason::NoHalf {
             part: ElementName::Attempt,
             opened: Opened { name, place },
-        },
-        _ => Reason::NoWhen(Opened { name, place }),
+        }),
+        _ => Ok(Reason::NoWhen(Opened { name, place })),
     }
 }
 
 // Why no template goes on with an opening tag.
-fn open_reason(tag: &Tag, place: usize, before: &[Token]) -> Reason
-    ensures { result ≡ spec.open_reason tag.now place (reverse before.now) }
+fn open_reason(alloc: Global, tag: &Tag, place: usize, before: &[Token]) -> Result<Reason, NoMemory>
+    ensures { IfOk result (λ reason. reason ≡ spec.open_reason tag.now place (reverse before.now)) }
 {
     let name = tag.name;
     let within = innermost(before);
     if open_count(before) >= OPEN_LIMIT {
-        Reason::TooDeep
+        Ok(Reason::TooDeep)
     } else if !may_stand(name, within) {
-        Reason::Misplaced { name, within }
+        Ok(Reason::Misplaced { name, within })
     } else if is_single(name) && has_part(name, before) {
-        Reason::Second { name, within }
+        Ok(Reason::Second { name, within })
     } else {
-        lacking(tag, place)
+        lacking(alloc, tag, place)
     }
 }
 
@@ -138,13 +141,13 @@ fn close_reason(name: ElementName, before: &[Token]) -> Reason
 }
 
 // Why no template goes on with this token, behind those that stand before it.
-fn token_reason(token: &Token, before: &[Token]) -> Reason
-    ensures { result ≡ spec.token_reason token.now (reverse before.now) }
+fn token_reason(alloc: Global, token: &Token, before: &[Token]) -> Result<Reason, NoMemory>
+    ensures { IfOk result (λ reason. reason ≡ spec.token_reason token.now (reverse before.now)) }
 {
     match &token.kind {
-        Kind::Open(tag) => open_reason(tag, token.span.start, before),
-        Kind::Close(name) => close_reason(*name, before),
-        _ => Reason::NoRun(innermost(before)),
+        Kind::Open(tag) => open_reason(alloc, tag, token.span.start, before),
+        Kind::Close(name) => Ok(close_reason(*name, before)),
+        _ => Ok(Reason::NoRun(innermost(before))),
     }
 }
 
@@ -162,12 +165,14 @@ fn count_before(tokens: &[Token], place: usize) -> usize
 }
 
 /// Why no template goes on with the token at this place; behind all tokens, why the text can't end there.
-pub(crate) fn reason_of(tokens: &[Token], place: usize) -> Reason
-    ensures { result ≡ spec.reason_of tokens.now place }
+///
+/// `NoMemory` comes where a growth is refused.
+pub(crate) fn reason_of(alloc: Global, tokens: &[Token], place: usize) -> Result<Reason, NoMemory>
+    ensures { IfOk result (λ reason. reason ≡ spec.reason_of tokens.now place) }
 {
     let (before, after) = tokens.split_at(count_before(tokens, place));
     match after {
-        [token, ..] => token_reason(token, before),
-        [] => Reason::Ends(innermost(before)),
+        [token, ..] => token_reason(alloc, token, before),
+        [] => Ok(Reason::Ends(innermost(before))),
     }
 }

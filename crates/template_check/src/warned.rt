@@ -4,7 +4,7 @@ ghost use Rattle.esi_vars.specs.Shown.{shown_reference};
 ghost use Rattle.template_check.specs.Warned as spec;
 
 use crate::warning::Warning;
-use edge_types::{NoMemory, is_ws};
+use edge_types::{NoMemory, PageUrl, is_ws};
 use esi_scanner::{ElementName, Kind, KnownAttribute, ScanFault, Span, Tag, Token, scan};
 use esi_vars::{Reference, Variable, reference_at};
 use std::alloc::Global;
@@ -72,8 +72,9 @@ fn ws_len(text: &[u8]) -> usize
 }
 
 // What follows the white space at the front.
-fn after_ws(text: &[u8]) -> &[u8]
-    ensures { result.now ≡ spec.after_ws text.now }
+pub(crate) fn after_ws(text: &[u8]) -> &[u8]
+    ensures value { result.now ≡ spec.after_ws text.now }
+    ensures within { length result.now ≤ length text.now }
 {
     let (_, rest) = text.split_at(ws_len(text));
     rest
@@ -175,7 +176,33 @@ fn attribute_warning(
     }
 }
 
-// Those of the values in which references are replaced.
+// A page at which the names of inlines are tried: relative ones stand for a URL at any.
+const SOME_PAGE: &[u8] = b"http://localhost/";
+
+// What an inline's name is warned of: that it stands for no URL that is asked.
+fn name_warning(alloc: Global, name: &[u8]) -> Result<Option<Warning>, NoMemory>
+    ensures { IfOk result (λ found. found ≡ spec.name_warning name.now) }
+{
+    let Some(page) = PageUrl::parse(alloc, SOME_PAGE)? else {
+        return Ok(None);
+    };
+    match page.resolve(alloc, name)? {
+        Some(_) => Ok(None),
+        None => Ok(Some(Warning::IdleName)),
+    }
+}
+
+// The same of a tag, where it has a name.
+fn inline_warning(alloc: Global, tag: &Tag) -> Result<Option<Warning>, NoMemory>
+    ensures { IfOk result (λ found. found ≡ spec.inline_warning tag.now) }
+{
+    match tag.attributes.value(KnownAttribute::Name) {
+        Some(name) => name_warning(alloc, name),
+        None => Ok(None),
+    }
+}
+
+// Those of the values in which references are replaced, and of names.
 fn add_values(
     alloc: Global,
     found: &mut Vec<Warned>,
@@ -194,6 +221,10 @@ fn add_values(
         ElementName::When => {
             let of_test = attribute_warning(alloc, tag, KnownAttribute::Test)?;
             add(found, place, of_test)
+        }
+        ElementName::Inline => {
+            let of_name = inline_warning(alloc, tag)?;
+            add(found, place, of_name)
         }
         _ => Ok(()),
     }

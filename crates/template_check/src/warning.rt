@@ -28,6 +28,8 @@ pub enum Warning {
     NoReference,
     /// Text that looks like a tag of the language, and is none.
     TagInText,
+    /// An inline's name that stands for no URL that is asked: no include comes to it.
+    IdleName,
 }
 
 impl Warning {
@@ -53,7 +55,8 @@ impl Warning {
             Warning::IdleReference
             | Warning::UnknownVariable
             | Warning::NoReference
-            | Warning::TagInText => false,
+            | Warning::TagInText
+            | Warning::IdleName => false,
         }
     }
 }
@@ -180,6 +183,10 @@ impl fmt::Display for Warning {
                     "this is text and no tag: a tag begins with `<esi:`, in small letters and without spaces"
                 )
             }
+            Warning::IdleName => write!(
+                f,
+                "no include comes to this inline: its name is neither an `http:` URL nor a path"
+            ),
         }
     }
 }

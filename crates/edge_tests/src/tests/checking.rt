@@ -2,6 +2,7 @@
 use super::headers::written_out;
 use edge_types::{NoMemory, SharedBytes};
 use esi_scanner::{Problem, Trouble, trouble_at};
+use expr_check::{TestTrouble, trouble_of};
 use std::alloc::Global;
 use std::process::Abort;
 use std::test::Fail;
@@ -23,9 +24,9 @@ x␍␊␍<!--esi y => 2:2: error: <!--esi has no --> after it
 </esi:vars => 1:1: error: the text ends before the tag does: `>` is missing"#;
 
 const ELEMENTS: &str =
-    r#"<esi:try>␊ a</esi:try> => 1:10: error: only <esi:attempt> and <esi:except> can stand directly in <esi:try> from line 1: move this, or close <esi:try> before it
-<esi:choose>␊<p>␊<esi:when test="1">a => 1:13: error: only <esi:when> and <esi:otherwise> can stand directly in <esi:choose> from line 1: move this, or close <esi:choose> before it
-<esi:include src="/x">␊a => 1:23: error: <esi:include> from line 1 is still open here: end its tag with `/>`
+    r#"<esi:try>␊ a</esi:try> => 2:2: error: only <esi:attempt> and <esi:except> can stand directly in <esi:try> from line 1: move this, or close <esi:try> before it
+<esi:choose>␊<p>␊<esi:when test="1">a => 2:1: error: only <esi:when> and <esi:otherwise> can stand directly in <esi:choose> from line 1: move this, or close <esi:choose> before it
+<esi:include src="/x">␊a => 2:1: error: <esi:include> from line 1 is still open here: end its tag with `/>`
 <esi:when test="1">a</esi:when> => 1:1: error: <esi:when> can stand in <esi:choose> alone
 <esi:except/> => 1:1: error: <esi:except> can stand in <esi:try> alone
 <esi:choose>␊<esi:when test="1">a␊<esi:when test="2">b => 3:1: error: <esi:when> can't stand directly in <esi:when> from line 2: is </esi:when> missing before it?
@@ -34,7 +35,7 @@ const ELEMENTS: &str =
 <esi:include/> => 1:1: error: <esi:include> needs the attribute `src`
 <esi:inline/> => 1:1: error: <esi:inline> needs the attribute `name`
 <esi:choose><esi:when>a => 1:13: error: <esi:when> needs the attribute `test`
-<esi:choose><esi:when test="1 = 1">a => 1:13: error: the attribute `test` can't be read as a test, such as $(HTTP_COOKIE{name})=='text'
+<esi:choose><esi:when test="1 = 1">a => 1:13: error: the attribute `test` can't be read from its byte 3 on: `==` compares, and not `=`; a test looks like $(HTTP_COOKIE{name})=='text'
 ␊<esi:choose>␊</esi:choose> => 3:1: error: <esi:choose> from line 2 has no <esi:when>
 <esi:choose/> => 1:1: error: <esi:choose> from line 1 has no <esi:when>
 <esi:try>␊<esi:attempt/>␊</esi:try> => 3:1: error: <esi:try> from line 1 has no <esi:except>
@@ -45,6 +46,20 @@ a</esi:vars> => 1:2: error: </esi:vars> closes nothing: no element is open
 <esi:vars>␊<esi:vars>a</esi:vars>␊b => 3:2: error: the text ends, and <esi:vars> from line 1 is still open: </esi:vars> is missing
 <esi:vars>a</esi:vars> => no fault
  => no fault"#;
+
+// Tests that are none: the place in bytes, and what is wrong there.
+const TESTS: &str = r#"1 = 1 => 2: `==` compares, and not `=`
+ => 0: a reference, a number or a text in single quotes is wanted here, such as 'text'
+a=='b' => 0: a reference, a number or a text in single quotes is wanted here, such as 'text'
+$(HTTP_HOST == 'a' => 0: this is no reference, such as $(HTTP_HOST) or $(HTTP_COOKIE{name})
+$(HTTP_HOST) == 'a => 16: the quote has no second one
+$(HTTP_HOST)=="a" => 14: a text stands in single quotes
+1 | 1234567890123456789 => 4: a number has 1 to 18 digits
+!!!!!!!!!!!!!!!!!!!!!!!!!!!!!!!!!1 => 32: at most 32 `(` and `!` may stand round an operand
+1 && 2 => 3: `&` and `|` stand once, and not twice
+(1) & 2) => 7: no `(` is open for this `)`
+!(1 | (2) => 9: a `)` is missing
+1 2 => 2: an operator is wanted here: ==, !=, <, >, <=, >=, & or |"#;
 
 // The fault of a text in words.
 fn told(alloc: Global, text: &str) -> Result<String, NoMemory> {
@@ -74,6 +89,17 @@ fn rows_hold(rt: &impl Abort, alloc: Global, rows: &str) -> Result<(), NoMemory>
 fn faults_are_told_in_words(rt: HostRuntime) -> Result<(), Fail> {
     rows_hold(&rt, rt.alloc(), TAGS)?;
     Ok(rows_hold(&rt, rt.alloc(), ELEMENTS)?)
+}
+
+#[test]
+fn troubles_of_tests_are_told_in_words(rt: HostRuntime) -> Result<(), Fail> {
+    for row in TESTS.lines() {
+        let (text, wanted) = row.split_once(" => ").unwrap_or((row, ""));
+        let TestTrouble { problem, place } = trouble_of(rt.alloc(), text.as_bytes())?;
+        let found = format!(in rt.alloc(); "{place}: {problem}")?;
+        assert_eq!(rt; found.as_str(), wanted, "in {text}");
+    }
+    Ok(())
 }
 
 #[test]
@@ -125,6 +151,7 @@ a$(FOO) $( $5 =>
 <esi:include src="/$(" alt="$(FOO)"/> => f:1:1: warning: this `$(` begins no reference: it stands as it is␊f:1:1: warning: no variable has this name: there are HTTP_ACCEPT_LANGUAGE, HTTP_COOKIE, HTTP_HOST, HTTP_REFERER, HTTP_USER_AGENT and QUERY_STRING␊
 <ESI:include src="/x"/>< esi:vars></ Esi:vars>< b> => f:1:1: warning: this is text and no tag: a tag begins with `<esi:`, in small letters and without spaces␊f:1:24: warning: this is text and no tag: a tag begins with `<esi:`, in small letters and without spaces␊f:1:35: warning: this is text and no tag: a tag begins with `<esi:`, in small letters and without spaces␊
 ␊$(HTTP_HOST)</esi:vars> => f:2:13: error: </esi:vars> closes nothing: no element is open␊f:2:1: warning: this reference is printed as it stands: it isn't inside <esi:vars>␊
+<esi:inline name="/a"/><esi:inline name="https://a.test/"/><esi:inline name="http://"/> => f:1:24: warning: no include comes to this inline: its name is neither an `http:` URL nor a path␊f:1:60: warning: no include comes to this inline: its name is neither an `http:` URL nor a path␊
 $(HTTP_HOST)<esi:bogus/> => f:1:18: error: no element has the name `bogus`: there are include, inline, choose, when, otherwise, try, attempt, except, vars, comment and remove␊
  => "#;
 
