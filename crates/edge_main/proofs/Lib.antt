@@ -1,3 +1,4 @@
+pub mod FileWords
 pub mod Matches
 pub mod WrittenOut
 pub mod Asking

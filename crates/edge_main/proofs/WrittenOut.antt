@@ -21,11 +21,11 @@ unfolding clap_on_literals
 plain_say name = record { taken = refl; order_is = refl; ahead_is = refl; levels_are = refl }
 
 -- `clap` takes a plain word for no flag
-no_dashes : (word : Text) → IsPlain word → bytes_eq word (45 ∷ 45 ∷ []) ≡ false
+pub no_dashes : (word : Text) → IsPlain word → bytes_eq word (45 ∷ 45 ∷ []) ≡ false
 no_dashes [] plain = refl
 no_dashes (b ∷ bs) plain = let other : (b == 45) ≡ false = ne_eqb b 45 plain in rw other refl
 
-no_dash : (word : Text) → IsPlain word → strip_byte 45 word ≡ None
+pub no_dash : (word : Text) → IsPlain word → strip_byte 45 word ≡ None
 no_dash [] plain = refl
 no_dash (b ∷ bs) plain = let other : (b == 45) ≡ false = ne_eqb b 45 plain in rw other refl
 

@@ -1,5 +1,5 @@
 -- Laws of the command line: what words that are written out ask for.
-use Rattle.std.specs.Prelude.{◌≡◌, ◌≢◌, ◌↔◌, ◌≤◌, ℕ, List, [], ◌∷◌, codes}
+use Rattle.std.specs.Prelude.{◌≡◌, ◌≢◌, ◌↔◌, ◌≤◌, ℕ, Bool, true, false, List, [], ◌∷◌, map, codes}
 use Rattle.std.specs.Str.{byte}
 use Rattle.clap.specs.Words.{Text}
 use Rattle.esi_meaning.specs.Meaning.{AreLevels}
@@ -7,7 +7,8 @@ use Rattle.plan_runner.specs.declared.events.Event.{Event}
 use Rattle.plan_runner.specs.declared.page.TheConstants.{MAX_AHEAD}
 use Rattle.edge_case.specs.Decimal.{WritesNumber}
 use Rattle.edge_case.specs.Order.{Lists}
-use Rattle.edge_main.specs.CommandLine.{AsksCase}
+use Rattle.edge_setup.specs.declared.check.Checking.{Checking}
+use Rattle.edge_main.specs.CommandLine.{AsksCase, AsksCheck}
 
 -- the words `NAME case`
 abbrev pub plain_words : Text → List Text
@@ -85,3 +86,23 @@ OptionsStandOnce = (name one other : Text) → IsPlain one → IsPlain other
     → AskForNone (name ∷ codes "case" ∷ codes "--order" ∷ one ∷ codes "--order" ∷ other ∷ [])
     × AskForNone (name ∷ codes "case" ∷ codes "--ahead" ∷ one ∷ codes "--ahead" ∷ other ∷ [])
     × AskForNone (name ∷ codes "case" ∷ codes "--levels" ∷ one ∷ codes "--levels" ∷ other ∷ [])
+
+-- ---- the words of `check`
+
+-- the words ask for a check of these files, strict or not, and for nothing else
+abbrev pub AskForCheck : List Text → List Text → Bool → Type 0
+AskForCheck words files is_strict = (checking : Checking) → AsksCheck words checking ↔ ((map (λ file. file.now) checking.files.items ≡ files) × (checking.is_strict ≡ is_strict))
+
+-- the words that stand behind the command name files; `-` is one, and `--strict` none, wherever it stands
+abbrev pub FilesAreAsked : Type 0
+FilesAreAsked = (name file other : Text) → IsPlain file → IsPlain other
+    → AskForCheck (name ∷ codes "check" ∷ file ∷ []) (file ∷ []) false
+    × AskForCheck (name ∷ codes "check" ∷ file ∷ other ∷ []) (file ∷ other ∷ []) false
+    × AskForCheck (name ∷ codes "check" ∷ codes "-" ∷ file ∷ []) (codes "-" ∷ file ∷ []) false
+    × AskForCheck (name ∷ codes "check" ∷ codes "--strict" ∷ file ∷ []) (file ∷ []) true
+    × AskForCheck (name ∷ codes "check" ∷ file ∷ codes "--strict" ∷ other ∷ []) (file ∷ other ∷ []) true
+
+-- without a file they ask for no check
+abbrev pub FilesAreWanted : Type 0
+FilesAreWanted = (name : Text) (checking : Checking)
+    → (AsksCheck (name ∷ codes "check" ∷ []) checking → ⊥) × (AsksCheck (name ∷ codes "check" ∷ codes "--strict" ∷ []) checking → ⊥)

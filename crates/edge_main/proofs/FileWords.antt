@@ -1,0 +1,142 @@
+-- What `clap` makes of the words of `check`.
+use Rattle.std.proofs.Common.{◌≡◌, Bool, true, false, List, [], ◌∷◌, map, codes, refl, sym, ◌∙◌, ap, Option, Some, None}
+use Rattle.clap.specs.Words.{Row, Text, all_of, fault_of, first_of, subcommand_of}
+use Rattle.clap.specs.declared.error.kind.ErrorKind.TheVariants.{MissingRequiredArgument}
+use Rattle.clap.proofs.OnLiterals.{clap_on_literals}
+use Rattle.edge_setup.specs.Check.{files_of}
+use Rattle.edge_setup.specs.Words.{is_set}
+use Rattle.edge_setup.specs.declared.check.Checking.{Checking}
+use Rattle.edge_main.specs.CommandLine.{program, AsksCheck}
+use Rattle.edge_main.specs.Laws.{IsPlain, AskForCheck, FilesAreAsked, FilesAreWanted}
+use Rattle.edge_main.proofs.WrittenOut.{no_dashes, no_dash}
+
+-- the name and the rows of what was met; none where nothing was
+abbrev name_met : Option (Text × List Row) → Text
+name_met None = []
+name_met (Some met) = met.0
+
+abbrev rows_met : Option (Text × List Row) → List Row
+rows_met None = []
+rows_met (Some met) = met.1
+
+-- the words are taken, and name these files
+record Name (words files : List Text) (is_strict : Bool) : Type 0 where
+  pub taken : fault_of program words ≡ []
+  pub named : name_met (subcommand_of program words) ≡ codes "check"
+  pub files_are : files_of (all_of (codes "file") (rows_met (subcommand_of program words))) ≡ files
+  pub strict_is : is_set (first_of (codes "strict") (rows_met (subcommand_of program words))) ≡ is_strict
+
+met-is : (met : Option (Text × List Row)) → name_met met ≡ codes "check" → met ≡ Some (codes "check", rows_met met)
+met-is None named = absurd (cc)
+met-is (Some met) named = ap (λ name. Some (name, met.1)) named
+
+asks : (words files : List Text) (is_strict : Bool) → Name words files is_strict → AskForCheck words files is_strict
+asks words files is_strict names checking = ((λ asked. said asked), λ wanted. asked wanted)
+  where
+    said : AsksCheck words checking → (map (λ file. file.now) checking.files.items ≡ files) × (checking.is_strict ≡ is_strict)
+    said asked =
+        let same : asked.says.rows ≡ rows_met (subcommand_of program words) = sym (ap rows_met asked.says.met_is) in (
+          asked.says.says.files_are ∙ (ap (λ rows. files_of (all_of (codes "file") rows)) same ∙ names.files_are),
+          sym asked.says.says.strict_is ∙ (ap (λ rows. is_set (first_of (codes "strict") rows)) same ∙ names.strict_is),
+        )
+
+    asked : (map (λ file. file.now) checking.files.items ≡ files) × (checking.is_strict ≡ is_strict) → AsksCheck words checking
+    asked wanted = record {
+      taken = names.taken;
+      says = record {
+        rows = rows_met (subcommand_of program words);
+        met_is = met-is (subcommand_of program words) names.named;
+        says = record { files_are = wanted.0 ∙ sym names.files_are; strict_is = names.strict_is ∙ sym wanted.1 };
+      };
+    }
+
+-- one file, and two
+one-file : (name file : Text) → IsPlain file → Name (name ∷ codes "check" ∷ file ∷ []) (file ∷ []) false
+unfolding clap_on_literals
+one-file name file plain =
+    let dashes = no_dashes file plain in
+    let dash = no_dash file plain in
+    record {
+      taken = rw (dashes, dash, dash) (refl {a = []});
+      named = refl;
+      files_are = rw (dashes, dash, dash) (refl {a = file ∷ []});
+      strict_is = rw (dashes, dash, dash) (refl {a = false});
+    }
+
+two-files : (name file other : Text) → IsPlain file → IsPlain other → Name (name ∷ codes "check" ∷ file ∷ other ∷ []) (file ∷ other ∷ []) false
+unfolding clap_on_literals
+two-files name file other plain other_plain =
+    let dashes = no_dashes file plain in
+    let dash = no_dash file plain in
+    let other_dashes = no_dashes other other_plain in
+    let other_dash = no_dash other other_plain in
+    record {
+      taken = rw (dashes, dash, dash, other_dashes, other_dash, other_dash) (refl {a = []});
+      named = refl;
+      files_are = rw (dashes, dash, dash, other_dashes, other_dash, other_dash) (refl {a = file ∷ other ∷ []});
+      strict_is = rw (dashes, dash, dash, other_dashes, other_dash, other_dash) (refl {a = false});
+    }
+
+-- standard input, and a file
+input-and-file : (name file : Text) → IsPlain file → Name (name ∷ codes "check" ∷ codes "-" ∷ file ∷ []) (codes "-" ∷ file ∷ []) false
+unfolding clap_on_literals
+input-and-file name file plain =
+    let dashes = no_dashes file plain in
+    let dash = no_dash file plain in
+    record {
+      taken = rw (dashes, dash, dash) (refl {a = []});
+      named = refl;
+      files_are = rw (dashes, dash, dash) (refl {a = codes "-" ∷ file ∷ []});
+      strict_is = rw (dashes, dash, dash) (refl {a = false});
+    }
+
+-- `--strict` before the files, and between them
+strict-before : (name file : Text) → IsPlain file → Name (name ∷ codes "check" ∷ codes "--strict" ∷ file ∷ []) (file ∷ []) true
+unfolding clap_on_literals
+strict-before name file plain =
+    let dashes = no_dashes file plain in
+    let dash = no_dash file plain in
+    record {
+      taken = rw (dashes, dash, dash) (refl {a = []});
+      named = refl;
+      files_are = rw (dashes, dash, dash) (refl {a = file ∷ []});
+      strict_is = rw (dashes, dash, dash) (refl {a = true});
+    }
+
+strict-between : (name file other : Text) → IsPlain file → IsPlain other → Name (name ∷ codes "check" ∷ file ∷ codes "--strict" ∷ other ∷ []) (file ∷ other ∷ []) true
+unfolding clap_on_literals
+strict-between name file other plain other_plain =
+    let dashes = no_dashes file plain in
+    let dash = no_dash file plain in
+    let other_dashes = no_dashes other other_plain in
+    let other_dash = no_dash other other_plain in
+    record {
+      taken = rw (dashes, dash, dash, other_dashes, other_dash, other_dash) (refl {a = []});
+      named = refl;
+      files_are = rw (dashes, dash, dash, other_dashes, other_dash, other_dash) (refl {a = file ∷ other ∷ []});
+      strict_is = rw (dashes, dash, dash, other_dashes, other_dash, other_dash) (refl {a = true});
+    }
+
+pub files_are_asked : FilesAreAsked
+files_are_asked name file other plain other_plain = (
+  asks _ _ _ (one-file name file plain),
+  asks _ _ _ (two-files name file other plain other_plain),
+  asks _ _ _ (input-and-file name file plain),
+  asks _ _ _ (strict-before name file plain),
+  asks _ _ _ (strict-between name file other plain other_plain),
+)
+
+-- without a file
+none-named : (name : Text) → fault_of program (name ∷ codes "check" ∷ []) ≡ MissingRequiredArgument ∷ []
+unfolding clap_on_literals
+none-named name = refl
+
+none-named_strictly : (name : Text) → fault_of program (name ∷ codes "check" ∷ codes "--strict" ∷ []) ≡ MissingRequiredArgument ∷ []
+unfolding clap_on_literals
+none-named_strictly name = refl
+
+faulty : (words : List Text) (checking : Checking) → fault_of program words ≡ MissingRequiredArgument ∷ [] → AsksCheck words checking → ⊥
+faulty words checking fault asked = let clash : [] ≡ MissingRequiredArgument ∷ [] = sym asked.taken ∙ fault in absurd (cc)
+
+pub files_are_wanted : FilesAreWanted
+files_are_wanted name checking = (faulty _ checking (none-named name), faulty _ checking (none-named_strictly name))
