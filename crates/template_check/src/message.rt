@@ -27,6 +27,24 @@ fn is_word_byte(byte: u8) -> bool {
     byte.is_ascii_alphanumeric() || matches!(byte, b'-' | b'_' | b':' | b'.')
 }
 
+// How an attribute may look that an element needs.
+fn example_of(name: KnownAttribute) -> &'static str {
+    match name {
+        KnownAttribute::Test => "test=\"$(HTTP_COOKIE{name})=='text'\"",
+        KnownAttribute::Name => "name=\"/box\"",
+        _ => "src=\"/news\"",
+    }
+}
+
+// A part that an element lacks, with what it needs itself.
+fn part(name: ElementName) -> &'static str {
+    match name {
+        ElementName::When => "<esi:when test=\"..\">",
+        ElementName::Attempt => "<esi:attempt>",
+        _ => "<esi:except>",
+    }
+}
+
 // The elements that alone can stand directly in this one; none where nothing can.
 fn parts_of(name: ElementName) -> Option<&'static str> {
     match name {
@@ -146,12 +164,12 @@ impl<'a> Message<'a> {
         &self,
         f: &mut fmt::Formatter<W>,
         opened: Opened,
-        part: ElementName,
+        lacked: ElementName,
     ) -> fmt::Result {
         let outer = element(opened.name);
         let line = self.line_of(opened);
-        let inner = element(part);
-        write!(f, "<esi:{outer}> from line {line} has no <esi:{inner}>")
+        let inner = part(lacked);
+        write!(f, "<esi:{outer}> from line {line} has no {inner}")
     }
 
     fn write_closing<W: fmt::Write>(
@@ -207,7 +225,11 @@ impl<'a> Message<'a> {
             } => {
                 let inner = element(name);
                 let needed = attribute(lacked);
-                write!(f, "<esi:{inner}> needs the attribute `{needed}`")
+                let example = example_of(lacked);
+                write!(
+                    f,
+                    "<esi:{inner}> needs the attribute `{needed}`, such as {example}"
+                )
             }
             Reason::BadTest(TestTrouble { problem, place }) => {
                 let byte = place.saturating_add(1);
@@ -217,7 +239,10 @@ impl<'a> Message<'a> {
                 )
             }
             Reason::NoWhen(opened) => self.write_ending(f, opened, ElementName::When),
-            Reason::NoHalf { part, opened } => self.write_ending(f, opened, part),
+            Reason::NoHalf {
+                part: lacked,
+                opened,
+            } => self.write_ending(f, opened, lacked),
             Reason::Unopened(name) => self.write_closing(f, name, None),
             Reason::Crossed { name, opened } => self.write_closing(f, name, Some(opened)),
             Reason::Ends(within) => self.write_ends(f, within),

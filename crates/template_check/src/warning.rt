@@ -149,7 +149,7 @@ impl fmt::Display for Warning {
         match self {
             Warning::OnError => write!(
                 f,
-                "`onerror` says nothing here: its one value is `continue`"
+                "`onerror` says nothing here: its one value is `continue`, which leaves out an include that fails"
             ),
             Warning::UnknownAttribute => {
                 write!(
@@ -160,7 +160,7 @@ impl fmt::Display for Warning {
             Warning::EmptySource => write!(f, "an empty `src` asks for this page itself"),
             Warning::SecureSource => write!(
                 f,
-                "this can only fail: `http:` URLs and paths are asked, `https:` never"
+                "this can only fail: origins are asked by `http:` alone, so write a path or an `http:` URL"
             ),
             Warning::EmptyText => write!(
                 f,
@@ -185,7 +185,7 @@ impl fmt::Display for Warning {
             }
             Warning::IdleName => write!(
                 f,
-                "no include comes to this inline: its name is neither an `http:` URL nor a path"
+                "no include can ask for this inline: name it by a path, such as /box, or by an `http:` URL"
             ),
         }
     }

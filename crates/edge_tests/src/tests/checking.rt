@@ -32,12 +32,12 @@ const ELEMENTS: &str =
 <esi:choose>␊<esi:when test="1">a␊<esi:when test="2">b => 3:1: error: <esi:when> can't stand directly in <esi:when> from line 2: is </esi:when> missing before it?
 <esi:choose>␊<esi:otherwise>a</esi:otherwise>␊<esi:when test="1"/><esi:otherwise/> => 3:21: error: <esi:choose> from line 1 has an <esi:otherwise> already
 <esi:try>␊<esi:attempt>a</esi:attempt>␊<esi:attempt/> => 3:1: error: <esi:try> from line 1 has an <esi:attempt> already
-<esi:include/> => 1:1: error: <esi:include> needs the attribute `src`
-<esi:inline/> => 1:1: error: <esi:inline> needs the attribute `name`
-<esi:choose><esi:when>a => 1:13: error: <esi:when> needs the attribute `test`
+<esi:include/> => 1:1: error: <esi:include> needs the attribute `src`, such as src="/news"
+<esi:inline/> => 1:1: error: <esi:inline> needs the attribute `name`, such as name="/box"
+<esi:choose><esi:when>a => 1:13: error: <esi:when> needs the attribute `test`, such as test="$(HTTP_COOKIE{name})=='text'"
 <esi:choose><esi:when test="1 = 1">a => 1:13: error: the attribute `test` can't be read from its byte 3 on: `==` compares, and not `=`; a test looks like $(HTTP_COOKIE{name})=='text'
-␊<esi:choose>␊</esi:choose> => 3:1: error: <esi:choose> from line 2 has no <esi:when>
-<esi:choose/> => 1:1: error: <esi:choose> from line 1 has no <esi:when>
+␊<esi:choose>␊</esi:choose> => 3:1: error: <esi:choose> from line 2 has no <esi:when test="..">
+<esi:choose/> => 1:1: error: <esi:choose> from line 1 has no <esi:when test="..">
 <esi:try>␊<esi:attempt/>␊</esi:try> => 3:1: error: <esi:try> from line 1 has no <esi:except>
 <esi:try>␊<esi:except/>␊</esi:try> => 3:1: error: <esi:try> from line 1 has no <esi:attempt>
 <esi:try/> => 1:1: error: <esi:try> from line 1 has no <esi:attempt>
@@ -138,9 +138,9 @@ fn a_malformed_tag_has_its_trouble(rt: HostRuntime) -> Result<(), Fail> {
 }
 
 const WARNINGS: &str = r#"<esi:include src="/x" alt="" onerror="continue"/> => 
-a<esi:include src="" onerror="ignore"/> => f:1:2: warning: `onerror` says nothing here: its one value is `continue`␊f:1:2: warning: an empty `src` asks for this page itself␊
+a<esi:include src="" onerror="ignore"/> => f:1:2: warning: `onerror` says nothing here: its one value is `continue`, which leaves out an include that fails␊f:1:2: warning: an empty `src` asks for this page itself␊
 <esi:vars src="" onerror="" ttl="1"/> => f:1:1: warning: an attribute here says nothing: the language doesn't name it␊
-␊␉<esi:include src="https://a.test/x"/> => f:2:2: warning: this can only fail: `http:` URLs and paths are asked, `https:` never␊
+␊␉<esi:include src="https://a.test/x"/> => f:2:2: warning: this can only fail: origins are asked by `http:` alone, so write a path or an `http:` URL␊
 <esi:choose><esi:when test="$(HTTP_HOST) == ''">a</esi:when></esi:choose> => f:1:13: warning: a comparison with `''` is always false: a reference alone asks whether it is empty␊
 <esi:choose><esi:when test="$(HTTP_HOST|'')">a</esi:when></esi:choose> => 
 a$(HTTP_HOST)b => f:1:2: warning: this reference is printed as it stands: it isn't inside <esi:vars>␊
@@ -151,7 +151,7 @@ a$(FOO) $( $5 =>
 <esi:include src="/$(" alt="$(FOO)"/> => f:1:1: warning: this `$(` begins no reference: it stands as it is␊f:1:1: warning: no variable has this name: there are HTTP_ACCEPT_LANGUAGE, HTTP_COOKIE, HTTP_HOST, HTTP_REFERER, HTTP_USER_AGENT and QUERY_STRING␊
 <ESI:include src="/x"/>< esi:vars></ Esi:vars>< b> => f:1:1: warning: this is text and no tag: a tag begins with `<esi:`, in small letters and without spaces␊f:1:24: warning: this is text and no tag: a tag begins with `<esi:`, in small letters and without spaces␊f:1:35: warning: this is text and no tag: a tag begins with `<esi:`, in small letters and without spaces␊
 ␊$(HTTP_HOST)</esi:vars> => f:2:13: error: </esi:vars> closes nothing: no element is open␊f:2:1: warning: this reference is printed as it stands: it isn't inside <esi:vars>␊
-<esi:inline name="/a"/><esi:inline name="https://a.test/"/><esi:inline name="http://"/> => f:1:24: warning: no include comes to this inline: its name is neither an `http:` URL nor a path␊f:1:60: warning: no include comes to this inline: its name is neither an `http:` URL nor a path␊
+<esi:inline name="/a"/><esi:inline name="https://a.test/"/><esi:inline name="http://"/> => f:1:24: warning: no include can ask for this inline: name it by a path, such as /box, or by an `http:` URL␊f:1:60: warning: no include can ask for this inline: name it by a path, such as /box, or by an `http:` URL␊
 $(HTTP_HOST)<esi:bogus/> => f:1:18: error: no element has the name `bogus`: there are include, inline, choose, when, otherwise, try, attempt, except, vars, comment and remove␊
  => "#;
 
