@@ -89,11 +89,11 @@ OptionsStandOnce = (name one other : Text) → IsPlain one → IsPlain other
 
 -- ---- the words of `check`
 
--- the words ask for a check of these files, strict or not, and for nothing else
+-- the words ask for the checks of these files, strict or not, and for no other check
 abbrev pub AskForCheck : List Text → List Text → Bool → Type 0
 AskForCheck words files is_strict = (checking : Checking) → AsksCheck words checking ↔ ((map (λ file. file.now) checking.files.items ≡ files) × (checking.is_strict ≡ is_strict))
 
--- the words that stand behind the command name files; `-` is one, and `--strict` none, wherever it stands
+-- the words that stand behind the command name files; `-` is one, and `--strict` none, before them or between
 abbrev pub FilesAreAsked : Type 0
 FilesAreAsked = (name file other : Text) → IsPlain file → IsPlain other
     → AskForCheck (name ∷ codes "check" ∷ file ∷ []) (file ∷ []) false
