@@ -3,9 +3,8 @@ ghost use Rattle.std.specs.Prelude.{◌≡◌, map, codes, false, IfOk};
 ghost use Rattle.clap.specs.Words.{all_of, app_of, found_of, rows_of, rule_of};
 ghost use Rattle.clap.specs.declared.builder.command.Command.TheViews.{out-Command as fields_of};
 ghost use Rattle.edge_setup.specs.Check.{check_command, files_of, named_files, SaysChecking};
-ghost use Rattle.edge_setup.specs.Command.{named_flag};
 
-use crate::options::with_option;
+use crate::options::{flag, with_option};
 use crate::words::{is_set, word_of};
 use clap::{Arg, ArgAction, ArgMatches, Command};
 use std::alloc::{AllocError, Global};
@@ -27,19 +26,13 @@ pub fn check_command<'a>(alloc: Global) -> Result<Command<'a>, AllocError>
     let command = Command::new(alloc, "check").about(
         "Tells what is wrong with templates, by file, line and column",
     );
-    let command = with_option(command, strict_flag(alloc))?;
+    let strict = flag(
+        alloc,
+        "strict",
+        "Ends with status 1 where a warning is told, too",
+    );
+    let command = with_option(command, strict)?;
     with_option(command, file_names(alloc))
-}
-
-// The option `--strict`.
-fn strict_flag<'a>(alloc: Global) -> Arg<'a>
-    ensures rule { rule_of result ≡ named_flag (codes "strict") }
-    ensures local { result.global ≡ false }
-{
-    Arg::new(alloc, "strict")
-        .long("strict")
-        .action(ArgAction::SetTrue)
-        .help("Ends with status 1 where a warning is told, too")
 }
 
 // The files.

@@ -1,10 +1,10 @@
 //! The subcommand `serve`.
-ghost use Rattle.std.specs.Prelude.{◌≡◌, codes, false, IfOk};
+ghost use Rattle.std.specs.Prelude.{◌≡◌, false, IfOk};
 ghost use Rattle.clap.specs.Words.{app_of, rule_of};
 ghost use Rattle.clap.specs.declared.builder.command.Command.TheViews.{out-Command as fields_of};
-ghost use Rattle.edge_setup.specs.Command.{named_flag, named_option, repeated, serve_command, wanted, with_addresses, with_default, with_pages, with_serving};
+ghost use Rattle.edge_setup.specs.Command.{named_option, repeated, serve_command, wanted, with_addresses, with_default, with_pages, with_serving};
 
-use crate::options::{option, with_option};
+use crate::options::{flag, option, with_option};
 use clap::{Arg, ArgAction, Command};
 use std::alloc::{AllocError, Global};
 
@@ -19,7 +19,10 @@ pub fn serve_command<'a>(alloc: Global) -> Result<Command<'a>, AllocError>
     let command = with_addresses(alloc, command)?;
     let command = with_pages(alloc, command)?;
     let command = with_serving(alloc, command)?;
-    with_option(command, log_flag(alloc))
+    with_option(
+        command,
+        flag(alloc, "log", "Tells each request on standard error"),
+    )
 }
 
 // A number, with what it is where the option isn't there.
@@ -111,15 +114,4 @@ fn with_serving<'a>(alloc: Global, command: Command<'a>) -> Result<Command<'a>, 
     let command = with_option(command, timeout)?;
     let command = with_option(command, client_timeout)?;
     with_option(command, threads)
-}
-
-// The option `--log`.
-fn log_flag<'a>(alloc: Global) -> Arg<'a>
-    ensures rule { rule_of result ≡ named_flag (codes "log") }
-    ensures local { result.global ≡ false }
-{
-    Arg::new(alloc, "log")
-        .long("log")
-        .action(ArgAction::SetTrue)
-        .help("Tells each request on standard error")
 }

@@ -13,6 +13,6 @@ mod words;
 pub use check::{Checking, check_command, checking_of};
 pub use command::serve_command;
 pub use decimal::decimal_of;
-pub use options::{option, with_option};
+pub use options::{flag, option, with_option};
 pub use setup::{Named, Origin, Pages, Serving, Setup, SetupFault};
-pub use words::setup_of;
+pub use words::{is_set, setup_of};

@@ -48,8 +48,8 @@ fn address_of(word: Option<&str>) -> Option<SocketAddr>
     word?.parse().ok()
 }
 
-/// Whether a flag is there.
-pub(crate) fn is_set(word: Option<&str>) -> bool
+/// Whether a flag is there, by what its option says.
+pub fn is_set(word: Option<&str>) -> bool
     ensures { result ≡ is_set (option_map (λ w. w.now) word.entry) }
 {
     match word {
