@@ -1,7 +1,7 @@
-//! Cases run by `run_case`: the printed form, bad texts, and readers and writers that fail; lists of
-//! events and numbers.
+//! Cases run by `run_case`: the printed form, bad texts, and readers and writers that fail; the
+//! templates of a case; lists of events and numbers.
 
-use edge_case::{CaseEnd, CaseFault, decimal_of, read_events, run_case};
+use edge_case::{CaseEnd, CaseFault, Ran, decimal_of, read_events, run_case, templates_in};
 use plan_runner::Event;
 use std::alloc::Global;
 use std::io;
@@ -131,7 +131,7 @@ fn run(alloc: Global, text: &[u8]) -> (Result<CaseEnd, CaseFault>, Vec<u8>) {
     let mut reader = text;
     let mut written = Vec::new(alloc);
     let ended = run_case(alloc, &mut reader, &mut written, 16, 4, &[]);
-    (ended, written)
+    (ended.map(|ran| ran.end), written)
 }
 
 #[test]
@@ -174,7 +174,7 @@ fn a_reader_that_fails_is_told(rt: HostRuntime) {
         let mut reader = FailingReader { rest };
         let mut written = Vec::new(rt.alloc());
         let ended = run_case(rt.alloc(), &mut reader, &mut written, 16, 4, &[]);
-        assert!(rt; ended == Err(CaseFault::Read), "after {len} bytes");
+        assert!(rt; matches!(ended, Err(CaseFault::Read)), "after {len} bytes");
         assert!(rt; written.is_empty(), "after {len} bytes");
     }
 }
@@ -191,10 +191,27 @@ fn a_writer_that_fails_has_a_first_part(rt: HostRuntime) {
             };
             let ended = run_case(rt.alloc(), &mut reader, &mut writer, 16, 4, &[]);
             let (front, _) = FIRST_PRINTED.split_at(room);
-            assert!(rt; ended == Err(CaseFault::Write), "after {room} bytes");
+            assert!(rt;
+                matches!(ended, Err(CaseFault::Write)),
+                "after {room} bytes"
+            );
             assert!(rt; writer.taken.as_slice() == front, "after {room} bytes");
         }
     }
+}
+
+// Of its answers two are templates: not what failed, what is no success, and what asks for nothing.
+const TEMPLATES: &[u8] =
+    b"page http://a.test/p\nfailed http://a.test/1\nanswer 404 1 http://a.test/2\ncontrol content=\"ESI/1.0\"\nbody\n2\nanswer 200 1 http://a.test/3\ncontrol content=\"ESI/1.0\"\nbody\n3\nanswer 200 1 http://a.test/4\nbody\n4\nanswer 299 1 http://a.test/5\ncontrol content=\"ESI/1.0\"\nbody\n5\nend\n";
+
+#[test]
+fn templates_of_a_case_are_listed(rt: HostRuntime) -> Result<(), Fail> {
+    let mut bodies = Vec::new(rt.alloc());
+    for answer in &templates_in(rt.alloc(), TEMPLATES)? {
+        bodies.extend_from_slice(answer.body())?;
+    }
+    assert!(rt; bodies.as_slice() == b"35".as_slice());
+    Ok(())
 }
 
 // Texts that list no events.
@@ -250,7 +267,9 @@ fn a_list_of_a_hundred_thousand_items_is_read_and_run(rt: HostRuntime) -> Result
     let mut reader = FIRST_INCLUDE;
     let mut written = Vec::new(rt.alloc());
     let ended = run_case(rt.alloc(), &mut reader, &mut written, 0, 4, &events);
-    assert!(rt; ended == Ok(CaseEnd::PagePrinted));
+    let Ran { end, text } = ended.or(Err("a run"))?;
+    assert!(rt; end == CaseEnd::PagePrinted);
+    assert!(rt; text.as_slice() == FIRST_INCLUDE);
     assert!(rt; written.as_slice() == FIRST_PRINTED);
     Ok(())
 }

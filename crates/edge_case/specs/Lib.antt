@@ -7,3 +7,4 @@ pub mod Printed
 pub mod Bytes
 pub mod Run
 pub mod Laws
+pub mod Templates

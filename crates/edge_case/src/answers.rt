@@ -35,9 +35,9 @@ impl Got<'_> {
 }
 
 impl Entry<'_> {
-    // The answer that a written one stands for.
+    /// The answer that a written one stands for.
     #[tactic(auto, unfolding(crate::specs::Reading::answered_by))]
-    fn answer(&self, alloc: Global) -> Result<Option<Answer>, NoMemory>
+    pub(crate) fn answer(&self, alloc: Global) -> Result<Option<Answer>, NoMemory>
         ensures { IfOk result (λ found. found ≡ answered_by (shown_entry self.now)) }
     {
         match self {

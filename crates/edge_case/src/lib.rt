@@ -16,10 +16,12 @@ mod number;
 mod order;
 mod printer;
 pub mod runner;
+mod templates;
 mod writing;
 
 pub use case_text::Case;
 pub use decimal::decimal_of;
 pub use ending::{CaseEnd, CaseFault};
 pub use order::read_events;
-pub use runner::run_case;
+pub use runner::{Ran, run_case};
+pub use templates::templates_in;

@@ -1,9 +1,11 @@
 //! Running a case: it is read, evaluated and printed.
 ghost use Rattle.std.specs.Prelude.{◌≡◌, ◌≢◌, ◌≤◌, ◌+◌, IfOk, IfErr, IsErrOf};
-ghost use Rattle.std.specs.Io.KnownBytes.{Keeps};
+ghost use Rattle.std.specs.Io.KnownBytes.{Appends, Keeps};
 ghost use Rattle.esi_meaning.specs.Meaning.{AreLevels};
-ghost use Rattle.edge_case.specs.Bytes.{TakesAtMost, IsReadThrough};
-ghost use Rattle.edge_case.specs.Run.{Reads, IsNoCase, Prints, PrintsPart};
+ghost use Rattle.edge_case.specs.Bytes.{AppendsPart, TakesAtMost, IsInput, IsReadThrough};
+ghost use Rattle.edge_case.specs.Printed.{end_of, printed};
+ghost use Rattle.edge_case.specs.Run.{outcome_of, Reads, IsNoCase, Prints, PrintsPart};
+ghost use Rattle.edge_case.specs.declared.case_text.Case.{Case};
 
 use crate::case_text::{Case, MAX_CASE};
 use crate::ending::{CaseEnd, CaseFault};
@@ -13,9 +15,19 @@ use plan_runner::{Event, MAX_AHEAD, run_to_end};
 use std::alloc::Global;
 use std::io::{Read, Write};
 
-// The case that the input says. The text is dropped before the case is evaluated.
-fn read_case<R: Read>(alloc: Global, reader: &mut R) -> Result<Case, CaseFault>
-    ensures ok { IfOk result (λ case. Reads (R.remaining reader.old) case) }
+/// A case that was run.
+#[derive(Drop)]
+pub struct Ran {
+    /// What was printed.
+    pub end: CaseEnd,
+    /// Its text, which is the whole input.
+    pub text: Vec<u8>,
+}
+
+// The case that the input says, and the input.
+fn read_case<R: Read>(alloc: Global, reader: &mut R) -> Result<(Case, Vec<u8>), CaseFault>
+    ensures ok { IfOk result (λ (case, text). Reads (R.remaining reader.old) case) }
+    ensures text { IfOk result (λ (case, text). IsInput (R.remaining reader.old) text.items) }
     ensures bad { IsErrOf result CaseFault.BadCase → IsNoCase (R.remaining reader.old) }
     ensures through { IfOk result (λ _. IsReadThrough MAX_CASE (R.remaining reader.old) (R.remaining reader.new)) }
     ensures bad_through { IsErrOf result CaseFault.BadCase → IsReadThrough MAX_CASE (R.remaining reader.old) (R.remaining reader.new) }
@@ -24,9 +36,35 @@ fn read_case<R: Read>(alloc: Global, reader: &mut R) -> Result<Case, CaseFault>
 {
     let text = read_input(alloc, reader)?;
     match Case::read(alloc, &text)? {
-        Some(case) => Ok(case),
+        Some(case) => Ok((case, text)),
         None => Err(CaseFault::BadCase),
     }
+}
+
+// Evaluates a case and prints what its page comes to.
+fn print_case<W: Write>(
+    alloc: Global,
+    case: Case,
+    writer: &mut W,
+    ahead: u16,
+    levels: u8,
+    events: &[Event],
+) -> Result<CaseEnd, CaseFault>
+    requires ahead { ahead ≤ MAX_AHEAD }
+    requires levels { AreLevels levels }
+    ensures end { IfOk result (λ end. end ≡ end_of (outcome_of case levels)) }
+    ensures written { IfOk result (λ _. Appends (W.contents writer.old) (W.contents writer.new) (printed (outcome_of case levels))) }
+    ensures nothing { IfErr result (λ e. e ≢ CaseFault.Write → Keeps (W.contents writer.old) (W.contents writer.new)) }
+    ensures part { IsErrOf result CaseFault.Write → AppendsPart (W.contents writer.old) (W.contents writer.new) (printed (outcome_of case levels)) }
+    ensures never_bad { IfErr result (λ e. e ≢ CaseFault.BadCase) }
+{
+    let Case {
+        url,
+        request,
+        table,
+    } = case;
+    let outcome = run_to_end(alloc, url, request, &table, ahead, levels, events)?;
+    print(alloc, writer, &outcome)
 }
 
 /// Reads a case text, runs its page at so many levels and prints what the page comes to. The page is
@@ -47,12 +85,13 @@ pub fn run_case<R: Read, W: Write>(
     ahead: u16,
     levels: u8,
     events: &[Event],
-) -> Result<CaseEnd, CaseFault>
+) -> Result<Ran, CaseFault>
     requires ahead { ahead ≤ MAX_AHEAD }
     requires levels { AreLevels levels }
     // What is written is the printed form of what the case comes to, and nothing else.
-    ensures printed { IfOk result (λ end. Prints levels (R.remaining reader.old)
-        (W.contents writer.old) (W.contents writer.new) end) }
+    ensures printed { IfOk result (λ ran. Prints levels (R.remaining reader.old)
+        (W.contents writer.old) (W.contents writer.new) ran.end) }
+    ensures text { IfOk result (λ ran. IsInput (R.remaining reader.old) ran.text.items) }
     ensures bad_case { IsErrOf result CaseFault.BadCase → IsNoCase (R.remaining reader.old) }
     // Before anything is told of the case the input was read to its end, or past the limit.
     ensures through { IfOk result (λ _. IsReadThrough MAX_CASE (R.remaining reader.old) (R.remaining reader.new)) }
@@ -62,12 +101,7 @@ pub fn run_case<R: Read, W: Write>(
         (W.contents writer.old) (W.contents writer.new) }
     ensures at_most { TakesAtMost (MAX_CASE + 1) (R.remaining reader.old) (R.remaining reader.new) }
 {
-    let case = read_case(alloc, reader)?;
-    let Case {
-        url,
-        request,
-        table,
-    } = case;
-    let outcome = run_to_end(alloc, url, request, &table, ahead, levels, events)?;
-    print(alloc, writer, &outcome)
+    let (case, text) = read_case(alloc, reader)?;
+    let end = print_case(alloc, case, writer, ahead, levels, events)?;
+    Ok(Ran { end, text })
 }

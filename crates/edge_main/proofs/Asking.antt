@@ -11,7 +11,7 @@ use Rattle.edge_case.specs.Order.{Lists}
 use Rattle.edge_case.proofs.Decimals.{decimal_sound, decimal_complete}
 use Rattle.edge_case.proofs.Orders.{order_sound, order_complete}
 use Rattle.edge_main.specs.CommandLine.{program, order_of, ahead_of, levels_by, levels_of, AsksCase}
-use Rattle.edge_main.specs.Laws.{IsAhead, IsLevels, AskForNone, plain_words, order_words, ahead_words, levels_words, all_words}
+use Rattle.edge_main.specs.Laws.{IsAhead, IsLevels, AskForNone, plain_words, order_words, ahead_words, levels_words, why_words, all_words}
 use Rattle.edge_main.proofs.WrittenOut.{Say}
 
 -- ---- what an option says
@@ -84,6 +84,10 @@ asked_as words o a l say order ahead levels O A L by_order by_ahead by_levels = 
 pub plain_asks : (name : Text) (order : List Event) (ahead levels : ℕ) → Say (plain_words name) None (Some (codes "16")) (Some (codes "4"))
     → AsksCase (plain_words name) order ahead levels ↔ ((order ≡ []) × (ahead ≡ 16) × (levels ≡ 4))
 plain_asks name order ahead levels say = asked_as _ _ _ _ say order ahead levels _ _ _ (no_order order) (default_ahead ahead) (default_levels levels)
+
+pub why_asks : (name : Text) (order : List Event) (ahead levels : ℕ) → Say (why_words name) None (Some (codes "16")) (Some (codes "4"))
+    → AsksCase (why_words name) order ahead levels ↔ ((order ≡ []) × (ahead ≡ 16) × (levels ≡ 4))
+why_asks name order ahead levels say = asked_as _ _ _ _ say order ahead levels _ _ _ (no_order order) (default_ahead ahead) (default_levels levels)
 
 pub order_asks : (name word : Text) (order : List Event) (ahead levels : ℕ) → Say (order_words name word) (Some word) (Some (codes "16")) (Some (codes "4"))
     → AsksCase (order_words name word) order ahead levels ↔ (Lists word order × (ahead ≡ 16) × (levels ≡ 4))

@@ -38,7 +38,7 @@ program_is_free = refl
 -- what the matches ask for, the words ask for
 pub judged : (words : List Text) (result : Result Asked Refusal) → fault_of program words ≡ []
     → MatchResult result (IsAsked (subcommand_of program words)) (IsRefusedBy (subcommand_of program words)) → MatchResult result (Asks words) (IsRefused words)
-judged words (Ok (Case order ahead levels)) taken says = record { taken = taken; says = says }
+judged words (Ok (Case order ahead levels is_why)) taken says = (record { taken = taken; says = says.0 }, says.1)
 judged words (Ok (Serve setup)) taken says = record { taken = taken; says = says }
 judged words (Ok (Check checking)) taken says = record { taken = taken; says = says }
 judged words (Err (refusal.Words error)) taken says = absurd says
@@ -51,7 +51,7 @@ judged words (Err refusal.NoMemory) taken says = tt
 -- what the rows of `serve` ask for, the matches do
 pub served : (met : Option (Text × List Row)) (rows : List Row) (result : Result Asked Refusal) → met ≡ Some (codes "serve", rows)
     → MatchResult result (IsAskedToServe rows) (IsRefusedToServe rows) → MatchResult result (IsAsked met) (IsRefusedBy met)
-served met rows (Ok (Case order ahead levels)) is says = absurd says
+served met rows (Ok (Case order ahead levels is_why)) is says = absurd says
 served met rows (Ok (Serve setup)) is says = record { rows = rows; met_is = is; says = says }
 served met rows (Ok (Check checking)) is says = absurd says
 served met rows (Err (refusal.Words error)) is says = absurd says
@@ -64,7 +64,7 @@ served met rows (Err refusal.NoMemory) is says = tt
 -- what the rows of `check` ask for, the matches do
 pub checked : (met : Option (Text × List Row)) (rows : List Row) (result : Result Asked Refusal) → met ≡ Some (codes "check", rows)
     → MatchResult result (IsAskedToCheck rows) IsRefusedToCheck → MatchResult result (IsAsked met) (IsRefusedBy met)
-checked met rows (Ok (Case order ahead levels)) is says = absurd says
+checked met rows (Ok (Case order ahead levels is_why)) is says = absurd says
 checked met rows (Ok (Serve setup)) is says = absurd says
 checked met rows (Ok (Check checking)) is says = record { rows = rows; met_is = is; says = says }
 checked met rows (Err (refusal.Words error)) is says = absurd says

@@ -1,13 +1,13 @@
 -- What `clap` makes of words that are written out.
-use Rattle.std.proofs.Common.{◌≡◌, ◌==◌, false, List, [], ◌∷◌, codes, refl, Option, Some, None}
+use Rattle.std.proofs.Common.{◌≡◌, ◌==◌, true, false, List, [], ◌∷◌, codes, refl, Option, Some, None}
 use Rattle.std.proofs.lemmas.Bool.{ne_eqb}
 use Rattle.std.specs.Str.{bytes_eq}
 use Rattle.clap.specs.Lexer.{strip_byte}
 use Rattle.clap.specs.Words.{Text, fault_of, subcommand_of}
 use Rattle.clap.specs.declared.error.kind.ErrorKind.TheVariants.{ArgumentConflict, InvalidValue}
 use Rattle.clap.proofs.OnLiterals.{clap_on_literals}
-use Rattle.edge_main.specs.CommandLine.{program, word_of}
-use Rattle.edge_main.specs.Laws.{IsPlain, plain_words, order_words, ahead_words, levels_words, all_words}
+use Rattle.edge_main.specs.CommandLine.{program, word_of, is_why_of}
+use Rattle.edge_main.specs.Laws.{IsPlain, plain_words, order_words, ahead_words, levels_words, why_words, all_words}
 
 -- the words are taken, and the options of `case` say this
 pub record Say (words : List Text) (order ahead levels : Option Text) : Type 0 where
@@ -19,6 +19,19 @@ pub record Say (words : List Text) (order ahead levels : Option Text) : Type 0 w
 pub plain_say : (name : Text) → Say (plain_words name) None (Some (codes "16")) (Some (codes "4"))
 unfolding clap_on_literals
 plain_say name = record { taken = refl; order_is = refl; ahead_is = refl; levels_are = refl }
+
+pub why_say : (name : Text) → Say (why_words name) None (Some (codes "16")) (Some (codes "4"))
+unfolding clap_on_literals
+why_say name = record { taken = refl; order_is = refl; ahead_is = refl; levels_are = refl }
+
+-- whether `--why` is there
+pub why_set : (name : Text) → is_why_of (subcommand_of program (why_words name)) ≡ true
+unfolding clap_on_literals
+why_set name = refl
+
+pub why_lacks : (name : Text) → is_why_of (subcommand_of program (plain_words name)) ≡ false
+unfolding clap_on_literals
+why_lacks name = refl
 
 -- `clap` takes a plain word for no flag
 pub no_dashes : (word : Text) → IsPlain word → bytes_eq word (45 ∷ 45 ∷ []) ≡ false

@@ -1,5 +1,5 @@
 -- The command line of the program, by `clap`'s definitions of commands.
-use Rattle.std.specs.Prelude.{◌≡◌, ◌≤◌, ℕ, true, nat_le, List, [], ◌∷◌, codes, Option, Some, None, option_and_then, if◌then◌else◌}
+use Rattle.std.specs.Prelude.{◌≡◌, ◌≤◌, ℕ, Bool, true, nat_le, List, [], codes, Option, Some, None, option_and_then, if◌then◌else◌}
 use Rattle.std.specs.Str.{bytes_eq}
 use Rattle.clap.specs.Words.{App, Row, Text, HasKind, fault_of, first_of, new_app, subcommand_of, with_rule, with_subcommand}
 use Rattle.clap.specs.Simple.{on_top}
@@ -10,8 +10,8 @@ use Rattle.plan_runner.specs.declared.page.TheConstants.{MAX_AHEAD}
 use Rattle.edge_case.specs.Decimal.{decimal_of}
 use Rattle.edge_case.specs.Order.{events_of}
 use Rattle.edge_setup.specs.Check.{check_command, SaysChecking}
-use Rattle.edge_setup.specs.Command.{named_option, serve_command, with_default}
-use Rattle.edge_setup.specs.Words.{IsWithin as IsWithinPages, IsWrong, SaysSetup}
+use Rattle.edge_setup.specs.Command.{named_flag, named_option, serve_command, with_default}
+use Rattle.edge_setup.specs.Words.{IsWithin as IsWithinPages, IsWrong, SaysSetup, is_set}
 use Rattle.edge_setup.specs.declared.check.Checking.{Checking}
 use Rattle.edge_setup.specs.declared.setup.Setup.{Setup}
 use Rattle.edge_main.specs.declared.asked.Asked.{Asked}
@@ -21,13 +21,15 @@ use Rattle.edge_main.specs.declared.asked.Refusal.TheVariants as refusal
 
 -- ---- the command
 
--- the subcommand `case`: `--order`, `--ahead`, which says 16, and `--levels`, which says 4 where it isn't there
+-- the subcommand `case`: `--order`, `--ahead`, which says 16, and `--levels`, which says 4 where it isn't there, and
+-- the flag `--why`
 abbrev pub case_command : App
 case_command =
-    with_rule (with_rule (with_rule (new_app (codes "case"))
+    with_rule (with_rule (with_rule (with_rule (new_app (codes "case"))
     (named_option (codes "order")))
     (with_default (codes "16") (named_option (codes "ahead"))))
-    (with_default (codes "4") (named_option (codes "levels")))
+    (with_default (codes "4") (named_option (codes "levels"))))
+    (named_flag (codes "why"))
 
 -- the program, which wants a subcommand: `case`, `serve` or `check`
 abbrev pub program : App
@@ -57,6 +59,10 @@ levels_by number = option_and_then (λ n. if nat_le MIN_LEVELS n then Some n els
 abbrev pub levels_of : Option Text → Option ℕ
 levels_of word = levels_by (option_and_then (λ w. decimal_of w MAX_LEVELS) word)
 
+-- whether `--why` is there
+abbrev pub is_why_of : Option (Text × List Row) → Bool
+is_why_of met = is_set (word_of (codes "why") met)
+
 -- what the matches of a subcommand, where that is `case`, ask for
 pub record AsksOf (met : Option (Text × List Row)) (order : List Event) (ahead levels : ℕ) : Type 0 where
   pub order_is : order_of (word_of (codes "order") met) ≡ Some order
@@ -65,13 +71,13 @@ pub record AsksOf (met : Option (Text × List Row)) (order : List Event) (ahead 
 
 -- what the rows of `serve` ask for
 abbrev pub IsAskedToServe : List Row → Asked → Type 0
-IsAskedToServe rows (Case order ahead levels) = ⊥
+IsAskedToServe rows (Case order ahead levels is_why) = ⊥
 IsAskedToServe rows (Serve setup) = SaysSetup rows setup
 IsAskedToServe rows (Check checking) = ⊥
 
 -- what the rows of `check` ask for
 abbrev pub IsAskedToCheck : List Row → Asked → Type 0
-IsAskedToCheck rows (Case order ahead levels) = ⊥
+IsAskedToCheck rows (Case order ahead levels is_why) = ⊥
 IsAskedToCheck rows (Serve setup) = ⊥
 IsAskedToCheck rows (Check checking) = SaysChecking rows checking
 
@@ -88,7 +94,7 @@ pub record AsksCheckOf (met : Option (Text × List Row)) (checking : Checking) :
   pub says : SaysChecking rows checking
 
 abbrev pub IsAsked : Option (Text × List Row) → Asked → Type 0
-IsAsked met (Case order ahead levels) = AsksOf met order.items ahead levels
+IsAsked met (Case order ahead levels is_why) = AsksOf met order.items ahead levels × (is_why_of met ≡ is_why)
 IsAsked met (Serve setup) = AsksServeOf met setup
 IsAsked met (Check checking) = AsksCheckOf met checking
 
@@ -119,6 +125,10 @@ pub record AsksCase (words : List Text) (order : List Event) (ahead levels : ℕ
   pub taken : fault_of program words ≡ []
   pub says : AsksOf (subcommand_of program words) order ahead levels
 
+-- they ask to be told why the page has a fault, or not
+abbrev pub AsksWhy : List Text → Bool → Type 0
+AsksWhy words is_why = is_why_of (subcommand_of program words) ≡ is_why
+
 -- the words are those of `serve`, and ask for a server that is set up so
 pub record AsksServe (words : List Text) (setup : Setup) : Type 0 where
   pub taken : fault_of program words ≡ []
@@ -131,7 +141,7 @@ pub record AsksCheck (words : List Text) (checking : Checking) : Type 0 where
 
 -- the words ask for this
 abbrev pub Asks : List Text → Asked → Type 0
-Asks words (Case order ahead levels) = AsksCase words order.items ahead levels
+Asks words (Case order ahead levels is_why) = AsksCase words order.items ahead levels × AsksWhy words is_why
 Asks words (Serve setup) = AsksServe words setup
 Asks words (Check checking) = AsksCheck words checking
 
@@ -143,6 +153,6 @@ IsRefused words why = (fault_of program words ≡ []) × IsRefusedBy (subcommand
 
 -- the numbers are within their limits
 abbrev pub IsWithin : Asked → Type 0
-IsWithin (Case order ahead levels) = (ahead ≤ MAX_AHEAD) × AreLevels levels
+IsWithin (Case order ahead levels is_why) = (ahead ≤ MAX_AHEAD) × AreLevels levels
 IsWithin (Serve setup) = IsWithinPages setup.pages
 IsWithin (Check checking) = Unit {0}

@@ -8,7 +8,7 @@ use Rattle.plan_runner.specs.declared.page.TheConstants.{MAX_AHEAD}
 use Rattle.edge_case.specs.Decimal.{WritesNumber}
 use Rattle.edge_case.specs.Order.{Lists}
 use Rattle.edge_setup.specs.declared.check.Checking.{Checking}
-use Rattle.edge_main.specs.CommandLine.{AsksCase, AsksCheck}
+use Rattle.edge_main.specs.CommandLine.{AsksCase, AsksCheck, AsksWhy}
 
 -- the words `NAME case`
 abbrev pub plain_words : Text → List Text
@@ -23,6 +23,10 @@ ahead_words name word = name ∷ codes "case" ∷ codes "--ahead" ∷ word ∷ [
 
 abbrev pub levels_words : Text → Text → List Text
 levels_words name word = name ∷ codes "case" ∷ codes "--levels" ∷ word ∷ []
+
+-- the words `NAME case --why`
+abbrev pub why_words : Text → List Text
+why_words name = name ∷ codes "case" ∷ codes "--why" ∷ []
 
 -- the words `NAME case --order LIST --ahead N --levels N`
 abbrev pub all_words : Text → Text → Text → Text → List Text
@@ -69,6 +73,11 @@ LevelsAreAsked = (name word : Text) → IsPlain word → (order : List Event) (a
 abbrev pub AllAreAsked : Type 0
 AllAreAsked = (name list slots depth : Text) → IsPlain list → IsPlain slots → IsPlain depth → (order : List Event) (ahead levels : ℕ)
     → AsksCase (all_words name list slots depth) order ahead levels ↔ (Lists list order × IsAhead slots ahead × IsLevels depth levels)
+
+-- `--why` asks to be told why, and without it nobody does; the run is that of no option
+abbrev pub WhyIsAsked : Type 0
+WhyIsAsked = (name : Text) → AsksWhy (why_words name) true × AsksWhy (plain_words name) false
+    × ((order : List Event) (ahead levels : ℕ) → AsksCase (why_words name) order ahead levels ↔ ((order ≡ []) × (ahead ≡ 16) × (levels ≡ 4)))
 
 -- a word that writes no number from 1 to 8 is refused
 abbrev pub OtherLevelsAreRefused : Type 0

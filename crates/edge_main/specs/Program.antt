@@ -1,9 +1,15 @@
 -- What stands behind each way in which the program ends, over any reader and writer.
-use Rattle.std.specs.Prelude.{◌≡◌, ◌⊎◌, ℕ, List, Option}
+use Rattle.std.specs.Prelude.{◌≡◌, ◌⊎◌, ℕ, Bool, true, false, List, Option, Result, Ok, Err, Vec}
+use Rattle.std.specs.Global.{Global}
 use Rattle.std.specs.Io.KnownBytes.{Keeps}
 use Rattle.clap.specs.Words.{Text}
+use Rattle.edge_case.specs.declared.ending.CaseEnd.{CaseEnd}
 use Rattle.edge_case.specs.declared.ending.CaseEnd.TheVariants.{PagePrinted, FaultPrinted}
+use Rattle.edge_case.specs.declared.ending.CaseFault.{CaseFault}
+use Rattle.edge_case.specs.declared.runner.Ran.{Ran as RanCase}
+use Rattle.edge_case.specs.Bytes.{IsInput}
 use Rattle.edge_case.specs.Run.{IsNoCase, Prints, PrintsPart}
+use Rattle.edge_main.specs.Status.{status_of}
 use Rattle.edge_main.specs.declared.status.Status.{Status}
 use Rattle.edge_main.specs.declared.status.Status.TheVariants.{Page, PageFault, Served, Checked, FaultFound, Usage, BadOrder, BadAhead, BadLevels, BadServe, NotText, BadCase, NoMemory, InputOutput}
 use Rattle.plan_runner.specs.declared.events.Event.{Event}
@@ -11,8 +17,8 @@ use Rattle.edge_setup.specs.Words.{IsWithin}
 use Rattle.edge_setup.specs.declared.check.Checking.{Checking}
 use Rattle.edge_setup.specs.declared.setup.Setup.{Setup}
 use Rattle.edge_main.specs.declared.program.Done.{Done}
-use Rattle.edge_main.specs.declared.program.Done.TheVariants.{Ran, Serves, Checks}
-use Rattle.edge_main.specs.CommandLine.{AsksCase, AsksCheck, AsksServe}
+use Rattle.edge_main.specs.declared.program.Done.TheVariants.{Ran, Explains, Serves, Checks}
+use Rattle.edge_main.specs.CommandLine.{AsksCase, AsksCheck, AsksServe, AsksWhy}
 
 -- the words ask for a case at so many levels, whatever its events and its slots ahead are
 abbrev pub AsksLevels : List Text → ℕ → Type 0
@@ -46,14 +52,37 @@ Ends words input before after BadLevels = ⊥
 Ends words input before after (BadServe option) = ⊥
 Ends words input before after NotText = ⊥
 
+-- a page's fault was printed, and the words ask why: of this text
+pub record AsksWhyOf (words : List Text) (input before after : Option (List ℕ)) (text : List ℕ) : Type 0 where
+  pub printed : Ends words input before after PageFault
+  pub asks : AsksWhy words true
+  pub whole : IsInput input text
+
+-- where a page's fault is all that was told, nobody asked why
+abbrev pub IsUnasked : List Text → Status → Type 0
+IsUnasked words PageFault = AsksWhy words false
+IsUnasked words _ = Unit {0}
+
+-- what came of the words by how the run of their case ended: its text, where they ask why and the page has a fault
+abbrev pub done_by : Bool → Vec ℕ Global → CaseEnd → Done
+done_by true text FaultPrinted = Explains text
+done_by true text PagePrinted = Ran Page
+done_by false text end = Ran (status_of (Ok end))
+
+abbrev pub done_of : Bool → Result RanCase CaseFault → Done
+done_of is_why (Ok ran) = done_by is_why ran.text ran.end
+done_of is_why (Err fault) = Ran (status_of (Err fault))
+
 -- the same of what came of the words
 abbrev pub Does : List Text → Option (List ℕ) → Option (List ℕ) → Option (List ℕ) → Done → Type 0
-Does words input before after (Ran status) = Ends words input before after status
+Does words input before after (Ran status) = Ends words input before after status × IsUnasked words status
+Does words input before after (Explains text) = AsksWhyOf words input before after text.items
 Does words input before after (Serves setup) = AsksToServe words before after setup
 Does words input before after (Checks checking) = AsksToCheck words before after checking
 
 -- what is to be served is within its limits
 abbrev pub AreLimits : Done → Type 0
 AreLimits (Ran status) = Unit {0}
+AreLimits (Explains text) = Unit {0}
 AreLimits (Serves setup) = IsWithin setup.pages
 AreLimits (Checks checking) = Unit {0}

@@ -20,6 +20,8 @@ pub(crate) enum Asked<'a> {
         ahead: u16,
         /// The levels of includes under the page.
         levels: u8,
+        /// Whether it is to be told why the page has a fault.
+        is_why: bool,
     },
     /// `serve`: pages are to be served as it says.
     Serve(Setup),

@@ -8,7 +8,9 @@ ghost use Rattle.edge_main.specs.CommandLine.{program, case_command, word_of, or
 use crate::asked::{Asked, Refusal};
 use clap::{ArgMatches, Command};
 use edge_case::{decimal_of, read_events};
-use edge_setup::{SetupFault, check_command, checking_of, option, serve_command, setup_of};
+use edge_setup::{
+    SetupFault, check_command, checking_of, flag, is_set, option, serve_command, setup_of,
+};
 use edge_types::NoMemory;
 use esi_meaning::{MAX_LEVELS, are_levels};
 use plan_runner::{Event, MAX_AHEAD};
@@ -39,11 +41,17 @@ fn case_command<'a>(alloc: Global) -> Result<Command<'a>, AllocError>
         "Levels of includes under the page, from 1 to 8",
     )
     .default_value("4");
+    let why = flag(
+        alloc,
+        "why",
+        "Tells on standard error what is wrong with templates, where the page has a fault",
+    );
     Command::new(alloc, "case")
         .about("Reads a case text from standard input and prints what its page comes to")
         .arg(order)?
         .arg(ahead)?
-        .arg(levels)
+        .arg(levels)?
+        .arg(why)
 }
 
 // The program's command line, by `clap`.
@@ -157,6 +165,7 @@ fn case_asked_by<'a>(alloc: Global, matches: &ArgMatches<'a>) -> Result<Asked<'a
         order,
         ahead,
         levels,
+        is_why: is_set(word_of(matches, "why")),
     })
 }
 

@@ -1,5 +1,5 @@
 //! Laws of the command line. Each function's clauses are its laws; none of them does anything.
-ghost use Rattle.edge_main.specs.Laws.{DefaultsAreAsked, OrderIsAsked, AheadIsAsked, LevelsAreAsked, AllAreAsked, OtherLevelsAreRefused, OptionsWantWords, OptionsStandOnce, FilesAreAsked, FilesAreWanted};
+ghost use Rattle.edge_main.specs.Laws.{DefaultsAreAsked, OrderIsAsked, AheadIsAsked, LevelsAreAsked, AllAreAsked, WhyIsAsked, OtherLevelsAreRefused, OptionsWantWords, OptionsStandOnce, FilesAreAsked, FilesAreWanted};
 
 /// What words that are written out ask for. The law speaks of words of an option that don't begin
 /// with `-`; no others can be read.
@@ -9,6 +9,7 @@ pub fn words_ask()
     ensures ahead { AheadIsAsked }
     ensures levels { LevelsAreAsked }
     ensures all { AllAreAsked }
+    ensures why { WhyIsAsked }
 {}
 
 /// Words that ask for nothing: another number of levels, an option without its word, an option that

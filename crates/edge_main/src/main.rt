@@ -13,6 +13,7 @@ pub mod laws;
 mod program;
 mod serving;
 mod status;
+mod why;
 
 use asked::Refusal;
 use checking::check;
@@ -22,11 +23,13 @@ use serving::serve;
 use status::Status;
 use std::io;
 use std::process::ExitCode;
+use why::explain;
 
 fn main(rt: HostRuntime) -> ExitCode {
     let status = match words(&rt) {
         Ok(words) => match run(&rt, words.as_slice()) {
             Done::Ran(status) => status,
+            Done::Explains(text) => explain(&rt, &text),
             Done::Serves(setup) => serve(&rt, setup),
             Done::Checks(checking) => check(&rt, &checking),
         },

@@ -1,12 +1,12 @@
 //! The program over any words, reader and writer.
 ghost use Rattle.std.specs.Prelude.{◌≡◌, map, string_bytes, IfOk, IfErr, OnErr};
 ghost use Rattle.edge_main.specs.CommandLine.{IsRefused};
-ghost use Rattle.edge_main.specs.Program.{Does};
+ghost use Rattle.edge_main.specs.Program.{Does, done_of};
 
 use crate::asked::{Asked, Refusal};
 use crate::command_line::asked;
 use crate::status::Status;
-use edge_case::run_case;
+use edge_case::{CaseEnd, CaseFault, Ran, run_case};
 use edge_setup::{Checking, Setup};
 use std::alloc::Global;
 use std::io::{Read, Write};
@@ -16,6 +16,8 @@ use std::io::{Read, Write};
 pub(crate) enum Done<'a> {
     /// A case was run, and ended so.
     Ran(Status),
+    /// A case was run whose page has a fault, and its text is to tell why.
+    Explains(Vec<u8>),
     /// Pages are to be served as it says.
     Serves(Setup),
     /// These templates are to be checked.
@@ -23,7 +25,8 @@ pub(crate) enum Done<'a> {
 }
 
 /// Judges the words of the command line whole, and then runs the case that they ask for, by the
-/// events, with the slots ahead and at the levels that they name; or hands on how they ask to serve, or
+/// events, with the slots ahead and at the levels that they name, and hands its text on where they ask why
+/// its page has a fault; or hands on how they ask to serve, or
 /// what they ask to check.
 ///
 /// Where they ask for no case, nothing was read or written.
@@ -43,11 +46,23 @@ pub(crate) fn run_words<'a, R: Read, W: Write>(
             order,
             ahead,
             levels,
+            is_why,
         } => {
             let ended = run_case(alloc, reader, writer, ahead, levels, &order);
-            Ok(Done::Ran(Status::of(ended)))
+            Ok(done_of(ended, is_why))
         }
         Asked::Serve(setup) => Ok(Done::Serves(setup)),
         Asked::Check(checking) => Ok(Done::Checks(checking)),
+    }
+}
+
+// What came of the words by how the run of their case ended.
+fn done_of<'a>(ended: Result<Ran, CaseFault>, is_why: bool) -> Done<'a>
+    ensures { result ≡ done_of is_why ended }
+{
+    match ended {
+        Ok(ran) if is_why && ran.end == CaseEnd::FaultPrinted => Done::Explains(ran.text),
+        Ok(ran) => Done::Ran(Status::of(Ok(ran.end))),
+        Err(fault) => Done::Ran(Status::of(Err(fault))),
     }
 }

@@ -19,7 +19,8 @@ returns-clause-app c =
     let ahead_local : c.default_value-ahead.result.global ≡ false = search rules in
     let second_is = c.in_ok-arg-2.ensures.shape ahead_local ∙ ap₂ with_rule first_is ahead_is in
     let levels_local : c.default_value-levels.result.global ≡ false = search rules in
-    IfOk-weaker c.arg-3.result _ _ (λ command adds. adds.shape levels_local ∙ ap₂ with_rule second_is levels_is) c.arg-3.ensures
+    let third_is = c.in_ok-arg-3.ensures.shape levels_local ∙ ap₂ with_rule second_is levels_is in
+    IfOk-weaker c.arg-4.result _ _ (λ command adds. adds.shape c.flag-why.ensures.local ∙ ap₂ with_rule third_is c.flag-why.ensures.rule) c.arg-4.ensures
 
 pub returns-clause-local : goal.returns-clause-local
 returns-clause-local c =
@@ -28,4 +29,5 @@ returns-clause-local c =
     let about_is : (fields_of c.about.result).has_globals ≡ false = search rules in
     let first_is : (fields_of c.in_ok-arg.field-0).has_globals ≡ false = c.in_ok-arg.ensures.globals ∙ rw (about_is, c.option-order.ensures.local) refl in
     let second_is : (fields_of c.in_ok-arg-2.field-0).has_globals ≡ false = c.in_ok-arg-2.ensures.globals ∙ rw (first_is, ahead_local) refl in
-    IfOk-weaker c.arg-3.result _ _ (λ command adds. adds.globals ∙ rw (second_is, levels_local) refl) c.arg-3.ensures
+    let third_is : (fields_of c.in_ok-arg-3.field-0).has_globals ≡ false = c.in_ok-arg-3.ensures.globals ∙ rw (second_is, levels_local) refl in
+    IfOk-weaker c.arg-4.result _ _ (λ command adds. adds.globals ∙ rw (third_is, c.flag-why.ensures.local) refl) c.arg-4.ensures

@@ -1,5 +1,5 @@
-use Rattle.edge_main.proofs.WrittenOut.{plain_say, order_say, ahead_say, levels_say, all_say}
-use Rattle.edge_main.proofs.Asking.{plain_asks, order_asks, ahead_asks, levels_ask, all_ask}
+use Rattle.edge_main.proofs.WrittenOut.{plain_say, why_say, why_set, why_lacks, order_say, ahead_say, levels_say, all_say}
+use Rattle.edge_main.proofs.Asking.{plain_asks, why_asks, order_asks, ahead_asks, levels_ask, all_ask}
 use Rattle.edge_main.proofs.laws.words_ask.Goals as goal
 
 pub returns-clause-default : goal.returns-clause-default
@@ -17,3 +17,6 @@ returns-clause-levels c = λ name word plain order ahead levels. levels_ask name
 pub returns-clause-all : goal.returns-clause-all
 returns-clause-all c = λ name list slots depth list_plain slots_plain depth_plain order ahead levels.
     all_ask name list slots depth order ahead levels (all_say name list slots depth list_plain slots_plain depth_plain)
+
+pub returns-clause-why : goal.returns-clause-why
+returns-clause-why c = λ name. (why_set name, why_lacks name, λ order ahead levels. why_asks name order ahead levels (why_say name))
