@@ -56,7 +56,7 @@ impl fmt::Display for TestProblem {
             TestProblem::DoubleQuote => "a text stands in single quotes",
             TestProblem::NoNumber => "a number has 1 to 18 digits",
             TestProblem::TooDeep => "at most 32 `(` and `!` may stand round an operand",
-            TestProblem::Doubled => "`&` and `|` stand once, and not twice",
+            TestProblem::Doubled => "`&` means and, `|` means or, and each stands once",
             TestProblem::OneEquals => "`==` compares, and not `=`",
             TestProblem::NoOpening => "no `(` is open for this `)`",
             TestProblem::NoClosing => "a `)` is missing",

@@ -49,7 +49,7 @@ fn part(name: ElementName) -> &'static str {
 fn parts_of(name: ElementName) -> Option<&'static str> {
     match name {
         ElementName::Choose => Some("<esi:when> and <esi:otherwise>"),
-        ElementName::Try => Some("<esi:attempt> and <esi:except>"),
+        ElementName::Try => Some("<esi:attempt> and, for where that fails, <esi:except>"),
         _ => None,
     }
 }
@@ -90,7 +90,10 @@ impl<'a> Message<'a> {
             Problem::StrayByte => {
                 write!(f, "this can't stand in a tag: is `>` or a quote missing?")
             }
-            Problem::NoRemoveEnd => write!(f, "<esi:remove> has no </esi:remove> after it"),
+            Problem::NoRemoveEnd => write!(
+                f,
+                "<esi:remove> has no </esi:remove> after it: put it where the part to be left out ends"
+            ),
             Problem::NoBlockEnd => write!(f, "<!--esi has no --> after it"),
         }
     }
@@ -130,7 +133,7 @@ impl<'a> Message<'a> {
                 match parts_of(opened.name) {
                     Some(parts) => write!(
                         f,
-                        "only {parts} can stand directly in <esi:{outer}> from line {line}: move this, or close <esi:{outer}> before it"
+                        "only {parts} can stand directly in <esi:{outer}> from line {line}: move this into one of them, or out of <esi:{outer}>"
                     ),
                     None => write!(
                         f,
@@ -185,7 +188,7 @@ impl<'a> Message<'a> {
                 let line = self.line_of(opened);
                 write!(
                     f,
-                    "</esi:{ends}> closes nothing here: <esi:{inner}> from line {line} is still open"
+                    "</esi:{ends}> closes nothing here: <esi:{inner}> from line {line} is still open, so close that first"
                 )
             }
             None => write!(f, "</esi:{ends}> closes nothing: no element is open"),

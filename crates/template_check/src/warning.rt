@@ -168,7 +168,7 @@ impl fmt::Display for Warning {
             ),
             Warning::IdleReference => write!(
                 f,
-                "this reference is printed as it stands: it isn't inside <esi:vars>"
+                "this reference is printed as it stands: it isn't between <esi:vars> and </esi:vars>"
             ),
             Warning::UnknownVariable => write!(
                 f,

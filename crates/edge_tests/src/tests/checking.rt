@@ -17,15 +17,15 @@ const TAGS: &str =
 <esi:include src="/x/> => 1:14: error: the quote before the value of the attribute `src` has no second one
 é<esi:include src="/x"  => 1:3: error: the text ends before the tag does: `>` is missing
 <esi:try / > => 1:10: error: this can't stand in a tag: is `>` or a quote missing?
-x␊␉<esi:remove>y => 2:2: error: <esi:remove> has no </esi:remove> after it
+x␊␉<esi:remove>y => 2:2: error: <esi:remove> has no </esi:remove> after it: put it where the part to be left out ends
 x␍␊␍<!--esi y => 2:2: error: <!--esi has no --> after it
 </esi:vars a> => 1:12: error: this can't stand in a tag: is `>` or a quote missing?
 </esi:Vars> => 1:7: error: no element has the name `Vars`: there are include, inline, choose, when, otherwise, try, attempt, except, vars, comment and remove
 </esi:vars => 1:1: error: the text ends before the tag does: `>` is missing"#;
 
 const ELEMENTS: &str =
-    r#"<esi:try>␊ a</esi:try> => 2:2: error: only <esi:attempt> and <esi:except> can stand directly in <esi:try> from line 1: move this, or close <esi:try> before it
-<esi:choose>␊<p>␊<esi:when test="1">a => 2:1: error: only <esi:when> and <esi:otherwise> can stand directly in <esi:choose> from line 1: move this, or close <esi:choose> before it
+    r#"<esi:try>␊ a</esi:try> => 2:2: error: only <esi:attempt> and, for where that fails, <esi:except> can stand directly in <esi:try> from line 1: move this into one of them, or out of <esi:try>
+<esi:choose>␊<p>␊<esi:when test="1">a => 2:1: error: only <esi:when> and <esi:otherwise> can stand directly in <esi:choose> from line 1: move this into one of them, or out of <esi:choose>
 <esi:include src="/x">␊a => 2:1: error: <esi:include> from line 1 is still open here: end its tag with `/>`
 <esi:when test="1">a</esi:when> => 1:1: error: <esi:when> can stand in <esi:choose> alone
 <esi:except/> => 1:1: error: <esi:except> can stand in <esi:try> alone
@@ -42,7 +42,7 @@ const ELEMENTS: &str =
 <esi:try>␊<esi:except/>␊</esi:try> => 3:1: error: <esi:try> from line 1 has no <esi:attempt>
 <esi:try/> => 1:1: error: <esi:try> from line 1 has no <esi:attempt>
 a</esi:vars> => 1:2: error: </esi:vars> closes nothing: no element is open
-<esi:try>␊␊<esi:attempt>␊</esi:try> => 4:1: error: </esi:try> closes nothing here: <esi:attempt> from line 3 is still open
+<esi:try>␊␊<esi:attempt>␊</esi:try> => 4:1: error: </esi:try> closes nothing here: <esi:attempt> from line 3 is still open, so close that first
 <esi:vars>␊<esi:vars>a</esi:vars>␊b => 3:2: error: the text ends, and <esi:vars> from line 1 is still open: </esi:vars> is missing
 <esi:vars>a</esi:vars> => no fault
  => no fault"#;
@@ -56,7 +56,7 @@ $(HTTP_HOST) == 'a => 16: the quote has no second one
 $(HTTP_HOST)=="a" => 14: a text stands in single quotes
 1 | 1234567890123456789 => 4: a number has 1 to 18 digits
 !!!!!!!!!!!!!!!!!!!!!!!!!!!!!!!!!1 => 32: at most 32 `(` and `!` may stand round an operand
-1 && 2 => 3: `&` and `|` stand once, and not twice
+1 && 2 => 3: `&` means and, `|` means or, and each stands once
 (1) & 2) => 7: no `(` is open for this `)`
 !(1 | (2) => 9: a `)` is missing
 1 2 => 2: an operator is wanted here: ==, !=, <, >, <=, >=, & or |"#;
@@ -143,14 +143,14 @@ a<esi:include src="" onerror="ignore"/> => f:1:2: warning: `onerror` says nothin
 ␊␉<esi:include src="https://a.test/x"/> => f:2:2: warning: this can only fail: origins are asked by `http:` alone, so write a path or an `http:` URL␊
 <esi:choose><esi:when test="$(HTTP_HOST) == ''">a</esi:when></esi:choose> => f:1:13: warning: a comparison with `''` is always false: a reference alone asks whether it is empty␊
 <esi:choose><esi:when test="$(HTTP_HOST|'')">a</esi:when></esi:choose> => 
-a$(HTTP_HOST)b => f:1:2: warning: this reference is printed as it stands: it isn't inside <esi:vars>␊
+a$(HTTP_HOST)b => f:1:2: warning: this reference is printed as it stands: it isn't between <esi:vars> and </esi:vars>␊
 a$(FOO) $( $5 => 
-<esi:vars>␊é$(FOO)$(HTTP_HOST)$( x</esi:vars>$(QUERY_STRING) => f:2:3: warning: no variable has this name: there are HTTP_ACCEPT_LANGUAGE, HTTP_COOKIE, HTTP_HOST, HTTP_REFERER, HTTP_USER_AGENT and QUERY_STRING␊f:2:21: warning: this `$(` begins no reference: it stands as it is␊f:2:36: warning: this reference is printed as it stands: it isn't inside <esi:vars>␊
+<esi:vars>␊é$(FOO)$(HTTP_HOST)$( x</esi:vars>$(QUERY_STRING) => f:2:3: warning: no variable has this name: there are HTTP_ACCEPT_LANGUAGE, HTTP_COOKIE, HTTP_HOST, HTTP_REFERER, HTTP_USER_AGENT and QUERY_STRING␊f:2:21: warning: this `$(` begins no reference: it stands as it is␊f:2:36: warning: this reference is printed as it stands: it isn't between <esi:vars> and </esi:vars>␊
 <esi:vars><esi:try><esi:attempt>$(HTTP_HOST)</esi:attempt><esi:except/></esi:try></esi:vars> => 
-<esi:vars/>␍␊$(HTTP_HOST) => f:2:1: warning: this reference is printed as it stands: it isn't inside <esi:vars>␊
+<esi:vars/>␍␊$(HTTP_HOST) => f:2:1: warning: this reference is printed as it stands: it isn't between <esi:vars> and </esi:vars>␊
 <esi:include src="/$(" alt="$(FOO)"/> => f:1:1: warning: this `$(` begins no reference: it stands as it is␊f:1:1: warning: no variable has this name: there are HTTP_ACCEPT_LANGUAGE, HTTP_COOKIE, HTTP_HOST, HTTP_REFERER, HTTP_USER_AGENT and QUERY_STRING␊
 <ESI:include src="/x"/>< esi:vars></ Esi:vars>< b> => f:1:1: warning: this is text and no tag: a tag begins with `<esi:`, in small letters and without spaces␊f:1:24: warning: this is text and no tag: a tag begins with `<esi:`, in small letters and without spaces␊f:1:35: warning: this is text and no tag: a tag begins with `<esi:`, in small letters and without spaces␊
-␊$(HTTP_HOST)</esi:vars> => f:2:13: error: </esi:vars> closes nothing: no element is open␊f:2:1: warning: this reference is printed as it stands: it isn't inside <esi:vars>␊
+␊$(HTTP_HOST)</esi:vars> => f:2:13: error: </esi:vars> closes nothing: no element is open␊f:2:1: warning: this reference is printed as it stands: it isn't between <esi:vars> and </esi:vars>␊
 <esi:inline name="/a"/><esi:inline name="https://a.test/"/><esi:inline name="http://"/> => f:1:24: warning: no include can ask for this inline: name it by a path, such as /box, or by an `http:` URL␊f:1:60: warning: no include can ask for this inline: name it by a path, such as /box, or by an `http:` URL␊
 $(HTTP_HOST)<esi:bogus/> => f:1:18: error: no element has the name `bogus`: there are include, inline, choose, when, otherwise, try, attempt, except, vars, comment and remove␊
  => "#;
