@@ -1,5 +1,5 @@
 -- The command line of the program, by `clap`'s definitions of commands.
-use Rattle.std.specs.Prelude.{◌≡◌, ◌≤◌, ℕ, Bool, true, nat_le, List, [], codes, Option, Some, None, option_and_then, if◌then◌else◌}
+use Rattle.std.specs.Prelude.{◌≡◌, ◌≢◌, ◌≤◌, ℕ, Bool, true, nat_le, List, [], codes, Option, Some, None, option_and_then, option_map, if◌then◌else◌}
 use Rattle.std.specs.Str.{bytes_eq}
 use Rattle.clap.specs.Words.{App, Row, Text, HasKind, fault_of, first_of, new_app, subcommand_of, with_rule, with_subcommand}
 use Rattle.clap.specs.Simple.{on_top}
@@ -109,12 +109,20 @@ abbrev pub IsRefusedToCheck : Refusal → Type 0
 IsRefusedToCheck refusal.NoMemory = Unit {0}
 IsRefusedToCheck _ = ⊥
 
--- why they ask for nothing: what an option says, or want of memory
+-- the name of the subcommand whose matches these are
+abbrev pub name_of : Option (Text × List Row) → Option Text
+name_of met = option_map (λ m. m.0) met
+
+-- the matches are those of no other subcommand than `case`
+abbrev pub IsOfCase : Option Text → Type 0
+IsOfCase name = (name ≢ Some (codes "serve")) × (name ≢ Some (codes "check"))
+
+-- why they ask for nothing: what an option of their own subcommand says, or want of memory
 abbrev pub IsRefusedBy : Option (Text × List Row) → Refusal → Type 0
 IsRefusedBy met (refusal.Words error) = ⊥
-IsRefusedBy met refusal.Order = order_of (word_of (codes "order") met) ≡ None
-IsRefusedBy met refusal.Ahead = ahead_of (word_of (codes "ahead") met) ≡ None
-IsRefusedBy met refusal.Levels = levels_of (word_of (codes "levels") met) ≡ None
+IsRefusedBy met refusal.Order = IsOfCase (name_of met) × (order_of (word_of (codes "order") met) ≡ None)
+IsRefusedBy met refusal.Ahead = IsOfCase (name_of met) × (ahead_of (word_of (codes "ahead") met) ≡ None)
+IsRefusedBy met refusal.Levels = IsOfCase (name_of met) × (levels_of (word_of (codes "levels") met) ≡ None)
 IsRefusedBy met (refusal.Serve option) = (rows : List Row) × (met ≡ Some (codes "serve", rows)) × IsWrong rows option
 IsRefusedBy met refusal.NoMemory = Unit {0}
 

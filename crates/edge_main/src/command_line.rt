@@ -1,9 +1,9 @@
 //! The command line, judged whole before anything is read.
-ghost use Rattle.std.specs.Prelude.{◌≡◌, ◌≤◌, false, map, string_bytes, option_map, Some, IfOk, IfSome, MatchResult};
+ghost use Rattle.std.specs.Prelude.{◌≡◌, ◌≤◌, false, map, string_bytes, option_map, Some, ◌≢◌, IfNone, IfOk, IfSome, MatchResult};
 ghost use Rattle.esi_meaning.specs.Meaning.{AreLevels};
 ghost use Rattle.clap.specs.Words.{app_of, found_of, rows_of, subcommand_rows_of};
 ghost use Rattle.clap.specs.declared.builder.command.Command.TheViews.{out-Command as fields_of};
-ghost use Rattle.edge_main.specs.CommandLine.{program, case_command, word_of, order_of, ahead_of, levels_of, Asks, IsRefused, IsAsked, IsAskedToCheck, IsAskedToServe, IsRefusedBy, IsRefusedToCheck, IsRefusedToServe, IsWithin};
+ghost use Rattle.edge_main.specs.CommandLine.{program, case_command, word_of, order_of, ahead_of, levels_of, name_of, Asks, IsRefused, IsOfCase, IsAsked, IsAskedToCheck, IsAskedToServe, IsRefusedBy, IsRefusedToCheck, IsRefusedToServe, IsWithin};
 
 use crate::asked::{Asked, Refusal};
 use clap::{ArgMatches, Command};
@@ -125,7 +125,8 @@ fn asked_by<'a>(alloc: Global, matches: &ArgMatches<'a>) -> Result<Asked<'a>, Re
 
 // The matches of the subcommand, where it has this name.
 fn matches_of<'b, 'a>(matches: &'b ArgMatches<'a>, name: &str) -> Option<&'b ArgMatches<'a>>
-    ensures { IfSome result (λ own. subcommand_rows_of matches.now ≡ Some (name.now, rows_of (found_of own.now))) }
+    ensures met { IfSome result (λ own. subcommand_rows_of matches.now ≡ Some (name.now, rows_of (found_of own.now))) }
+    ensures other { IfNone result (name_of (subcommand_rows_of matches.now) ≢ Some name.now) }
 {
     let own = matches.subcommand_matches(name)?;
     Some(own)
@@ -153,6 +154,7 @@ fn check_asked_by<'a>(alloc: Global, own: &ArgMatches<'a>) -> Result<Asked<'a>, 
 
 // What the matches of `case` ask for.
 fn case_asked_by<'a>(alloc: Global, matches: &ArgMatches<'a>) -> Result<Asked<'a>, Refusal>
+    requires { IsOfCase (name_of (subcommand_rows_of matches.now)) }
     ensures judged { MatchResult result (IsAsked (subcommand_rows_of matches.now)) (IsRefusedBy (subcommand_rows_of matches.now)) }
     ensures within { IfOk result IsWithin }
 {

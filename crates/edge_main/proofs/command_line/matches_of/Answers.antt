@@ -4,8 +4,8 @@ use Rattle.clap.specs.declared.parser.matches.ArgMatches.TheViews.{out-ArgMatche
 use Rattle.edge_main.proofs.Matches.{entered, name_of_rows}
 use Rattle.edge_main.proofs.command_line.matches_of.Goals as goal
 
-pub returns : goal.returns
-returns c =
+pub returns-clause-met : goal.returns-clause-met
+returns-clause-met c =
     let matches = c.args.matches.now in
     let found = c.in_ok-own.ensures in
     entered (subcommand_rows_of matches) c.args.name.now (rows_of (found_of c.in_ok-own.own.now)) (name_of_rows (out-ArgMatches matches).subcommand ∙ found.found.0 refl) found.rows
