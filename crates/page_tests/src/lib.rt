@@ -1,4 +1,4 @@
-//! The tests of `plan_compiler`, `answer_board` and `plan_runner`.
+//! The tests of `plan_compiler`, `answer_board`, `plan_runner` and `edge_case`.
 #![tactic(auto)]
 
 #[cfg(test)]

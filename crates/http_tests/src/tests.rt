@@ -1,4 +1,4 @@
-// Edges in the process that asks them, over sockets on loopback.
+// Edges in the process that asks them, over sockets on loopback; `fetches` has origins instead.
 ghost use Rattle.std.specs.Prelude.{◌≡◌, IfOk};
 
 use edge_types::{Answer, Control, NoMemory, Octets, PageUrl, SharedBytes};
@@ -18,6 +18,7 @@ use std::{io, str, thread};
 mod bodies;
 mod clients;
 mod faults;
+mod fetches;
 
 // What asks for the page.
 const ASKED: &[u8] = b"GET /p HTTP/1.1\r\nhost: a.test\r\n\r\n";

@@ -1,5 +1,0 @@
-//! The tests of `edge_case`.
-#![tactic(auto)]
-
-#[cfg(test)]
-mod tests;
