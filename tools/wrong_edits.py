@@ -1,4 +1,4 @@
-"""Wrong bodies as text: the functions of a source file, the edits that change them, and the goals that the prover names."""
+"""Wrong bodies as text: the functions of a source file, the edits that change them, in place or in a copy beside, and the goals that the prover names."""
 import os
 import re
 from dataclasses import dataclass
@@ -34,6 +34,28 @@ class Function:
     def has_line(self, line):
         return self.first <= line <= self.last
 
+    def text(self, source):
+        """What stands of it in its file, with what stands above its head."""
+        return "\n".join(source.split("\n")[self.first - 1 : self.last])
+
+    def can_be_copied(self, source):
+        """Whether a copy under another name is proved as it is: not what a trait wants, nor what calls itself, or another function that calls it."""
+        name = self.path.rpartition("::")[2]
+        calls_itself = re.search(rf"(?:(?<![.:\w])|\b[Ss]elf(?:\.|::)){name}(?:::<|\()", "\n".join(source.split("\n")[self.head : self.last]))
+        return not self.is_of_trait and "#[cycle(" not in self.text(source) and not calls_itself
+
+    def copied(self, name, source, text, pairs=()):
+        """The file's text with a copy of the function of the source behind it, under this name and with these edits in it."""
+        copy = self.text(source).split("\n")
+        at = self.head - self.first
+        copy[at] = re.sub(r"\bfn \w+", f"fn {name}", copy[at], count=1)
+        copy = "\n".join(copy)
+        for _, old, new in pairs:
+            copy = copy.replace(old, new)
+        lines = text.split("\n")
+        behind = next(it for it in functions_of(self.file, text) if it.path == self.path).last
+        return "\n".join([*lines[:behind], "", copy, *lines[behind:]])
+
     def asked(self):
         """How a check of single functions is asked for it: a method by the end of its path, since the prover begins that with the module of the type. The `impl` of a trait has a name made of both and of the trait's arguments, so its whole module is asked for."""
         *owners, name = self.path.split("::")
@@ -55,6 +77,11 @@ FN = re.compile(r"( *)(?:pub(?:\(\w+\))? )?(?:(?:const|unsafe|final) )*fn (\w+)"
 OWNER = re.compile(r"( *)(?:pub(?:\(\w+\))? )?(?:impl\b(?:<.*?>)? (.* for )?|trait )(\w+)")
 
 
+def module_of(file):
+    """The names of a source file's module."""
+    return [it for it in file.removeprefix("src/").removesuffix(".rt").split("/") if it not in ("lib", "main")]
+
+
 def functions_of(file, text):
     """The functions of a file in the layout of `rt fmt`, by which an item ends at the next line that is its own indent and a brace."""
 
@@ -62,7 +89,6 @@ def functions_of(file, text):
         return next((i for i in range(at, len(lines)) if lines[i] == indent + brace), len(lines) - 1)
 
     lines, found, owner, is_of_trait, owner_ends = text.split("\n"), [], [], False, -1
-    module = [it for it in file.removeprefix("src/").removesuffix(".rt").split("/") if it not in ("lib", "main")]
     for at, line in enumerate(lines):
         owns = OWNER.match(line)
         if owns and line.endswith("{"):
@@ -75,7 +101,7 @@ def functions_of(file, text):
             last = at if line.endswith(("}", ";")) else end_of(at, name[1], "}")
             opens = end_of(at, name[1], "{")
             is_owned = at < owner_ends
-            path = "::".join([*module, *(owner if is_owned else []), name[2]])
+            path = "::".join([*module_of(file), *(owner if is_owned else []), name[2]])
             found.append(Function(path, file, is_owned and is_of_trait, first + 1, at + 1, (opens if opens < last else at) + 1, last + 1))
     return found
 
@@ -89,13 +115,14 @@ def function_at(functions, line):
 
 @dataclass(frozen=True)
 class Edit:
-    """A wrong body: what it replaces, as (file, old, new), the paths of the functions one of which must notice, and how a check is asked for these and those that it changes."""
+    """A wrong body: what it replaces, as (file, old, new), the paths of the functions one of which must notice, how a check is asked for these and those that it changes, and the function, if it changes that alone and can stand in a copy of it."""
 
     name: str
     pairs: tuple
     notices: frozenset
     asked: frozenset
     is_alone: bool
+    copied: Function | None
 
     def applied(self, texts):
         """The texts with this edit, or none where another edit took or doubled what it replaces."""
@@ -152,21 +179,76 @@ def with_functions(name, pairs, named, sources):
     if not changed and not named:
         raise BadEdit("it changes no function's body: a line 'function:' has to name the function or law that must notice")
     asked = frozenset(known[it].asked() for it in {*named, *changed} if it in known)
-    return Edit(name, tuple(pairs), frozenset(named or changed), asked, is_alone)
+    one = known.get(next(iter(changed))) if len(changed) == 1 and not named and not is_alone else None
+    is_copied = one and one.can_be_copied(sources[one.file]) and all(old in one.text(sources[one.file]) for _, old, _ in pairs)
+    return Edit(name, tuple(pairs), frozenset(named or changed), asked, is_alone, one if is_copied else None)
 
 
 def packed(edits):
-    """The edits in as few groups as their functions allow; none of a group changes a function or a text of another."""
+    """The edits in as few groups as their functions allow: in a group an edit of a function that another one changes can stand in a copy of it."""
     groups = []
-    for edit in edits:
+    for edit in sorted(edits, key=lambda it: (it.is_alone, it.copied is not None)):
         for group in groups:
-            if edit.is_alone or any(it.is_alone or it.notices & edit.notices for it in group):
+            if edit.is_alone or any(it.is_alone or not edit.copied and it.notices & edit.notices for it in group):
                 continue
             group.append(edit)
             break
         else:
             groups.append([edit])
     return groups
+
+
+# Copies of functions
+
+
+@dataclass(frozen=True)
+class Copy:
+    """A wrong body in a copy of its function, and a copy of that function as it stands."""
+
+    edit: Edit
+    function: Function
+    as_it_stands: Function
+
+    @property
+    def asked(self):
+        return frozenset([self.function.asked(), self.as_it_stands.asked()])
+
+    def notices(self, said, crate):
+        """The function that must notice, by what the prover said: none where the copy as it stands is not proved for a reason of its own, which may be the wrong one's too."""
+        told = re.findall(rf"^fn {crate}::(\S+): (?:proved$|no proof: it calls )", said, re.M)
+        return {self.function.path} if any(self.as_it_stands.is_named(it) for it in told) else set()
+
+
+def proofs_of(folder, function, name):
+    """The files of a function's own proof, but for those of closures in it, by the path that they have for its copy of this name, in the copy's terms."""
+    found = {}
+    for at, _, files in os.walk(f"{folder}/proofs"):
+        path = os.path.relpath(at, f"{folder}/proofs")
+        if function.is_named(path.replace("/", "::")) and "/fn/" not in f"/{path}/":
+            to = f"{os.path.dirname(path)}/{name}".removeprefix("/")
+            own = re.escape(path.replace("/", "."))
+            for file in files:
+                found[f"proofs/{to}/{file}"] = re.sub(rf"\.{own}(?=\.)", "." + to.replace("/", "."), text_of(f"{at}/{file}"))
+    return found
+
+
+def with_copies(folder, sources, texts, edits):
+    """These texts with a copy of its function for each edit, and one as it stands for each function, with what proves the function; and the copies."""
+    texts, copies, as_they_stand = dict(texts), [], {}
+
+    def put(function, ending, pairs=()):
+        path = f"{function.path}_{ending}"
+        name = path.rpartition("::")[2]
+        texts[function.file] = function.copied(name, sources[function.file], texts[function.file], pairs)
+        texts.update(proofs_of(folder, function, name))
+        return next(it for it in functions_of(function.file, texts[function.file]) if it.path == path)
+
+    for number, edit in enumerate(edits, 1):
+        function = edit.copied
+        if function not in as_they_stand:
+            as_they_stand[function] = put(function, "as_it_stands")
+        copies.append(Copy(edit, put(function, f"wrong_{number}", edit.pairs), as_they_stand[function]))
+    return texts, copies
 
 
 # What the prover said
