@@ -77,11 +77,6 @@ FN = re.compile(r"( *)(?:pub(?:\(\w+\))? )?(?:(?:const|unsafe|final) )*fn (\w+)"
 OWNER = re.compile(r"( *)(?:pub(?:\(\w+\))? )?(?:impl\b(?:<.*?>)? (.* for )?|trait )(\w+)")
 
 
-def module_of(file):
-    """The names of a source file's module."""
-    return [it for it in file.removeprefix("src/").removesuffix(".rt").split("/") if it not in ("lib", "main")]
-
-
 def functions_of(file, text):
     """The functions of a file in the layout of `rt fmt`, by which an item ends at the next line that is its own indent and a brace."""
 
@@ -89,6 +84,7 @@ def functions_of(file, text):
         return next((i for i in range(at, len(lines)) if lines[i] == indent + brace), len(lines) - 1)
 
     lines, found, owner, is_of_trait, owner_ends = text.split("\n"), [], [], False, -1
+    module = [it for it in file.removeprefix("src/").removesuffix(".rt").split("/") if it not in ("lib", "main")]
     for at, line in enumerate(lines):
         owns = OWNER.match(line)
         if owns and line.endswith("{"):
@@ -101,7 +97,7 @@ def functions_of(file, text):
             last = at if line.endswith(("}", ";")) else end_of(at, name[1], "}")
             opens = end_of(at, name[1], "{")
             is_owned = at < owner_ends
-            path = "::".join([*module_of(file), *(owner if is_owned else []), name[2]])
+            path = "::".join([*module, *(owner if is_owned else []), name[2]])
             found.append(Function(path, file, is_owned and is_of_trait, first + 1, at + 1, (opens if opens < last else at) + 1, last + 1))
     return found
 
