@@ -1,4 +1,4 @@
-//! The tests of the libraries below the plans: values, headers, the language, heads and responses, and the cache.
+//! The tests of the libraries below the plans that no row of `rows` shows: owners, and refused growths.
 #![tactic(auto)]
 
 #[cfg(test)]

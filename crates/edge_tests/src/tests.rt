@@ -1,14 +1,88 @@
-// Worked examples: expected values come from the RFCs, the URL Standard and the edge's own rules. What
-// texts of the language mean stands in `examples/tables`, as data that the program is run on: here each
-// call is made once, and what the program doesn't show is compared.
-mod checking;
-mod headers;
-mod heads;
-mod meaning;
-mod responses;
-mod scanner;
-mod shards;
-mod tree;
-mod truth;
-mod values;
-mod vars;
+use edge_types::{
+    Answer, Control, NoMemory, Octets, PageBody, PageUrl, Request, SharedAnswer, SharedBytes,
+};
+use esi_vars::{parts, reference_at, substitute};
+use std::alloc::Global;
+use std::process::Abort;
+use std::sync::Arc;
+use std::test::Fail;
+
+// A part, which has to lie in the bytes.
+fn part(
+    rt: &impl Abort,
+    whole: &SharedBytes,
+    from: usize,
+    to: usize,
+) -> Result<SharedBytes, NoMemory> {
+    assert!(rt; from <= to && to <= whole.len());
+    whole.part(from, to)
+}
+
+// A part of a part of a text, none of whose owners is left.
+fn inner_part(rt: &impl Abort, alloc: Global) -> Result<SharedBytes, NoMemory> {
+    let whole = SharedBytes::copy_of(alloc, b"one two")?;
+    let two = part(rt, &whole, 4, 7)?;
+    part(rt, &two, 1, 3)
+}
+
+#[test]
+fn parts_outlive_the_owner_that_they_came_from(rt: HostRuntime) -> Result<(), Fail> {
+    let found = inner_part(&rt, rt.alloc())?.into_bytes();
+    assert!(rt; found.as_slice() == b"wo".as_slice());
+    Ok(())
+}
+
+#[test]
+fn pieces_are_shared_by_number(rt: HostRuntime) -> Result<(), Fail> {
+    let mut body = PageBody::new(rt.alloc());
+    body.push(SharedBytes::copy_of(rt.alloc(), b"one")?)?;
+    for (number, wanted) in [(0, Some(b"one".as_slice())), (1, None)] {
+        let piece = body.shared_piece(number)?;
+        assert_eq!(rt; piece.as_ref().map(|it| it.as_bytes()), wanted);
+    }
+    Ok(())
+}
+
+// The answer of a second owner of this URL.
+fn answer(rt: &impl Abort, alloc: Global, url: &PageUrl) -> Result<Arc<Answer>, NoMemory> {
+    let got = Answer::got(
+        url.share()?,
+        204,
+        Octets::empty(alloc),
+        Control::default(),
+        SharedBytes::new(),
+    );
+    Ok(Arc::new(alloc, got.expect(rt, "an answer"))?)
+}
+
+#[test]
+fn second_owners_have_the_same_answer(rt: HostRuntime) -> Result<(), Fail> {
+    let url = PageUrl::parse(rt.alloc(), b"http://a.test/x")?.ok_or("a URL")?;
+    let owner = SharedAnswer::of(answer(&rt, rt.alloc(), &url)?);
+    let second = owner.share()?;
+    assert!(rt; *second.get().url() == url);
+    assert!(rt; *second.as_arc().url() == url);
+    assert!(rt; *owner.into_arc().url() == url);
+    Ok(())
+}
+
+// A text with its references replaced, for a request with a cookie.
+fn replaced(alloc: Global, cookie: &[u8], text: &[u8]) -> Result<Vec<u8>, NoMemory> {
+    let mut request = Request::empty(alloc);
+    request.cookie = Octets::copy_of(alloc, cookie)?;
+    let parts = parts(alloc, &SharedBytes::copy_of(alloc, text)?)?;
+    substitute(alloc, &request, parts.as_slice())
+}
+
+// Where the Nth growth is refused (`rt try --test --fail-alloc N`), it is told, or the answer is whole.
+#[test]
+fn a_refused_growth_is_told(rt: HostRuntime) {
+    match replaced(rt.alloc(), b"g=1", b"a$(HTTP_COOKIE{g}|'none')b$(X|'c')") {
+        Ok(found) => assert!(rt; found.as_slice() == b"a1bc".as_slice()),
+        Err(NoMemory) => {}
+    }
+    match reference_at(rt.alloc(), b"$(X{k}|'c')d") {
+        Ok(found) => assert!(rt; found.is_some()),
+        Err(NoMemory) => {}
+    }
+}
