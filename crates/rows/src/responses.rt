@@ -77,7 +77,7 @@ fn push_frames(rt: &HostRuntime, out: &mut String, body: &mut EdgeBody) -> Resul
         ", bytes {}",
         body.size_hint().exact().unwrap_or(u64::MAX)
     )?;
-    for _ in 0..=u64::MAX {
+    for _ in 0..u64::MAX {
         if body.is_end_stream() {
             break;
         }
@@ -147,7 +147,7 @@ fn shared_body(alloc: Global, count: usize, len: usize) -> Result<PageBody, Faul
 fn push_counts(rt: &HostRuntime, out: &mut String, body: &mut EdgeBody) -> Result<(), Fault> {
     let mut frames: u64 = 0;
     let mut bytes: usize = 0;
-    for _ in 0..=u64::MAX {
+    for _ in 0..u64::MAX {
         if body.is_end_stream() {
             break;
         }

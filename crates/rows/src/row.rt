@@ -136,10 +136,13 @@ pub fn push_text(out: &mut String, bytes: &[u8]) -> Result<(), Fault> {
     Ok(())
 }
 
-/// Pushes a word, behind a space where another stands before it.
+/// Pushes a space where something stands before it.
+pub fn push_space(out: &mut String) -> Result<(), Fault> {
+    Ok(out.push_str(if out.is_empty() { "" } else { " " })?)
+}
+
+/// Pushes a word, behind a space where something stands before it.
 pub fn push_word(out: &mut String, word: &str) -> Result<(), Fault> {
-    if !out.is_empty() {
-        out.push(' ')?;
-    }
+    push_space(out)?;
     Ok(out.push_str(word)?)
 }

@@ -1,6 +1,6 @@
 //! Tokens: their places, and what each is.
 
-use crate::row::{Fault, number, pair, push_text, push_word};
+use crate::row::{Fault, number, pair, push_space, push_text, push_word};
 use esi_scanner::{Attributes, Kind, KnownAttribute, ScanFault, Tag, Token};
 use std::alloc::Global;
 use std::fmt::Write;
@@ -20,7 +20,7 @@ pub fn scan(alloc: Global, row: &[u8], out: &mut String) -> Result<(), Fault> {
 }
 
 fn push_token(out: &mut String, token: &Token) -> Result<(), Fault> {
-    push_word(out, "")?;
+    push_space(out)?;
     write!(out, "{}-{} ", token.span.start, token.span.end)?;
     match &token.kind {
         Kind::Text => out.push_str("text")?,
@@ -39,7 +39,7 @@ fn push_token(out: &mut String, token: &Token) -> Result<(), Fault> {
 fn push_tag(out: &mut String, tag: &Tag) -> Result<(), Fault> {
     push_text(out, tag.name.as_bytes())?;
     for attribute in tag.attributes.as_slice() {
-        push_word(out, "")?;
+        push_space(out)?;
         push_text(out, attribute.name.as_bytes())?;
         out.push_str("=")?;
         push_text(out, attribute.value.as_bytes())?;

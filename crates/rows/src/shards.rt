@@ -2,7 +2,7 @@
 ghost use Rattle.std.specs.Prelude.{◌≡◌};
 ghost use Rattle.std.specs.Arc.{arc_value};
 
-use crate::row::{Fault, number, pair, push_text, push_word, text};
+use crate::row::{Fault, number, pair, push_space, push_text, text};
 use crate::values::url;
 use edge_types::{Answer, Octets, PageUrl, SharedBytes, around};
 use fragment_cache::{Begun, Flight, MAX_CAPACITY, Picked, Shard};
@@ -49,7 +49,7 @@ fn play_call(alloc: Global, desk: &mut Desk, call: &str, out: &mut String) -> Re
     if let Some(call) = call.strip_prefix('-') {
         return desk.call(alloc, call.as_bytes(), &mut String::new(alloc));
     }
-    push_word(out, "")?;
+    push_space(out)?;
     desk.call(alloc, call.as_bytes(), out)?;
     Ok(out.push(';')?)
 }

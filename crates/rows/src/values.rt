@@ -1,6 +1,6 @@
 //! URLs, answers, tables and faults.
 
-use crate::row::{Fault, number, pair, push_text, push_word, text};
+use crate::row::{Fault, number, pair, push_space, push_text, push_word, text};
 use edge_types::{
     Answer, Control, Octets, PageBody, PageFault, PageUrl, Reply, SharedBytes, Table, around, is_ws,
 };
@@ -99,7 +99,7 @@ fn push_answer(out: &mut String, answer: &Answer) -> Result<(), Fault> {
     if matches!(answer.reply(), Reply::Failed) {
         push_word(out, "failed")?;
     }
-    push_word(out, "")?;
+    push_space(out)?;
     push_text(out, answer.url().as_bytes())?;
     out.push('|')?;
     push_text(out, answer.body())
@@ -124,7 +124,7 @@ fn call_table(
 ) -> Result<(), Fault> {
     let (name, at) = pair(call)?;
     let asked = url(alloc, at)?;
-    push_word(out, "")?;
+    push_space(out)?;
     match name {
         b"insert" => insert(alloc, table, asked, out)?,
         b"get" => {
