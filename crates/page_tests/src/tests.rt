@@ -1,7 +1,6 @@
 mod boards;
 mod broken;
 mod cases;
-mod orders;
 mod pages;
 mod plans;
 

@@ -1,17 +1,15 @@
-// Pages, run by hand: the answers of its tickets are posted, with an advance after each or once nothing is
-// left to claim. A case has a line for each answer: its path, or what paths begin with and a `*`, `failed`
-// or a status with `esi` or `plain`, and the body. The page is at `/p`. In a body `{/x}` stands for an
-// include of `/x`, and `{/x!}` for one with onerror="continue"; between two `~` stands what comes several
-// times, as `3*{/x^}`, with `^` for which time it is. A page is lent: whoever holds one pays in its proof
-// for each way out.
+// Pages that are run by lists of events over tables: how many slots, pieces and steps they come to, which
+// no case shows. A row has a line with how many slots there may be ahead (several numbers: each of them),
+// how many levels, how often each event happens, and a name; a line for each answer: its path, `failed` or
+// a status, `esi` or `plain`, and the body; and behind `=> ` how what is told of the page begins. The page
+// is at `/p`. `{/x}` stands for an include of `/x`, and `{/x!}` for one with onerror="continue"; between
+// two `~` stands what comes several times, as `3*{/x^}`, with `^` for which time it is.
 use super::url_of;
-use answer_board::Ticket;
 use edge_types::{
-    Answer, Control, NoMemory, Octets, Outcome, PageFault, PageUrl, Request, SharedBytes,
+    Answer, Control, NoMemory, Octets, Outcome, PageFault, Request, SharedBytes, Table,
 };
 use esi_meaning::are_levels;
-use plan_compiler::Prepared;
-use plan_runner::{MAX_AHEAD, Page, PageError, PostFault, State};
+use plan_runner::{Event, MAX_AHEAD, Page, State, run_events};
 use std::alloc::Global;
 use std::fmt::Write;
 use std::process::Abort;
@@ -19,336 +17,182 @@ use std::str;
 use std::sync::Arc;
 use std::test::Fail;
 
-// Puts a number behind the text, and what is said of it before.
-fn push_number(text: &mut String, before: &str, number: u64) -> Result<(), NoMemory> {
-    text.push_str(before)?;
-    write!(text, "{number}")?;
-    Ok(())
-}
-
-// Puts a part of a body behind the text, its includes and its number written out.
-fn push_part(text: &mut String, short: &str, number: u64) -> Result<(), NoMemory> {
-    for c in short.chars() {
-        match c {
-            '{' => text.push_str("<esi:include src='")?,
-            '!' => text.push_str("' onerror='continue")?,
-            '}' => text.push_str("'/>")?,
-            '^' => push_number(text, "", number)?,
-            _ => text.push(c)?,
-        }
-    }
-    Ok(())
-}
-
-fn push_times(text: &mut String, short: &str, times: u64) -> Result<(), NoMemory> {
-    for number in 0..times {
-        push_part(text, short, number)?;
-    }
-    Ok(())
-}
-
-fn push_body(text: &mut String, short: &str) -> Result<(), NoMemory> {
+// The text with its repeated parts, includes and numbers written out.
+fn written_out(alloc: Global, short: &str) -> Result<String, NoMemory> {
+    let mut text = String::new(alloc);
     for part in short.split('~') {
-        match part.split_once('*') {
-            Some((times, repeated)) => {
-                push_times(text, repeated, times.parse::<u64>().unwrap_or(0))?;
-            }
-            None => push_part(text, part, 0)?,
-        }
-    }
-    Ok(())
-}
-
-fn is_of(named: &str, path: &[u8]) -> bool {
-    match named.strip_suffix('*') {
-        Some(front) => path.starts_with(front.as_bytes()),
-        None => path == named.as_bytes(),
-    }
-}
-
-// What the first line for a URL says behind the path; nothing where no line is for it.
-fn said<'a>(case: &'a str, url: &PageUrl) -> &'a str {
-    let path = url
-        .as_bytes()
-        .strip_prefix(b"http://a.test".as_slice())
-        .unwrap_or(&[]);
-    for line in case.lines() {
-        if let Some((named, said)) = line.split_once(' ') {
-            if is_of(named, path) {
-                return said;
+        let (times, part) = part.split_once('*').unwrap_or(("1", part));
+        for number in 0..times.parse::<u32>().unwrap_or(1) {
+            for c in part.chars() {
+                match c {
+                    '{' => text.push_str("<esi:include src='")?,
+                    '!' => text.push_str("' onerror='continue")?,
+                    '}' => text.push_str("'/>")?,
+                    '^' => write!(text, "{number}")?,
+                    _ => text.push(c)?,
+                }
             }
         }
     }
-    ""
+    Ok(text)
 }
 
-// The answer of which a line says this; none where nothing could be had.
-fn answer(alloc: Global, url: &PageUrl, said: &str) -> Result<Option<Answer>, NoMemory> {
+// Takes in the answer of which a line says this.
+fn insert(rt: &impl Abort, alloc: Global, table: &mut Table, line: &str) -> Result<(), NoMemory> {
+    let (path, said) = line.split_once(' ').unwrap_or((line, ""));
     let (status, said) = said.split_once(' ').unwrap_or(("", ""));
-    let (kind, short) = said.split_once(' ').unwrap_or(("", ""));
+    let (kind, body) = said.split_once(' ').unwrap_or(("", ""));
+    let mut text = String::new(alloc);
+    text.push_str("http://a.test")?;
+    text.push_str(path)?;
+    let url = url_of(rt, alloc, text.as_str())?;
     let control = Control {
         esi: kind == "esi",
         ..Control::default()
     };
+    let body = SharedBytes::copy_of(alloc, body.as_bytes())?;
+    // Nothing is got where there is no status.
     let status = status.parse::<u16>().unwrap_or(0);
-    let url = url.share()?;
-    let mut text = String::new(alloc);
-    push_body(&mut text, short)?;
-    let body = SharedBytes::of(text.into_bytes())?;
-    Ok(Answer::got(url, status, Octets::empty(alloc), control, body))
-}
-
-// What a case has for a URL, made ready.
-fn prepared(alloc: Global, case: &str, url: &PageUrl) -> Result<Prepared, NoMemory> {
-    match answer(alloc, url, said(case, url))? {
-        Some(answer) => Prepared::of(alloc, Arc::new(alloc, answer)?),
-        None => Prepared::of(alloc, Arc::new(alloc, Answer::failed(url.share()?))?),
+    if let Some(answer) = Answer::got(url, status, Octets::empty(alloc), control, body) {
+        assert!(rt; table.insert(Arc::new(alloc, answer)?).is_ok(), "{line}");
     }
-}
-
-// Whether a post was taken.
-fn is_taken(posted: Result<(), PostFault>) -> bool {
-    match posted {
-        Ok(()) => true,
-        Err(PostFault::NoMemory) => false,
-        Err(
-            PostFault::Stranger(receipt)
-            | PostFault::NotClaimed(receipt)
-            | PostFault::Filled(receipt)
-            | PostFault::Broken(receipt),
-        ) => {
-            receipt.give_up();
-            false
-        }
-    }
-}
-
-// Posts the answer of a ticket; whether it was taken.
-pub(super) fn post(alloc: Global, case: &str, page: &mut Page, ticket: Ticket) -> bool {
-    let Ok(prepared) = prepared(alloc, case, ticket.url()) else {
-        ticket.give_up();
-        return false;
-    };
-    match ticket.answered(prepared) {
-        Ok(receipt) => is_taken(page.post(receipt)),
-        Err((ticket, _)) => {
-            ticket.give_up();
-            false
-        }
-    }
-}
-
-// Posts the answer of the next ticket; whether there was one.
-pub(super) fn post_next(rt: &impl Abort, alloc: Global, case: &str, page: &mut Page) -> bool {
-    match page.claim() {
-        Some(ticket) => {
-            assert!(rt; post(alloc, case, page, ticket), "a post was refused");
-            true
-        }
-        None => false,
-    }
-}
-
-// A page that was refused a growth is broken: it gives no ticket and doesn't go on.
-fn expect_broken(rt: &impl Abort, fault: PageError, page: &mut Page) {
-    assert!(rt;
-        fault == PageError::NoMemory,
-        "a growth was refused earlier"
-    );
-    if let Some(ticket) = page.claim() {
-        ticket.give_up();
-        panic!(rt; "a broken page gave a ticket");
-    }
-    assert!(rt;
-        matches!(page.advance(), Err(PageError::Broken)),
-        "a broken page went on"
-    );
-}
-
-// Advances a page; whether it is done then.
-fn is_done(rt: &impl Abort, page: &mut Page) -> Result<bool, NoMemory> {
-    match page.advance() {
-        Ok(State::Done(_)) => Ok(true),
-        Ok(State::Waiting(_)) => Ok(false),
-        Err(fault) => {
-            expect_broken(rt, fault, page);
-            Err(NoMemory)
-        }
-    }
-}
-
-// Posts until the page is done, with an advance after each post or once nothing is left to claim;
-// whether that came to an end.
-fn finish(
-    rt: &impl Abort,
-    alloc: Global,
-    case: &str,
-    page: &mut Page,
-    each: bool,
-) -> Result<bool, NoMemory> {
-    for _ in 0..3000 {
-        let is_posted = post_next(rt, alloc, case, page);
-        if (each || !is_posted) && is_done(rt, page)? {
-            return Ok(true);
-        }
-    }
-    Ok(false)
+    Ok(())
 }
 
 fn text_of<'a>(bytes: &'a [u8]) -> &'a str {
     str::from_utf8(bytes).unwrap_or("?")
 }
 
-// The outcome as a text: the first bytes of the first pieces, a bar behind each, or the fault.
-fn push_outcome(out: &mut String, outcome: &Outcome) -> Result<(), NoMemory> {
-    match outcome {
-        Outcome::Page { body, .. } => {
-            for i in 0..body.mark().min(10) {
-                let piece = body.piece(i).unwrap_or(&[]);
-                out.push_str(text_of(&piece[..piece.len().min(8)]))?;
-                out.push_str("|")?;
+// Puts behind the line where a page stands: `waits` and a URL; or the first bytes of the first pieces, a
+// bar behind each, or the fault; and how much there is of everything.
+fn push_state(line: &mut String, page: &Page, state: &State) -> Result<(), NoMemory> {
+    match state {
+        State::Waiting(url) => write!(line, "waits {};", text_of(url.as_bytes()))?,
+        State::Done(outcome) => match &**outcome {
+            Outcome::Page { body, .. } => {
+                for i in 0..body.mark().min(10) {
+                    let piece = body.piece(i).unwrap_or(&[]);
+                    line.push_str(text_of(&piece[..piece.len().min(8)]))?;
+                    line.push_str("|")?;
+                }
+                write!(line, "; bytes {}; pieces {};", body.len(), body.mark())?;
             }
-            Ok(())
-        }
-        Outcome::Fault(PageFault::BadTemplate(at)) => push_number(out, "fault 2 at ", *at as u64),
-        Outcome::Fault(fault) => push_number(out, "fault ", u64::from(fault.number())),
+            Outcome::Fault(PageFault::BadTemplate(at)) => write!(line, "fault 2 at {at};")?,
+            Outcome::Fault(fault) => write!(line, "fault {};", fault.number())?,
+        },
     }
+    write!(line, " slots {}; steps {};", page.slots(), page.steps())?;
+    Ok(())
 }
 
-// How long the output is.
-fn push_sizes(out: &mut String, outcome: &Outcome) -> Result<(), NoMemory> {
-    match outcome {
-        Outcome::Page { body, .. } => {
-            push_number(out, "; bytes ", body.len() as u64)?;
-            push_number(out, "; pieces ", body.mark() as u64)
-        }
-        Outcome::Fault(_) => Ok(()),
-    }
-}
-
-// Advances a page, and puts behind the text where it stands: its outcome, or `waits` and a URL.
-pub(super) fn push_state(
-    rt: &impl Abort,
-    out: &mut String,
-    page: &mut Page,
-) -> Result<(), NoMemory> {
-    match page.advance() {
-        Ok(State::Waiting(url)) => {
-            out.push_str("waits ")?;
-            out.push_str(text_of(url.as_bytes()))?;
-            Ok(())
-        }
-        Ok(State::Done(outcome)) => {
-            push_outcome(out, &outcome)?;
-            push_number(out, "; slots ", page.slots() as u64)?;
-            push_sizes(out, &outcome)?;
-            push_number(out, "; steps ", page.steps())
-        }
-        Err(fault) => {
-            expect_broken(rt, fault, page);
-            Err(NoMemory)
-        }
-    }
-}
-
-fn told_at_end(
+// What a page over this table comes to by these events, each list so often.
+fn told(
     rt: &impl Abort,
     alloc: Global,
-    case: &str,
-    page: &mut Page,
-    each: bool,
+    table: &Table,
+    (ahead, levels): (u16, u8),
+    times: usize,
+    listed: &[Event],
 ) -> Result<String, NoMemory> {
-    assert!(rt; finish(rt, alloc, case, page, each)?, "no end");
-    let mut out = String::new(alloc);
-    push_state(rt, &mut out, page)?;
-    Ok(out)
-}
-
-pub(super) fn accepted(
-    rt: &impl Abort,
-    alloc: Global,
-    ahead: u16,
-    levels: u8,
-) -> Result<Page, NoMemory> {
+    let mut line = String::new(alloc);
+    let mut events = Vec::new(alloc);
+    for _ in 0..times {
+        events.extend_from_slice(listed)?;
+    }
     assert!(rt; ahead <= MAX_AHEAD && are_levels(levels));
     let url = url_of(rt, alloc, "http://a.test/p")?;
-    Page::accept(alloc, url, Request::empty(alloc), ahead, levels)
+    match run_events(
+        alloc,
+        url,
+        Request::empty(alloc),
+        table,
+        ahead,
+        levels,
+        &events,
+    ) {
+        Ok((page, state)) => push_state(&mut line, &page, &state)?,
+        Err(_) => return Err(NoMemory),
+    }
+    Ok(line)
 }
 
-fn told_of(
-    rt: &impl Abort,
-    alloc: Global,
-    case: &str,
-    (ahead, levels, each): (u16, u8, bool),
-) -> Result<String, NoMemory> {
-    let mut page = accepted(rt, alloc, ahead, levels)?;
-    told_at_end(rt, alloc, case, &mut page, each)
-}
+// Each answer as it comes, and three at a time, the newest first.
+const ONE_BY_ONE: [Event; 3] = [Event::Claim, Event::Post(0), Event::Advance];
 
-// Checks in both orders what cases come to, with an empty line between two: a case's name, its answers, and
-// behind `=> ` how what is told of its page begins.
-pub(super) fn cases_hold(
-    rt: &impl Abort,
-    alloc: Global,
-    ahead: u16,
-    levels: u8,
-    cases: &str,
-) -> Result<(), NoMemory> {
-    for text in cases.split("\n\n") {
-        let (case, wanted) = text.split_once("\n=> ").expect(rt, "what is wanted");
-        for each in [false, true] {
-            let found = told_of(rt, alloc, case, (ahead, levels, each))?;
-            assert!(rt; found.as_str().starts_with(wanted), "{text}");
+const NEWEST_FIRST: [Event; 7] = [
+    Event::Claim,
+    Event::Claim,
+    Event::Claim,
+    Event::Post(2),
+    Event::Post(1),
+    Event::Post(0),
+    Event::Advance,
+];
+
+// Checks a row, whose answers these are, in one order, or in both where there are many events.
+fn row_holds(rt: &impl Abort, alloc: Global, table: &Table, row: &str) -> Result<(), NoMemory> {
+    let (head, wanted) = row.split_once("\n=> ").expect(rt, "what is wanted");
+    let mut words = head.split(' ');
+    let aheads = words.next().unwrap_or("");
+    let levels = words.next().unwrap_or("").parse::<u8>().unwrap_or(0);
+    let times = words.next().unwrap_or("").parse::<usize>().unwrap_or(0);
+    for ahead in aheads.split(',') {
+        let limits = (ahead.parse::<u16>().unwrap_or(u16::MAX), levels);
+        let line = told(rt, alloc, table, limits, times, &ONE_BY_ONE)?;
+        assert!(rt; line.as_str().starts_with(wanted), "{row} {line}");
+        if times > 10 {
+            let line = told(rt, alloc, table, limits, times, &NEWEST_FIRST)?;
+            assert!(rt; line.as_str().starts_with(wanted), "{row} {line}");
         }
     }
     Ok(())
 }
 
-const PAGES: &str = r#"one include
+const ROWS: &str = r#"0,16 4 300 one include
 /p 200 esi A{/x}B
 /x 200 plain 1
-=> A|1|B|; slots 2;
+=> A|1|B|; bytes 3; pieces 3; slots 2;
 
-an empty page
+0,16 4 300 an empty page
 /p 200 esi 
-=> ; slots 1;
+=> ; bytes 0; pieces 0; slots 1;
 
-a page that isn't there
+0,16 4 300 a page that isn't there
 /p 404 esi gone
-=> gone|; slots 1;
+=> gone|; bytes 4; pieces 1; slots 1;
 
-a page as it stands
+0,16 4 300 a page as it stands
 /p 200 plain a
-=> a|; slots 1;
+=> a|; bytes 1; pieces 1; slots 1;
 
-a page that can't be had
+0,16 4 300 a page that can't be had
 /p failed
 => fault 1; slots 1;
 
-a page that is no template
+0,16 4 300 a page that is no template
 /p 200 esi <esi:try>
 => fault 2 at 9; slots 1;
 
-an include that nobody answers
+0,16 4 300 an include that nobody answers
 /p 200 esi {/x}
 => fault 3; slots 2;
 
-an alternate
+0,16 4 300 an alternate
 /p 200 esi A<esi:include src='/x' alt='/y'/>B
 /x 404 plain 1
 /y 200 plain 2
-=> A|2|B|; slots 3;
+=> A|2|B|; bytes 3; pieces 3; slots 3;
 
-an except
+0,16 4 300 an except
 /p 200 esi <esi:try><esi:attempt>T{/x}</esi:attempt><esi:except>E</esi:except></esi:try>
-=> E|; slots 2;
+=> E|; bytes 1; pieces 1; slots 2;
 
-three names of one fragment
+0,16 4 300 three names of one fragment
 /p 200 esi {/x}{/x#f}{http://a.test/x}
 /x 200 plain 1
-=> 1|1|1|; slots 2;
+=> 1|1|1|; bytes 3; pieces 3; slots 2;
 
-a fragment too deep
+0,16 4 300 a fragment too deep
 /p 200 esi P{/1}
 /1 200 esi 1{/2}
 /2 200 esi 2{/3}
@@ -357,79 +201,173 @@ a fragment too deep
 /5 200 plain 5
 => fault 3; slots 5;
 
-a fragment too deep, and it continues
+0,16 4 300 a fragment too deep, and it continues
 /p 200 esi P{/1}
 /1 200 esi 1{/2}
 /2 200 esi 2{/3}
 /3 200 esi 3{/4}
 /4 200 esi 4{/5!}
 /5 200 plain 5
-=> P|1|2|3|4|; slots 5;
+=> P|1|2|3|4|; bytes 5; pieces 5; slots 5;
 
-a fragment that includes itself
+0,16 4 300 a fragment that includes itself
 /p 200 esi P{/s}
 /s 200 esi s{/s!}
-=> P|s|s|s|s|; slots 2;
+=> P|s|s|s|s|; bytes 5; pieces 5; slots 2;
 
-an inline taken by name
+0,16 4 300 an inline taken by name
 /p 200 esi <esi:inline name='/i'>b</esi:inline>{/i}
 /i 200 plain z
-=> b|b|; slots 1;
+=> b|b|; bytes 2; pieces 2; slots 1;
 
-an inline that includes itself
+0,16 4 300 an inline that includes itself
 /p 200 esi <esi:inline name='/i'>b{/i!}</esi:inline>
-=> b|b|b|b|b|; slots 1;
+=> b|b|b|b|b|; bytes 5; pieces 5; slots 1;
 
-an inline in a branch that isn't taken
+0,16 4 300 an inline in a branch that isn't taken
 /p 200 esi <esi:choose><esi:when test="''"><esi:inline name='/i'>b</esi:inline></esi:when></esi:choose>{/i}
-=> b|; slots 1;
+=> b|; bytes 1; pieces 1; slots 1;
 
-a fragment doesn't see its page's inlines
+0,16 4 300 a fragment doesn't see its page's inlines
 /p 200 esi <esi:inline name='/i'>b</esi:inline>{/f}
 /f 200 esi {/i}
 /i 200 plain z
-=> b|z|; slots 3;
+=> b|z|; bytes 2; pieces 2; slots 3;
 
-the first of two inlines
+0,16 4 300 the first of two inlines
 /p 200 esi <esi:inline name='/i'>1</esi:inline><esi:inline name='i'>2</esi:inline>{/i}
-=> 1|2|1|; slots 1;
+=> 1|2|1|; bytes 3; pieces 3; slots 1;
 
-too many legs
+0,16 4 300 too many legs
 /p 200 esi {/b}{/b}{/b}{/b}{/b}{/b}{/b}{/b}{/b}{/b}
 /b 200 esi {/b!}{/b!}{/b!}{/b!}{/b!}{/b!}{/b!}{/b!}{/b!}{/b!}
-=> fault 4; slots 2;"#;
+=> fault 4; slots 2;
 
-#[test]
-fn pages_come_to_their_outcome_one_slot_at_a_time(rt: HostRuntime) -> Result<(), Fail> {
-    Ok(cases_hold(&rt, rt.alloc(), 0, 4, PAGES)?)
-}
-
-#[test]
-fn pages_come_to_their_outcome_ahead(rt: HostRuntime) -> Result<(), Fail> {
-    Ok(cases_hold(&rt, rt.alloc(), 16, 4, PAGES)?)
-}
-
-const FIVE_LEVELS: &str = r#"five fragments, one in the other
+1 5 300 five fragments, one in the other
 /p 200 esi P{/1}
 /1 200 esi 1{/2}
 /2 200 esi 2{/3}
 /3 200 esi 3{/4}
 /4 200 esi 4{/5}
 /5 200 plain 5
-=> P|1|2|3|4|5|; slots 6;"#;
+=> P|1|2|3|4|5|; bytes 6; pieces 6; slots 6;
 
-const ONE_LEVEL: &str = r#"a fragment that includes itself
+1 1 300 a fragment that includes itself
 /p 200 esi P{/s}
 /s 200 esi s{/s!}
-=> P|s|; slots 2;"#;
+=> P|s|; bytes 2; pieces 2; slots 2;
 
-const EIGHT_LEVELS: &str = r#"an inline that includes itself
+256 8 300 an inline that includes itself
 /p 200 esi <esi:inline name='/i'>b{/i!}</esi:inline>
-=> b|b|b|b|b|b|b|b|b|; slots 1;"#;
+=> b|b|b|b|b|b|b|b|b|; bytes 9; pieces 9; slots 1;
+
+2 4 300 a piece for each text
+/p 200 esi A{/x}B
+/x 200 plain 1
+=> A|1|B|; bytes 3; pieces 3; slots 2;
+
+2 4 300 no piece of an attempt that failed
+/p 200 esi <esi:try><esi:attempt>T{/z}</esi:attempt><esi:except>E</esi:except></esi:try>
+/z 404 plain 1
+=> E|; bytes 1; pieces 1; slots 2;
+
+2 4 300 a fetch ahead that fails unasked changes nothing
+/p 200 esi <esi:try><esi:attempt>{/x}</esi:attempt><esi:except>{/z}</esi:except></esi:try>
+/x 200 plain 1
+/z 404 plain 1
+=> 1|; bytes 1; pieces 1; slots 3;
+
+0 4 300 a thousand legs
+/p 200 esi ~1000*{/x}~
+/x 200 plain 1
+=> 1|1|1|1|1|1|1|1|1|1|; bytes 1000; pieces 1000; slots 2;
+
+0 4 300 one leg more
+/p 200 esi ~1001*{/x}~
+/x 200 plain 1
+=> fault 4; slots 2;
+
+256 4 300 a thousand legs, and three hundred that are asked for ahead alone
+/p 200 esi <esi:try><esi:attempt>~1000*{/x}~</esi:attempt><esi:except>~300*{/z^}~</esi:except></esi:try>
+/x 200 plain 1
+~300*/z^ 404 plain 1
+~
+=> 1|1|1|1|1|1|1|1|1|1|; bytes 1000; pieces 1000; slots 257;
+
+0,1,256 4 300 a fragment that includes itself ten times
+/p 200 esi ~10*{/b}~
+/b 200 esi ~10*{/b}~
+=> fault 3; slots 2;
+
+0,1,256 4 300 the same, and the page goes on without it
+/p 200 esi ~10*{/b}~
+/b 200 esi ~10*{/b!}~
+=> fault 4; slots 2;
+
+256 4 300 two hundred fragments
+/p 200 esi ~200*{/x^}~
+~200*/x^ 200 plain 1
+~
+=> 1|1|1|1|1|1|1|1|1|1|; bytes 200; pieces 200; slots 201; steps 200;
+
+1 4 300 a long fragment again and again
+/p 200 esi ~900*{/x}~
+/x 200 plain ~262144*a~
+=> aaaaaaaa|aaaaaaaa|aaaaaaaa|aaaaaaaa|aaaaaaaa|aaaaaaaa|aaaaaaaa|aaaaaaaa|aaaaaaaa|aaaaaaaa|; bytes 235929600; pieces 900; slots 2;
+
+2 4 1 after turn 1
+/p 200 esi {/x}{/y}{/z}
+/x 200 plain 1
+/y 200 plain 2
+/z 200 plain 3
+=> waits http://a.test/x;
+
+2 4 2 after turn 2
+/p 200 esi {/x}{/y}{/z}
+/x 200 plain 1
+/y 200 plain 2
+/z 200 plain 3
+=> waits http://a.test/y;
+
+2 4 3 after turn 3
+/p 200 esi {/x}{/y}{/z}
+/x 200 plain 1
+/y 200 plain 2
+/z 200 plain 3
+=> waits http://a.test/z;
+
+2 4 4 after turn 4
+/p 200 esi {/x}{/y}{/z}
+/x 200 plain 1
+/y 200 plain 2
+/z 200 plain 3
+=> 1|2|3|; bytes 3; pieces 3; slots 4; steps 3;
+
+2 4 5 after turn 5
+/p 200 esi {/x}{/y}{/z}
+/x 200 plain 1
+/y 200 plain 2
+/z 200 plain 3
+=> 1|2|3|; bytes 3; pieces 3; slots 4; steps 3;
+
+3 4 300 three answers
+/p 200 esi {/x}{/y}{/z}
+/x 200 plain 1
+/y 200 plain 2
+/z 200 plain 3
+=> 1|2|3|;"#;
 
 #[test]
-fn levels_limit_how_deep_pages_go(rt: HostRuntime) -> Result<(), Fail> {
-    cases_hold(&rt, rt.alloc(), 1, 5, FIVE_LEVELS)?;
-    cases_hold(&rt, rt.alloc(), 1, 1, ONE_LEVEL)?;
-    Ok(cases_hold(&rt, rt.alloc(), 256, 8, EIGHT_LEVELS)?)
+fn pages_come_to_so_many_slots_pieces_and_steps(rt: HostRuntime) -> Result<(), Fail> {
+    for row in ROWS.split("\n\n") {
+        let text = written_out(rt.alloc(), row)?;
+        let mut table = Table::new(rt.alloc());
+        for line in text.lines() {
+            if line.starts_with('/') {
+                insert(&rt, rt.alloc(), &mut table, line)?;
+            }
+        }
+        row_holds(&rt, rt.alloc(), &table, row)?;
+    }
+    Ok(())
 }

@@ -2,16 +2,30 @@
 ghost use Rattle.std.specs.Prelude.{⊤};
 ghost use Rattle.std.specs.Io.{ReadsAtMost, WritesAtMost};
 
-use super::*;
+use super::source_of;
+use fetch_workers::TableSource;
 use futures::task::{Context, Poll};
-use hyper_edge::{Accept, Exchange, Seat, serve_io};
+use hyper_edge::{
+    Accept, Assembling, EdgeService, NoJournal, Seat, ServeEnd, serve_accepts, serve_io,
+};
+use std::alloc::AllocGlobal;
+use std::io;
+use std::io::{ErrorKind, Read};
+use std::process::Abort;
+use std::random::RandomSource;
 use std::sync::atomic::{AtomicU64, Ordering};
+use std::sync::{Arc, Wait};
+use std::test::Fail;
+use std::thread::Threads;
+use std::time::Clock;
 use tokio::io::{AsyncRead, AsyncWrite};
 
-// A client in memory, whose reads and writes fail from one on. It counts what is written.
+// What a client sends.
+const ASKED: &[u8] = b"GET /p HTTP/1.1\r\nhost: a.test\r\n\r\n";
+
+// A client in memory, whose reads and writes fail after so many. It counts what is written.
 #[derive(Drop)]
 struct Script {
-    input: Vec<u8>,
     is_read: bool,
     moves: u64,
     written: Arc<AtomicU64>,
@@ -26,7 +40,7 @@ impl Script {
         Ok(())
     }
 
-    // The whole input at once, and then its end.
+    // The whole request at once, and then the end.
     fn read(&mut self, buf: &mut [u8]) -> io::Result<usize>
         ensures { ReadsAtMost result buf.new }
     {
@@ -35,7 +49,8 @@ impl Script {
             return Ok(0);
         }
         self.is_read = true;
-        self.input.as_slice().read(buf)
+        let mut input = ASKED;
+        input.read(buf)
     }
 
     fn write(&mut self, buf: &[u8]) -> io::Result<usize>
@@ -81,15 +96,25 @@ impl AsyncWrite for Script {
     }
 }
 
+// A service over a page of one include.
+fn service<R>(rt: &R) -> Result<EdgeService<TableSource, R>, Fail>
+where
+    R: RandomSource + AllocGlobal + Abort + Clone + Drop,
+{
+    let case = "/p 200 esi A<esi:include src='/x'/>B;/x 200 plain 1";
+    let source = Arc::new(rt.alloc(), source_of(rt, rt.alloc(), case)?)?;
+    let how = Assembling::new(16, 4, 4);
+    Ok(EdgeService::new(rt.clone()?, rt.alloc(), source, how)?)
+}
+
 // How many bytes a client in memory is sent whose reads and writes fail after so many.
 fn written<R>(rt: &R, seat: &mut Seat, moves: u64) -> Result<u64, Fail>
 where
-    R: Wait + Threads + Clock + RandomSource + AllocGlobal + Clone + Drop + Sync,
+    R: Wait + Threads + Clock + RandomSource + AllocGlobal + Abort + Clone + Drop + Sync,
 {
-    let service = service(rt, SHORT)?;
+    let service = service(rt)?;
     let count = Arc::new(rt.alloc(), AtomicU64::new(0))?;
     let io = Script {
-        input: ASKED.to_vec(rt.alloc())?,
         is_read: false,
         moves,
         written: count.clone()?,
@@ -106,66 +131,65 @@ fn a_stream_that_fails_ends_its_exchange_alone(rt: HostRuntime) -> Result<(), Fa
     for moves in 0..6 {
         let sent = written(&rt, &mut seat, moves)?;
         assert!(rt; sent <= whole, "{moves}");
-        assert_eq!(rt; written(&rt, &mut seat, 100)?, whole, "{moves}");
+        assert!(rt; written(&rt, &mut seat, 100)? == whole, "{moves}");
     }
     Ok(())
 }
 
-// Fails so many accepts, lets one through, and fails from then on.
+// Fails so many accepts, lets a client in memory through, and fails from then on.
 #[derive(Drop)]
 struct Failing {
-    sockets: Sockets,
     fails: u64,
     accepts: AtomicU64,
+    written: Arc<AtomicU64>,
 }
 
-impl<R: Clock + Wait + Clone + Drop + Send> Accept<R> for Failing {
-    type Io = Exchange<R>;
+impl<R> Accept<R> for Failing {
+    type Io = Script;
 
-    fn accept(&self, rt: &R) -> Option<Exchange<R>> {
+    fn accept(&self, _rt: &R) -> Option<Script> {
         if self.accepts.fetch_add(1, Ordering::SeqCst) != self.fails {
             return None;
         }
-        self.sockets.accept(rt)
+        Some(Script {
+            is_read: false,
+            moves: 100,
+            written: self.written.clone().ok()?,
+        })
     }
 
     fn end(&self, _rt: &R) {}
 }
 
-// How a server ends whose accepts fail so often before and after one, and what its client was told.
-fn ended<R>(rt: &R, fails: u64) -> Result<(ServeEnd, u64, String), Fail>
+// Checks that a server ends whose accepts fail so often before and after one: after so many accepts, its
+// client having been sent so many bytes.
+fn ends<R>(rt: &R, fails: u64, accepts: u64, written: u64) -> Result<(), Fail>
 where
-    R: Wait + Threads + Net<Stream = TcpStream, Listener = TcpListener>,
-    R: Clock + RandomSource + AllocGlobal + Clone + Drop + Send + Sync,
+    R: Wait + Threads + Clock + RandomSource + AllocGlobal + Abort + Clone + Drop + Send + Sync,
 {
-    let limits = Limits {
-        request: millis(10_000),
-        response: millis(10_000),
-    };
-    let (sockets, address) = sockets(rt, limits)?;
+    let service = service(rt)?;
     let failing = Failing {
-        sockets,
         fails,
         accepts: AtomicU64::new(0),
+        written: Arc::new(rt.alloc(), AtomicU64::new(0))?,
     };
-    let service = service(rt, SHORT)?;
-    let socket = asking(rt, address, ASKED)?;
     let end = serve_accepts(rt, &failing, &service, &NoJournal, 1, u64::MAX);
-    let accepts = failing.accepts.load(Ordering::SeqCst);
-    drop(failing);
-    let got = rest(rt.alloc(), &socket).unwrap_or(Vec::new(rt.alloc()));
-    Ok((end, accepts, told(rt.alloc(), got.as_slice())?))
+    assert!(rt; end == ServeEnd::AcceptsFailed);
+    assert!(rt;
+        failing.accepts.load(Ordering::SeqCst) == accepts,
+        "{fails}"
+    );
+    assert!(rt;
+        failing.written.load(Ordering::SeqCst) == written,
+        "{fails}"
+    );
+    Ok(())
 }
 
 #[test]
 fn sixteen_failed_accepts_end_a_server(rt: HostRuntime) -> Result<(), Fail> {
-    let (end, accepts, told) = ended(&rt, 15)?;
-    assert_eq!(rt; end, ServeEnd::AcceptsFailed);
-    assert_eq!(rt; accepts, 32);
-    assert_eq!(rt; told.as_str(), "200 A1B");
-    let (end, accepts, told) = ended(&rt, 16)?;
-    assert_eq!(rt; end, ServeEnd::AcceptsFailed);
-    assert_eq!(rt; accepts, 16);
-    assert_eq!(rt; told.as_str(), " ");
-    Ok(())
+    let mut seat = Seat::new(&rt)?;
+    let whole = written(&rt, &mut seat, 100)?;
+    ends(&rt, 15, 32, whole)?;
+    ends(&rt, 16, 16, 0)
 }

@@ -1,5 +1,0 @@
-//! The tests of `fetch_workers`.
-#![tactic(auto)]
-
-#[cfg(test)]
-mod tests;

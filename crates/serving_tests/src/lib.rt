@@ -1,0 +1,5 @@
+//! The tests of `fetch_workers` and `hyper_edge`: of what no client or origin of a server shows.
+#![tactic(auto)]
+
+#[cfg(test)]
+mod tests;

@@ -1,0 +1,79 @@
+// A case has answers with a `;` between two: a path, `failed` or a status with what its control says, and
+// the body. A control is `plain`, or `esi` where the body is processed; a number in its place is the
+// max-age, and one more behind a `+` the extension.
+use edge_types::{Answer, Control, NoMemory, Octets, PageUrl, SharedBytes, Table};
+use fetch_workers::{Source, TableSource};
+use std::alloc::Global;
+use std::process::Abort;
+use std::sync::Arc;
+use std::sync::atomic::{AtomicU64, Ordering};
+
+mod caching;
+mod fetching;
+mod serving;
+
+fn url(rt: &impl Abort, alloc: Global, path: &str) -> Result<PageUrl, NoMemory> {
+    let mut text = String::new(alloc);
+    text.push_str("http://a.test")?;
+    text.push_str(path)?;
+    Ok(PageUrl::parse(alloc, text.as_bytes())?.expect(rt, "a URL"))
+}
+
+fn insert(rt: &impl Abort, alloc: Global, table: &mut Table, text: &str) -> Result<(), NoMemory> {
+    let (path, said) = text.split_once(' ').unwrap_or((text, ""));
+    let (status, said) = said.split_once(' ').unwrap_or(("", ""));
+    let (kind, body) = said.split_once(' ').unwrap_or(("", ""));
+    let (age, extension) = kind.split_once('+').unwrap_or((kind, ""));
+    let control = Control {
+        esi: kind == "esi",
+        max_age: age.parse::<u32>().ok(),
+        extension: extension.parse::<u32>().unwrap_or(0),
+        ..Control::default()
+    };
+    let url = url(rt, alloc, path)?;
+    let body = SharedBytes::copy_of(alloc, body.as_bytes())?;
+    // Nothing is got where there is no status.
+    let status = status.parse::<u16>().unwrap_or(0);
+    if let Some(answer) = Answer::got(url, status, Octets::empty(alloc), control, body) {
+        assert!(rt; table.insert(Arc::new(alloc, answer)?).is_ok(), "{text}");
+    }
+    Ok(())
+}
+
+fn source_of(rt: &impl Abort, alloc: Global, case: &str) -> Result<TableSource, NoMemory> {
+    let mut table = Table::new(alloc);
+    for text in case.split(';') {
+        insert(rt, alloc, &mut table, text)?;
+    }
+    Ok(TableSource::new(table))
+}
+
+// A table whose answers have to be waited for. It counts the fetches; finds no memory at that of a number,
+// and of each round of so many; and has nothing from one on.
+#[derive(Drop)]
+struct Origin<'a> {
+    table: TableSource,
+    fetches: &'a AtomicU64,
+    refused: u64,
+    round: u64,
+    ends: u64,
+}
+
+impl<R> Source<R> for Origin<'_> {
+    ghost use Rattle.std.specs.Prelude.{◌≡◌};
+
+    ghost gives = { λ origin url answer. answer.url ≡ url };
+
+    ghost names_url = { λ origin url answer given. given };
+
+    fn fetch(&self, rt: &R, alloc: Global, url: &PageUrl) -> Result<Arc<Answer>, NoMemory> {
+        let number = self.fetches.fetch_add(1, Ordering::SeqCst);
+        if number.checked_rem(self.round) == Some(self.refused) {
+            return Err(NoMemory);
+        }
+        if number >= self.ends {
+            return Ok(Arc::new(alloc, Answer::failed(url.share()?))?);
+        }
+        self.table.fetch(rt, alloc, url)
+    }
+}

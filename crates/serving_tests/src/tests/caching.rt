@@ -1,0 +1,159 @@
+// A source behind a cache, whose clock is set by hand.
+use super::{Origin, source_of, url};
+use edge_types::NoMemory;
+use fetch_workers::{Cache, Clock, Source};
+use std::alloc::Global;
+use std::fmt::Write;
+use std::process::Abort;
+use std::sync::Wait;
+use std::sync::atomic::{AtomicU64, Ordering};
+use std::test::Fail;
+use std::thread;
+use std::thread::Threads;
+
+#[derive(Drop)]
+struct Hands<'a>(&'a AtomicU64);
+
+impl<R> Clock<R> for Hands<'_> {
+    fn now(&self, _rt: &R) -> u64 {
+        self.0.load(Ordering::SeqCst)
+    }
+}
+
+// What a source gives for a path: the first byte of the body, `-` of a failed answer, `?` where it finds
+// no memory.
+fn ask<R: Abort, S: Source<R>>(rt: &R, alloc: Global, source: &S, path: &str) -> u8 {
+    let Ok(url) = url(rt, alloc, path) else {
+        return b'?';
+    };
+    match source.fetch(rt, alloc, &url) {
+        Ok(answer) => answer.body().first().copied().unwrap_or(b'-'),
+        Err(NoMemory) => b'?',
+    }
+}
+
+// Takes steps one after another: `+2` sets the clock two seconds on, a path is asked for. Tells what was
+// given.
+fn given<R: Abort, S: Source<R>>(
+    rt: &R,
+    alloc: Global,
+    source: &S,
+    seconds: &AtomicU64,
+    steps: &str,
+) -> Result<String, NoMemory> {
+    let mut out = String::new(alloc);
+    for step in steps.split(' ') {
+        match step.strip_prefix("+") {
+            Some(number) => {
+                seconds.fetch_add(number.parse::<u64>().unwrap_or(0), Ordering::SeqCst);
+            }
+            None => out.push(char::from(ask(rt, alloc, source, step)))?,
+        }
+    }
+    Ok(out)
+}
+
+// How many answers each of the eight shards keeps; which fetch finds no memory; from which on the origin has
+// nothing; the case; the steps; and what is given, and how often the origin was asked. The last bytes of
+// `/0` and `/8` put these into one shard.
+const ROWS: &str = "8|99|99|/x 200 60 1|/x /x|11 1
+8|99|99|/x 200 60 1|/x +59 /x +1 /x|111 2
+1|99|99|/0 200 60 0;/1 200 60 1;/8 200 60 8|/0 /8 /0|080 3
+1|99|99|/0 200 60 0;/1 200 60 1;/8 200 60 8|/0 /1 /0|010 2
+8|99|99|/x 404 60 1|/x /x|11 2
+8|99|99|/x failed|/x /x|-- 2
+8|99|1|/x 200 1+60 1|/x +2 /x +59 /x|11- 3
+8|0|99|/x 200 60 1|/x /x /x|?11 2";
+
+fn row_holds<R: Wait + Abort>(rt: &R, alloc: Global, row: &str) -> Result<(), NoMemory> {
+    let mut words = row.split('|');
+    let capacity = words.next().unwrap_or("").parse::<usize>().unwrap_or(0);
+    let refused = words.next().unwrap_or("").parse::<u64>().unwrap_or(0);
+    let ends = words.next().unwrap_or("").parse::<u64>().unwrap_or(0);
+    let case = words.next().unwrap_or("");
+    let steps = words.next().unwrap_or("");
+    let wanted = words.next().unwrap_or("");
+    assert!(rt; 1 <= capacity && capacity <= 1024);
+    let (fetches, seconds) = (AtomicU64::new(0), AtomicU64::new(100));
+    let origin = Origin {
+        table: source_of(rt, alloc, case)?,
+        fetches: &fetches,
+        refused,
+        round: u64::MAX,
+        ends,
+    };
+    let cache = Cache::new(alloc, origin, Hands(&seconds), capacity)?;
+    let mut out = given(rt, alloc, &cache, &seconds, steps)?;
+    write!(out, " {}", fetches.load(Ordering::SeqCst))?;
+    assert!(rt; out.as_str() == wanted, "{row} {out}");
+    Ok(())
+}
+
+#[test]
+fn answers_are_kept_and_bridged(rt: HostRuntime) -> Result<(), Fail> {
+    for row in ROWS.lines() {
+        row_holds(&rt, rt.alloc(), row)?;
+    }
+    Ok(())
+}
+
+const PATHS: [&str; 16] = [
+    "/a", "/b", "/c", "/d", "/e", "/f", "/g", "/h", "/i", "/j", "/k", "/l", "/m", "/n", "/o", "/p",
+];
+
+// Asks for each path over and over; counts answers that are neither the origin's nor those of a failed
+// flight.
+fn wrong_answers<R: Abort, S: Source<R>>(rt: &R, alloc: Global, source: &S, first: usize) -> u64 {
+    let mut wrong: u64 = 0;
+    for k in 0..200usize {
+        if let Some(path) = PATHS.get(first.wrapping_add(k) % 16) {
+            let given = ask(rt, alloc, source, path);
+            if given != b'-' && given != b'?' && path.as_bytes().last() != Some(&given) {
+                wrong = wrong.wrapping_add(1);
+            }
+        }
+    }
+    wrong
+}
+
+// By 64 threads.
+fn none_is_wrong<R: Threads + Abort + Sync, S: Source<R> + Sync>(
+    rt: &R,
+    alloc: Global,
+    source: &S,
+) -> Result<(), Fail> {
+    let wrong = thread::map_indices(rt, alloc, 64, &|i| wrong_answers(rt, alloc, source, i))?;
+    assert!(rt; wrong.iter().all(|count| *count == 0));
+    Ok(())
+}
+
+// Sixteen URLs, of an origin that finds no memory at each tenth fetch. Tells how often it was asked.
+fn crowd<R: Wait + Threads + Abort + Sync>(
+    rt: &R,
+    alloc: Global,
+    control: &str,
+) -> Result<u64, Fail> {
+    let mut case = String::new(alloc);
+    for letter in 'a'..='p' {
+        write!(case, "/{letter} 200 {control} {letter};")?;
+    }
+    let (fetches, seconds) = (AtomicU64::new(0), AtomicU64::new(100));
+    let origin = Origin {
+        table: source_of(rt, alloc, case.as_str().trim_end_matches(';'))?,
+        fetches: &fetches,
+        refused: 9,
+        round: 10,
+        ends: u64::MAX,
+    };
+    let cache = Cache::new(alloc, origin, Hands(&seconds), 8)?;
+    none_is_wrong(rt, alloc, &cache)?;
+    Ok(fetches.load(Ordering::SeqCst))
+}
+
+#[test]
+fn many_threads_share_flights(rt: HostRuntime) -> Result<(), Fail> {
+    // Each of the 16 is fetched until it is there: the tenth fetch found no memory.
+    assert!(rt; crowd(&rt, rt.alloc(), "60")? == 17);
+    assert!(rt; crowd(&rt, rt.alloc(), "plain")? <= 64 * 200);
+    Ok(())
+}

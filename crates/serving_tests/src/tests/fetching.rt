@@ -1,0 +1,119 @@
+// Threads that fetch for one page: a gate, and want of memory.
+use super::{Origin, source_of, url};
+use edge_types::{NoMemory, Outcome, PageUrl, Request};
+use fetch_workers::{AssembleFault, Gate, MAX_WORKERS, assemble_gated};
+use std::alloc::Global;
+use std::process::Abort;
+use std::sync::Wait;
+use std::sync::atomic::{AtomicU64, Ordering};
+use std::test::Fail;
+use std::thread::Threads;
+use std::time::{Clock, Duration};
+use std::{str, thread};
+
+// Where two fetches of fragments meet: each waits for another, for so many milliseconds at least. A turn
+// that is only yielded may take milliseconds beside busy processes, so they can't be counted in its place.
+#[derive(Drop)]
+struct Meeting {
+    came: AtomicU64,
+    gave_up: AtomicU64,
+    millis: u64,
+}
+
+impl Meeting {
+    fn of(millis: u64) -> Meeting {
+        Meeting {
+            came: AtomicU64::new(0),
+            gave_up: AtomicU64::new(0),
+            millis,
+        }
+    }
+}
+
+impl<R: Clock> Gate<R> for Meeting {
+    fn before_fetch(&self, rt: &R, url: &PageUrl) {
+        if url.as_bytes().ends_with(b"/p") {
+            return;
+        }
+        self.came.fetch_add(1, Ordering::SeqCst);
+        for _ in 0..self.millis {
+            if self.came.load(Ordering::SeqCst) >= 2 {
+                return;
+            }
+            thread::sleep(rt, Duration::from_millis(1));
+        }
+        self.gave_up.fetch_add(1, Ordering::SeqCst);
+    }
+}
+
+// The output of the page at `/p` by so many threads, or the fault.
+fn made<R: Wait + Threads + Clock + Abort + Sync>(
+    rt: &R,
+    alloc: Global,
+    origin: &Origin,
+    gate: &Meeting,
+    workers: u8,
+) -> Result<String, NoMemory> {
+    assert!(rt; 1 <= workers && workers <= MAX_WORKERS);
+    let url = url(rt, alloc, "/p")?;
+    let request = Request::empty(alloc);
+    let mut out = String::new(alloc);
+    match assemble_gated(rt, alloc, origin, gate, url, request, 16, workers, 4) {
+        Ok(page) => match &*page.outcome {
+            Outcome::Page { body, .. } => {
+                for i in 0..body.mark() {
+                    out.push_str(str::from_utf8(body.piece(i).unwrap_or(&[])).unwrap_or("?"))?;
+                }
+            }
+            Outcome::Fault(_) => out.push_str("a fault")?,
+        },
+        Err(AssembleFault::NoMemory) => out.push_str("no memory")?,
+        Err(_) => out.push_str("torn")?,
+    }
+    Ok(out)
+}
+
+const CASE: &str =
+    "/p 200 esi <esi:include src='/1'/><esi:include src='/2'/><esi:include src='/3'/><esi:include src='/4'/><esi:include src='/5'/><esi:include src='/6'/>;/1 200 plain 1;/2 200 esi 2<esi:include src='/7'/>;/3 200 plain 3;/4 200 plain 4;/5 200 plain 5;/6 200 plain 6;/7 200 plain 7";
+
+// How the page ends where the source finds no memory at the fetch of this number, and how many fetches
+// passed the gate without another.
+fn ended<R: Wait + Threads + Clock + Abort + Sync>(
+    rt: &R,
+    alloc: Global,
+    (refused, workers, millis): (u64, u8, u64),
+    wanted: &str,
+) -> Result<u64, NoMemory> {
+    let fetches = AtomicU64::new(0);
+    let gate = Meeting::of(millis);
+    let origin = Origin {
+        table: source_of(rt, alloc, CASE)?,
+        fetches: &fetches,
+        refused,
+        round: u64::MAX,
+        ends: u64::MAX,
+    };
+    let out = made(rt, alloc, &origin, &gate, workers)?;
+    assert!(rt; out.as_str() == wanted, "{refused} {workers}: {out}");
+    Ok(gate.gave_up.load(Ordering::SeqCst))
+}
+
+// Nobody waits for ever. The page is there where so many fetches aren't made.
+#[test]
+fn no_memory_at_any_fetch_is_told(rt: HostRuntime) -> Result<(), Fail> {
+    for refused in 0..9 {
+        let wanted = if refused < 8 { "no memory" } else { "1273456" };
+        for workers in [1, 2, 4, 16] {
+            ended(&rt, rt.alloc(), (refused, workers, 0), wanted)?;
+        }
+    }
+    Ok(())
+}
+
+// One thread gives the first fragment's fetch up; of two both pass, however busy the machine is.
+#[test]
+fn the_gate_opens_where_two_fetch(rt: HostRuntime) -> Result<(), Fail> {
+    assert!(rt; ended(&rt, rt.alloc(), (9, 1, 50), "1273456")? == 1);
+    assert!(rt; ended(&rt, rt.alloc(), (9, 2, 10_000), "1273456")? == 0);
+    Ok(())
+}
