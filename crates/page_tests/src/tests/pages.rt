@@ -4,10 +4,8 @@
 // a status, `esi` or `plain`, and the body; and behind `=> ` how what is told of the page begins. The page
 // is at `/p`. `{/x}` stands for an include of `/x`, and `{/x!}` for one with onerror="continue"; between
 // two `~` stands what comes several times, as `3*{/x^}`, with `^` for which time it is.
-use super::url_of;
-use edge_types::{
-    Answer, Control, NoMemory, Octets, Outcome, PageFault, Request, SharedBytes, Table,
-};
+use super::{answer, url_of};
+use edge_types::{NoMemory, Outcome, PageFault, Request, Table};
 use esi_meaning::are_levels;
 use plan_runner::{Event, MAX_AHEAD, Page, State, run_events};
 use std::alloc::Global;
@@ -46,14 +44,9 @@ fn insert(rt: &impl Abort, alloc: Global, table: &mut Table, line: &str) -> Resu
     text.push_str("http://a.test")?;
     text.push_str(path)?;
     let url = url_of(rt, alloc, text.as_str())?;
-    let control = Control {
-        esi: kind == "esi",
-        ..Control::default()
-    };
-    let body = SharedBytes::copy_of(alloc, body.as_bytes())?;
     // Nothing is got where there is no status.
     let status = status.parse::<u16>().unwrap_or(0);
-    if let Some(answer) = Answer::got(url, status, Octets::empty(alloc), control, body) {
+    if let Some(answer) = answer(alloc, url, status, kind == "esi", body)? {
         assert!(rt; table.insert(Arc::new(alloc, answer)?).is_ok(), "{line}");
     }
     Ok(())

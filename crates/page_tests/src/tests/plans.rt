@@ -1,6 +1,6 @@
 // Answers made ready, and second owners of them: their plans, which no page shows.
-use super::url_of;
-use edge_types::{Answer, Control, NoMemory, Octets, SharedBytes};
+use super::{answer, url_of};
+use edge_types::NoMemory;
 use esi_vars::Part;
 use plan_compiler::{Form, Plan, Prepared, Step};
 use std::alloc::Global;
@@ -61,13 +61,8 @@ const PAGE: &str = "http://a.test/p";
 
 // A second owner of the answer of the page's URL, made ready; its body is processed where `esi` says so.
 fn second(rt: &impl Abort, alloc: Global, esi: bool, body: &str) -> Result<Prepared, NoMemory> {
-    let control = Control {
-        esi,
-        ..Control::default()
-    };
     let url = url_of(rt, alloc, PAGE)?;
-    let body = SharedBytes::copy_of(alloc, body.as_bytes())?;
-    let answer = Answer::got(url, 200, Octets::empty(alloc), control, body).expect(rt, "an answer");
+    let answer = answer(alloc, url, 200, esi, body)?.expect(rt, "an answer");
     Prepared::of(alloc, Arc::new(alloc, answer)?)?.share()
 }
 

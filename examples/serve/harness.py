@@ -1,0 +1,203 @@
+"""What the tests of the server are made of: origins, an edge, and clients, all on free ports of 127.0.0.1.
+Each process is ended by its own id."""
+import os
+import re
+import socket
+import subprocess
+import sys
+import threading
+
+HERE = os.path.dirname(os.path.realpath(__file__))
+sys.path.insert(0, os.path.join(HERE, "..", "site"))
+import origin as site_origin  # noqa: E402
+
+PROGRAM = os.path.join(HERE, "..", "..", "esi_edge")
+# So long may a client of these tests wait for anything: it only bounds a run that has failed.
+PATIENCE = 20
+TEMPLATE = 'content="ESI/1.0"'
+
+
+class Wrong(Exception):
+    """What was wanted, and what came."""
+
+
+def same(what, wanted, came):
+    if wanted != came:
+        raise Wrong("%s\n  wanted %r\n  came   %r" % (what, wanted, came))
+
+
+class Origin:
+    """An origin in a thread of its own; `paths` are those of the example site where none are given."""
+
+    def __init__(self, paths=None, port=0, site=None):
+        self.server = site_origin.Origin(port, site or site_origin.Site(paths))
+        self.site = self.server.site
+        self.port = self.server.server_address[1]
+        self.at = "127.0.0.1:%d" % self.port
+        self.thread = threading.Thread(target=self.server.serve_forever, args=(0.02,), daemon=True)
+        self.thread.start()
+
+    def __enter__(self):
+        return self
+
+    def __exit__(self, *_):
+        self.server.closing.set()
+        self.server.shutdown()
+        self.server.server_close()
+        self.thread.join()
+
+
+class Wires:
+    """An origin in a thread of its own that sends for each target these very bytes, and hangs up; for
+    another none. Bytes that are to go on without end stand as one piece of them, in a list; a function
+    says what to send when it is asked for, or sends it itself. It keeps what it was asked."""
+
+    def __init__(self, texts):
+        self.texts = dict(texts)
+        self.listener = socket.create_server(("127.0.0.1", 0), backlog=128)
+        self.at = "127.0.0.1:%d" % self.listener.getsockname()[1]
+        self.sent = 0
+        self.heads = []
+        self.thread = threading.Thread(target=self.serve, daemon=True)
+        self.thread.start()
+
+    def __enter__(self):
+        return self
+
+    def __exit__(self, *_):
+        self.listener.shutdown(socket.SHUT_RDWR)
+        self.thread.join()
+        self.listener.close()
+
+    def asked(self):
+        """The targets that were asked for, in order."""
+        return [head.split(b" ")[1].decode() for head in self.heads]
+
+    def serve(self):
+        while True:
+            try:
+                connection, _ = self.listener.accept()
+            except OSError:
+                return
+            threading.Thread(target=self.answer, args=(connection,), daemon=True).start()
+
+    def answer(self, connection):
+        with connection:
+            connection.settimeout(PATIENCE)
+            try:
+                head = b""
+                while b"\r\n\r\n" not in head:
+                    more = connection.recv(4096)
+                    if not more:
+                        return
+                    head += more
+                self.heads.append(head)
+                text = self.texts.get(head.split(b" ")[1].decode(), b"")
+                if callable(text):
+                    text = text(connection) or b""
+                if isinstance(text, bytes):
+                    return connection.sendall(text)
+                connection.sendall(text[0])
+                while True:
+                    self.sent += connection.send(text[1])
+            except OSError:
+                # An edge that has heard enough hangs up.
+                pass
+
+
+class Edge:
+    """An edge, with the options of `serve` behind `--listen`."""
+
+    def __init__(self, *options):
+        words = [PROGRAM, "serve", "--listen", "127.0.0.1:0", *options]
+        self.process = subprocess.Popen(words, stdin=subprocess.DEVNULL, stdout=subprocess.PIPE, stderr=subprocess.PIPE)
+        line = self.process.stdout.readline()
+        found = re.fullmatch(rb"listening on 127\.0\.0\.1:([1-9][0-9]*)\n", line)
+        if not found:
+            self.process.kill()
+            raise Wrong("the edge's first line\n  wanted 'listening on 127.0.0.1:PORT'\n  came   %r" % line)
+        self.port = int(found.group(1))
+
+    def __enter__(self):
+        return self
+
+    def __exit__(self, *_):
+        self.end()
+
+    def end(self):
+        if self.process.stdout.closed:
+            return self.said
+        if self.process.poll() is None:
+            self.process.kill()
+        self.process.wait()
+        self.process.stdout.close()
+        self.said = self.process.stderr.read()
+        self.process.stderr.close()
+        return self.said
+
+    def ends(self):
+        """Waits for its end by itself, and gives its exit status."""
+        return self.process.wait(PATIENCE)
+
+
+def before(origin, *options):
+    """An edge that asks this origin for everything."""
+    return Edge("--origin", "*=" + origin.at, *options)
+
+
+def client(edge, sent=b"", ends=False):
+    """A connection that has sent these bytes, and perhaps has ended its input."""
+    connection = socket.create_connection(("127.0.0.1", edge.port), PATIENCE)
+    connection.sendall(sent)
+    if ends:
+        connection.shutdown(socket.SHUT_WR)
+    return connection
+
+
+def exchange(edge, sent):
+    """Sends bytes over one connection, and gives all that comes back."""
+    with client(edge, sent) as connection:
+        return rest(connection)
+
+
+def rest(connection):
+    came = []
+    while True:
+        more = connection.recv(65536)
+        if not more:
+            return b"".join(came)
+        came.append(more)
+
+
+class Response:
+    def __init__(self, came):
+        head, _, self.body = came.partition(b"\r\n\r\n")
+        lines = head.decode("latin-1").split("\r\n")
+        self.status = int(lines[0].split(" ")[1]) if lines[0].startswith("HTTP/1.") else None
+        self.fields = dict((name.lower(), value) for name, _, value in (line.partition(": ") for line in lines[1:]))
+
+
+def get(edge, target, host="a.test", fields="", method="GET"):
+    head = "%s %s HTTP/1.1\r\nHost: %s\r\n%s\r\n" % (method, target, host, fields)
+    return Response(exchange(edge, head.encode()))
+
+
+def wire(text):
+    """A text with `|` for the end of a line."""
+    return text.replace("|", "\r\n").encode()
+
+
+# A template, of a text on one line, as its origin sends it, to the end of the connection.
+PAGE = 'HTTP/1.1 200 OK|surrogate-control: content="ESI/1.0"||'
+UNASSEMBLED = (502, b"The page could not be assembled.\n")
+# What asks for a page.
+ASKED = wire("GET /p HTTP/1.1|host: a.test||")
+
+
+def told(edge, target="/p"):
+    got = get(edge, target)
+    return got.status, got.body
+
+
+TRY = (b'<esi:try><esi:attempt>[<esi:include src="/x"/>]</esi:attempt><esi:except>none</esi:except></esi:try>', "text/html", TEMPLATE)
+PLAIN = {"/p": TRY, "/x": (b"12345678", "text/plain", "")}

@@ -1,0 +1,151 @@
+"""What origins are asked, and what becomes of what they send."""
+import time
+
+from harness import PAGE, PLAIN, TRY, UNASSEMBLED, Edge, Origin, Wires, before, get, same, told, wire
+
+
+def each_cut_of_a_fragment_fails_its_page():
+    """A fragment that is cut anywhere, in its head, behind it or in its body, can't be had."""
+    whole = wire("HTTP/1.1 200 OK|content-length: 1||1")
+    chunks = wire("HTTP/1.1 200 OK|transfer-encoding: chunked||1|1|0||")
+    with Wires({"/p": wire(PAGE + "A<esi:include src='/x'/>B")}) as origin, before(origin) as edge:
+        for text in (whole, chunks):
+            for k in range(len(text) + 1):
+                origin.texts["/x"] = text[:k]
+                same("the first %d of %r" % (k, text), (200, b"A1B") if k == len(text) else UNASSEMBLED, told(edge))
+
+
+MOST = 262144
+
+
+def no_more_is_read_than_a_body_may_have():
+    """A fragment of 262,144 bytes can be had, and one of a byte more can't, whether its length is told
+    or its connection ends; nor can one without an end, of which no more is read than that."""
+    heads = ("HTTP/1.1 200 OK||", "HTTP/1.1 200 OK|content-length: %d||")
+    page = PAGE + TRY[0].decode()
+    with Wires({"/p": wire(page), "/q": wire(PAGE + "<esi:include src='/x'/>")}) as origin, before(origin) as edge:
+        for head in heads:
+            for more, body in ((0, b"[" + b"x" * MOST + b"]"), (1, b"none")):
+                text = wire(head % (MOST + more) if "%" in head else head) + b"x" * (MOST + more)
+                origin.texts["/x"] = text
+                status, came = told(edge)
+                same("%s and %d more" % (head, more), (200, len(body), True), (status, len(came), came == body))
+            same(head, UNASSEMBLED, told(edge, "/q"))
+        for head in ("HTTP/1.1 200 OK||", "HTTP/1.1 200 OK|content-length: 999999999999||"):
+            origin.texts["/x"] = [wire(head), b"x" * 65536]
+            begun = time.monotonic()
+            same("without an end", (200, b"none"), told(edge))
+            same("and soon", True, time.monotonic() - begun < 5)
+        # What goes on into the sockets' buffers isn't read.
+        same("bytes that were sent (%d)" % origin.sent, True, origin.sent < 64 * MOST)
+
+
+def origins_are_asked_by_authority():
+    """Each authority at its own origin, others at that of `*`, and none where there is no such."""
+    with Origin({"/": (b"A", "text/plain", "")}) as a, Origin({"/": (b"B", "text/plain", "")}) as b:
+        with Edge("--origin", "a.test=" + a.at, "--origin", "*=" + b.at) as edge:
+            same("a.test", b"A", get(edge, "/").body)
+            same("b.test", b"B", get(edge, "/", host="b.test").body)
+            same("a.test:8080", b"B", get(edge, "/", host="a.test:8080").body)
+        with Edge("--origin", "a.test:8080=" + a.at) as edge:
+            same("a.test:8080", b"A", get(edge, "/", host="a.test:8080").body)
+            same("a.test", 502, get(edge, "/").status)
+
+
+def an_origin_is_asked_for_the_url_alone():
+    """It is asked for the URL, with the host and the edge's capability and with nothing of the client. Each line
+    of Surrogate-Control counts."""
+    answer = wire('HTTP/1.1 200 OK|content-length: 26|content-type: text/html|surrogate-control: max-age=60|surrogate-control: content="ESI/1.0"||')
+    with Wires({"/x?q=1": answer + b"1<esi:comment text='here'/>"}) as origin, Wires({}) as silent:
+        with Edge("--origin", "b.test=" + silent.at, "--origin", "a.test=" + origin.at, "--origin", "*=" + silent.at) as edge:
+            for _ in range(2):
+                got = get(edge, "/x?q=1", fields="Cookie: a=1\r\nUser-Agent: x\r\n")
+                same("what the client is told", (200, "text/html", b"1"), (got.status, got.fields.get("content-type"), got.body))
+            wanted = wire('GET /x?q=1 HTTP/1.1|host: a.test|surrogate-capability: edge1="Surrogate/1.0 ESI/1.0"||')
+            same("what the origin is asked, once", [wanted], origin.heads)
+
+
+def what_is_no_answer_is_a_failed_one():
+    """What an origin sends for a page, and what a client is told of it."""
+    rows = (
+        ("HTTP/1.1 404 Not Found|content-length: 4||gone", (404, b"gone")),
+        ("HTTP/1.1 200 OK|content-length: 2||1", UNASSEMBLED),
+        ("HTTP/1.1 200 OK||to the end", (200, b"to the end")),
+        ("HTTP/1.1 100 Continue||HTTP/1.1 200 OK|content-length: 1||1", (200, b"1")),
+        ("HTTP/1.1 600 Odd|content-length: 1||1", UNASSEMBLED),
+        ("HTTP/1.1 200 OK|transfer-encoding: chunked||1|1|0||", (200, b"1")),
+        ("HTTP/1.1 200 OK|transfer-encoding: chunked||1|1|", UNASSEMBLED),
+        ("HTTP/1.1 200 OK|content-length: 262145||", UNASSEMBLED),
+        ("no HTTP||", UNASSEMBLED),
+    )
+    with Wires({}) as origin, before(origin) as edge:
+        for text, wanted in rows:
+            origin.texts["/p"] = wire(text)
+            same(text, wanted, told(edge))
+
+
+def a_fragment_cut_short_is_none():
+    """A fragment whose connection is cut behind half of it can't be had; whole again, it can."""
+    with Origin(PLAIN) as origin, before(origin) as edge:
+        for how, body in (("usual", b"[12345678]"), ("short", b"none"), ("failing", b"none"), ("usual", b"[12345678]")):
+            origin.site.tell("/x", how)
+            same(how, (200, body), (get(edge, "/p").status, get(edge, "/p").body))
+
+
+def an_origin_goes_and_comes_back():
+    """Without its origin a page is 502, and with it again the page."""
+    origin = Origin(PLAIN)
+    site, port = origin.site, origin.port
+    with before(origin) as edge:
+        same("there", b"[12345678]", get(edge, "/p").body)
+        origin.__exit__()
+        same("gone", 502, get(edge, "/p").status)
+        with Origin(port=port, site=site):
+            same("back", b"[12345678]", get(edge, "/p").body)
+
+
+def a_hanging_origin_is_given_up():
+    """With --timeout a fetch that isn't answered in time can't be had."""
+    with Origin(PLAIN) as origin, before(origin, "--timeout", "300") as edge:
+        origin.site.tell("/x", "hanging")
+        begun = time.monotonic()
+        same("hanging", (200, b"none"), (get(edge, "/p").status, get(edge, "/p").body))
+        taken = time.monotonic() - begun
+        same("it took some time, and not too long (%.1f s)" % taken, True, 0.5 < taken < 10)
+
+
+def who_never_answers_fails_at_the_limit():
+    """An origin that never answers, or a byte every ten milliseconds to whoever reads on, fails at a limit of
+    fifty; so does an authority that has no origin."""
+
+    def never(connection):
+        connection.recv(1)
+
+    def trickle(connection):
+        for k in range(len(whole)):
+            time.sleep(0.01)
+            connection.sendall(whole[k:k + 1])
+
+    whole = wire("HTTP/1.1 200 OK|content-length: 1||1")
+    with Wires({"/never": never, "/trickle": trickle, "/whole": whole}) as origin:
+        with Edge("--origin", "a.test=" + origin.at, "--timeout", "50") as edge:
+            for path in ("/never", "/trickle"):
+                begun = time.monotonic()
+                same(path, UNASSEMBLED, told(edge, path))
+                taken = time.monotonic() - begun
+                same("%s soon, and not at once (%.2f s)" % (path, taken), True, 0.04 < taken < 5)
+            same("no origin", 502, get(edge, "/whole", host="b.test").status)
+            same("at once", (200, b"1"), told(edge, "/whole"))
+
+
+TESTS = (
+    each_cut_of_a_fragment_fails_its_page,
+    no_more_is_read_than_a_body_may_have,
+    origins_are_asked_by_authority,
+    an_origin_is_asked_for_the_url_alone,
+    what_is_no_answer_is_a_failed_one,
+    a_fragment_cut_short_is_none,
+    an_origin_goes_and_comes_back,
+    a_hanging_origin_is_given_up,
+    who_never_answers_fails_at_the_limit,
+)

@@ -1,0 +1,141 @@
+"""Fetches at one time, and answers that are kept."""
+import threading
+import time
+
+from harness import PAGE, PATIENCE, Origin, Wires, before, get, same, told, wire
+
+
+class Meeting:
+    """Where fetches meet: each waits until so many are there at once, or too long. It counts the most that
+    were, and how many gave up."""
+
+    def __init__(self, needed, seconds=PATIENCE):
+        self.needed, self.seconds = needed, seconds
+        self.inside = self.most = self.gave_up = 0
+        self.moved = threading.Condition()
+
+    def of(self, text):
+        """What an origin sends once the fetches have met."""
+
+        def send(_):
+            with self.moved:
+                self.inside += 1
+                self.most = max(self.most, self.inside)
+                self.moved.notify_all()
+                self.gave_up += not self.moved.wait_for(lambda: self.most >= self.needed, self.seconds)
+                self.inside -= 1
+            return text
+
+        return send
+
+
+def all_at_once(calls):
+    """What these calls give, each by a thread of its own."""
+    came = []
+    threads = [threading.Thread(target=lambda call=call: came.append(call())) for call in calls]
+    for thread in threads:
+        thread.start()
+    for thread in threads:
+        thread.join()
+    return came
+
+
+def equal_requests_cost_one_fetch():
+    """Two, eight and 101 clients that ask for one fragment at one time: the origin is asked once."""
+    paths = {"/x": (b"12345678", "text/plain", "max-age=60")}
+    for count in (2, 8, 101):
+        with Origin(paths) as origin, before(origin, "--threads", "64") as edge:
+            origin.site.tell("/x", "slow:1000")
+            came = all_at_once([lambda: get(edge, "/x").body] * count)
+            same("what they got", [b"12345678"] * count, came)
+            same("times that the origin was asked", 1, origin.site.count("/x"))
+
+
+def a_cache_is_free_while_it_is_fetched_for():
+    """Two URLs that one lock keeps: the last bytes of their paths put them together. Each is answered once both are asked for."""
+    meeting = Meeting(2)
+    texts = {path: meeting.of(wire("HTTP/1.1 200 OK|surrogate-control: max-age=60||" + path[1:])) for path in ("/0", "/8")}
+    with Wires(texts) as origin, before(origin, "--threads", "2") as edge:
+        came = all_at_once([lambda path=path: told(edge, path) for path in texts])
+        same("what they got", [(200, b"0"), (200, b"8")], sorted(came))
+        same("fetches that gave up", 0, meeting.gave_up)
+
+
+def two_workers_fetch_at_one_time():
+    """Of a page's two fragments each is answered once both are asked for: two workers do so, and one gives up."""
+    for workers, seconds, gave_up in ((1, 0.05, 1), (2, PATIENCE, 0)):
+        meeting = Meeting(2, seconds)
+        texts = {"/x": meeting.of(wire("HTTP/1.1 200 OK||1")), "/y": meeting.of(wire("HTTP/1.1 200 OK||2"))}
+        texts["/p"] = wire(PAGE + "<esi:include src='/x'/><esi:include src='/y'/>")
+        with Wires(texts) as origin, before(origin, "--workers", str(workers), "--ahead", "2") as edge:
+            same("by %d workers" % workers, (200, b"12"), told(edge))
+            same("%d workers: is given up" % workers, gave_up > 0, meeting.gave_up > 0)
+
+
+def as_many_fetch_at_once_as_are_missing():
+    """A page of 20 fragments, of which some are kept: how many are missing, the workers, and the most that are
+    fetched at once."""
+    kept = "HTTP/1.1 200 OK|surrogate-control: max-age=600||%d"
+    page = wire('HTTP/1.1 200 OK|surrogate-control: max-age=600, content="ESI/1.0"||P' + "".join("<esi:include src='/%d'/>" % i for i in range(20)))
+    for missing, workers, most in ((0, 4, 0), (1, 4, 1), (2, 4, 2), (20, 1, 1), (20, 4, 4), (20, 16, 16)):
+        meeting = Meeting(min(missing, workers))
+        texts = {"/%d" % i: wire("HTTP/1.1 200 OK||%d" % i if i < missing else kept % i) for i in range(20)}
+        texts["/p"] = page
+        wanted = (200, b"P" + b"".join(b"%d" % i for i in range(20)))
+        with Wires(texts) as origin, before(origin, "--workers", str(workers), "--ahead", "256") as edge:
+            same("first", wanted, told(edge))
+            origin.heads.clear()
+            origin.texts.update(("/%d" % i, meeting.of(texts["/%d" % i])) for i in range(missing))
+            same("second", wanted, told(edge))
+            same("%d missing, %d workers" % (missing, workers), (missing, most), (len(origin.heads), meeting.most))
+
+
+def pages_share_what_is_kept():
+    """A page that is asked for twice, all of whose answers are kept, costs its fetches once."""
+    head = "HTTP/1.1 200 OK|surrogate-control: max-age=60%s||"
+    esi, plain = head % ', content="ESI/1.0"', head % ""
+    include = "<esi:include src='%s'/>"
+    stored = {"/p": esi + "P" + include % "/x" + include % "/y" + include % "/z", "/x": plain + "1", "/y": esi + "2" + include % "/x", "/z": plain + "3"}
+    tried = esi + "<esi:try><esi:attempt>%s</esi:attempt><esi:except>%s</esi:except></esi:try>" % (include % "/x", include % "/z")
+    # Whether an except is fetched that isn't needed is left to the workers.
+    rows = ((stored, b"P1213", 4), ({"/p": tried, "/x": plain + "1", "/z": plain + "9"}, b"1", None))
+    for workers in (1, 2, 16):
+        for texts, wanted, fetches in rows:
+            texts = {path: wire(text) for path, text in texts.items()}
+            with Wires(texts) as origin, before(origin, "--workers", str(workers)) as edge:
+                same("first", (200, wanted), told(edge))
+                first = len(origin.heads)
+                same("second", (200, wanted), told(edge))
+                if fetches:
+                    same("fetches by %d workers" % workers, (fetches, fetches), (first, len(origin.heads)))
+
+
+def answers_are_kept_and_bridged():
+    """Within max-age nobody asks the origin; past it a failing origin is bridged within the extension,
+    and is passed on where there is none."""
+    paths = {"/x": (b"x", "text/plain", "max-age=2+60"), "/y": (b"y", "text/plain", "max-age=2")}
+    with Origin(paths) as origin, before(origin) as edge:
+        for _ in range(2):
+            same("/x and /y", (b"x", b"y"), (get(edge, "/x").body, get(edge, "/y").body))
+        same("times asked at first", True, origin.site.count("/x") <= 2 and origin.site.count("/y") <= 2)
+        origin.site.tell("/x", "failing")
+        origin.site.tell("/y", "failing")
+        asked = origin.site.count("/x")
+        time.sleep(3.1)
+        same("/x is bridged", (200, b"x"), (get(edge, "/x").status, get(edge, "/x").body))
+        same("/y isn't", (500, b"The origin fails.\n"), (get(edge, "/y").status, get(edge, "/y").body))
+        same("the origin was asked again", True, origin.site.count("/x") > asked)
+        origin.site.tell("/x", "usual")
+        asked = origin.site.count("/x")
+        same("/x is there again", b"x", get(edge, "/x").body)
+        same("and was asked for", asked + 1, origin.site.count("/x"))
+
+
+TESTS = (
+    equal_requests_cost_one_fetch,
+    a_cache_is_free_while_it_is_fetched_for,
+    two_workers_fetch_at_one_time,
+    as_many_fetch_at_once_as_are_missing,
+    pages_share_what_is_kept,
+    answers_are_kept_and_bridged,
+)
