@@ -6,7 +6,7 @@ import os
 import subprocess
 import time
 
-from harness import ASKED, HERE, PAGE, PROGRAM, UNASSEMBLED, Origin, Wires, before, client, get, rest, same, told, wire
+from harness import ASKED, HERE, PAGE, PROGRAM, UNASSEMBLED, Origin, Wires, before, client, get, same, told, wire
 
 
 def tables_of(kind):
@@ -80,25 +80,25 @@ def pages_are_what_origins_send():
             same(repr(row), row[3], told(edge))
 
 
-def wires_of(answers):
-    """What an origin sends for the answers of a page's row; nothing for one that can't be had."""
+def wires_of(answers, kept=""):
+    """What an origin sends for the answers of a page's row, and how long they are kept; nothing for one that can't be had."""
     texts = {}
     for path, answer in answers:
         if answer is not None:
             status, is_template, body = answer
-            control = 'surrogate-control: content="ESI/1.0"|' if is_template else ""
+            control = ", ".join(it for it in (kept, 'content="ESI/1.0"' if is_template else "") if it)
+            control = "surrogate-control: %s|" % control if control else ""
             head = "HTTP/1.1 %s It|content-type: text%s|%scontent-length: %d||" % (status, path.partition("?")[0], control, len(body))
             texts[path] = wire(head) + body.encode()
     return texts
 
 
-def row_is_served(edge, origin, row, answers, wanted):
-    """Whether a page's row is what the client is told, of answers for which the origin was asked once."""
-    head, name = row
+def row_is_served(edge, origin, head, name, texts, wanted):
+    """Whether a page's row is what the client is told. The origin is asked for no URL twice; what for is given back."""
     target = "/p?" + head["query"] if "query" in head else "/p"
-    origin.texts = wires_of(answers)
-    if target != "/p" and "/p" in origin.texts:
-        origin.texts[target] = origin.texts["/p"]
+    origin.texts = dict(texts)
+    if "/p" in texts:
+        origin.texts[target] = texts["/p"]
     origin.heads.clear()
     cookie = "Cookie: %s\r\n" % head["cookie"] if "cookie" in head else ""
     got = get(edge, target, fields=cookie)
@@ -106,8 +106,9 @@ def row_is_served(edge, origin, row, answers, wanted):
     if wanted.startswith("fault"):
         wanted = "502 text/plain The page could not be assembled.\n"
     same(name, wanted, came)
-    same("%s: each URL is asked once" % name, len(set(origin.asked())), len(origin.heads))
-    return len(origin.heads)
+    asked = origin.asked()
+    same("%s: each URL is asked once" % name, len(set(asked)), len(asked))
+    return asked
 
 
 def pages_are_the_same_whoever_fetches():
@@ -121,11 +122,23 @@ def pages_are_the_same_whoever_fetches():
             with Wires({}) as origin, before(origin, *words, "--log", "--accept", str(len(these))) as edge:
                 asked = []
                 for file, head, name, given, wanted in these:
-                    row = (head, "%s of %s, by %s" % (name, file, " ".join(words)))
-                    asked.append(row_is_served(edge, origin, row, module.answers_of(given), wanted))
+                    told_of = "%s of %s, by %s" % (name, file, " ".join(words))
+                    asked.append(len(row_is_served(edge, origin, head, told_of, wires_of(module.answers_of(given)), wanted)))
                 same("exit status", 0, edge.ends())
                 answers = [int(line.split(" ")[5]) for line in edge.end().decode().splitlines()]
                 same("answers that the log tells, by %s" % " ".join(words), asked, answers)
+
+
+def pages_are_the_same_where_answers_are_ready():
+    """Each page of the tables, asked for twice, where its answers are kept: then none that was had is fetched."""
+    module, rows = tables_of("pages")
+    for file, head, name, given, wanted in rows:
+        answers = module.answers_of(given)
+        kept = {path for path, answer in answers if answer is not None and answer[0] == "200"}
+        with Wires({}) as origin, before(origin, "--levels", head.get("levels", "4"), "--workers", "2") as edge:
+            first = row_is_served(edge, origin, head, name, wires_of(answers, "max-age=600"), wanted)
+            again = row_is_served(edge, origin, head, name + " again", wires_of(answers, "max-age=600"), wanted)
+            same("%s: fetched again" % name, set(), kept.intersection(first, again))
 
 
 def include(path):
@@ -219,6 +232,7 @@ TESTS = (
     pages_are_those_of_case,
     pages_are_what_origins_send,
     pages_are_the_same_whoever_fetches,
+    pages_are_the_same_where_answers_are_ready,
     slots_that_answers_bring_are_fetched,
     each_piece_goes_out,
     a_response_has_to_be_read_in_time,

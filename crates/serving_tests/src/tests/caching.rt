@@ -73,7 +73,9 @@ fn row_holds<R: Wait + Abort>(rt: &R, alloc: Global, row: &str) -> Result<(), No
     let case = words.next().unwrap_or("");
     let steps = words.next().unwrap_or("");
     let wanted = words.next().unwrap_or("");
-    assert!(rt; 1 <= capacity && capacity <= 1024);
+    if capacity == 0 || capacity > 1024 {
+        return Err(NoMemory);
+    }
     let (fetches, seconds) = (AtomicU64::new(0), AtomicU64::new(100));
     let origin = Origin {
         table: source_of(rt, alloc, case)?,

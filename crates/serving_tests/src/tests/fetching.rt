@@ -54,7 +54,9 @@ fn made<R: Wait + Threads + Clock + Abort + Sync>(
     gate: &Meeting,
     workers: u8,
 ) -> Result<String, NoMemory> {
-    assert!(rt; 1 <= workers && workers <= MAX_WORKERS);
+    if workers == 0 || workers > MAX_WORKERS {
+        return Err(NoMemory);
+    }
     let url = url(rt, alloc, "/p")?;
     let request = Request::empty(alloc);
     let mut out = String::new(alloc);
