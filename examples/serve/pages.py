@@ -211,7 +211,7 @@ def read_of(edge, pause=0.0):
 def each_piece_goes_out():
     """Pages of 17 to 900 pieces of 250,000 bytes, to a client that has ended its input, and to a slow one."""
     for count, pause in ((17, 0), (41, 0), (900, 0), (200, 0.0001)):
-        with Wires(of_pieces(count)) as origin, before(origin) as edge:
+        with Wires(of_pieces(count)) as origin, before(origin, "--client-timeout", "50000") as edge:
             same("%d pieces" % count, (2 + PIECE * count, b"AB"), read_of(edge, pause))
 
 

@@ -45,7 +45,7 @@ def equal_requests_cost_one_fetch():
     paths = {"/x": (b"12345678", "text/plain", "max-age=60")}
     for count in (2, 8, 101):
         with Origin(paths) as origin, before(origin, "--threads", "64") as edge:
-            origin.site.tell("/x", "slow:1000")
+            origin.site.tell("/x", "slow:500")
             came = all_at_once([lambda: get(edge, "/x").body] * count)
             same("what they got", [b"12345678"] * count, came)
             same("times that the origin was asked", 1, origin.site.count("/x"))
