@@ -55,7 +55,7 @@ def origins_are_asked_by_authority():
 def an_origin_is_asked_for_the_url_alone():
     """It is asked for the URL, with the host and the edge's capability and with nothing of the client. Each line
     of Surrogate-Control counts."""
-    answer = wire('HTTP/1.1 200 OK|content-length: 26|content-type: text/html|surrogate-control: max-age=60|surrogate-control: content="ESI/1.0"||')
+    answer = wire('HTTP/1.1 200 OK|content-length: 27|content-type: text/html|surrogate-control: max-age=60|surrogate-control: content="ESI/1.0"||')
     with Wires({"/x?q=1": answer + b"1<esi:comment text='here'/>"}) as origin, Wires({}) as silent:
         with Edge("--origin", "b.test=" + silent.at, "--origin", "a.test=" + origin.at, "--origin", "*=" + silent.at) as edge:
             for _ in range(2):
