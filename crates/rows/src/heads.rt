@@ -1,62 +1,60 @@
 //! Heads of requests.
 
-use crate::row::{Fault, number, pair, push_text, text};
+use crate::row::{Line, number, pair};
 use edge_types::{PageUrl, Request, around};
 use hyper_edge_head::Field;
 use std::alloc::Global;
-use std::fmt::Write;
+use std::str;
 
 /// A row is the method and, behind a space, the target; then come the lines, with a bar before each.
-pub fn answer_head(alloc: Global, row: &[u8], out: &mut String) -> Result<(), Fault> {
-    let (method, row) = pair(row)?;
+pub fn answer_head(alloc: Global, row: &[u8], line: &mut Line) -> Option<()> {
+    let (method, row) = pair(row);
     let (target, lines) = around(b'|', row).unwrap_or((row, b""));
     let fields = fields(alloc, lines)?;
-    match hyper_edge_head::answer_head(alloc, method, target, fields.as_slice()) {
-        Ok((url, request)) => push_asked(out, &url, &request.copy(alloc)?),
-        Err(fault) => Ok(write!(out, "{fault:?}")?),
+    match &hyper_edge_head::answer_head(alloc, method, target, fields.as_slice()) {
+        Ok((url, request)) => push_asked(line, url, &request.copy(alloc).ok()?),
+        Err(fault) => line.debug(fault),
     }
+    Some(())
 }
 
-fn fields(alloc: Global, lines: &[u8]) -> Result<Vec<Field<'_>>, Fault> {
+fn fields(alloc: Global, lines: &[u8]) -> Option<Vec<Field<'_>>> {
     let mut fields = Vec::new(alloc);
-    if lines.is_empty() {
-        return Ok(fields);
+    for line in str::from_utf8(lines).ok()?.split('|') {
+        let (name, value) = pair(line.as_bytes());
+        if !name.is_empty() {
+            fields.push(Field { name, value }).ok()?;
+        }
     }
-    for line in text(lines)?.split('|') {
-        let (name, value) = pair(line.as_bytes())?;
-        fields.push(Field { name, value })?;
-    }
-    Ok(fields)
+    Some(fields)
 }
 
 // The page that is asked for, and the host, the cookies, the referer, the agent, the language and the query, with a
 // bar behind each.
-fn push_asked(out: &mut String, url: &PageUrl, request: &Request) -> Result<(), Fault> {
-    push_text(out, url.as_bytes())?;
-    out.push('|')?;
+fn push_asked(line: &mut Line, url: &PageUrl, request: &Request) {
     for field in [
-        &request.host,
-        &request.cookie,
-        &request.referer,
-        &request.user_agent,
-        &request.accept_language,
-        &request.query,
+        url.as_bytes(),
+        request.host.as_bytes(),
+        request.cookie.as_bytes(),
+        request.referer.as_bytes(),
+        request.user_agent.as_bytes(),
+        request.accept_language.as_bytes(),
+        request.query.as_bytes(),
     ] {
-        push_text(out, field.as_bytes())?;
-        out.push('|')?;
+        line.show(field);
+        line.push("|");
     }
-    Ok(())
 }
 
 /// A row is two bytes as numbers; those from the one to the other that are a host are told.
-pub fn hosts(alloc: Global, row: &[u8], out: &mut String) -> Result<(), Fault> {
-    let (first, last) = pair(row)?;
+pub fn hosts(alloc: Global, row: &[u8], line: &mut Line) -> Option<()> {
+    let (first, last) = pair(row);
     for byte in number::<u8>(first)?..=number(last)? {
         if is_host(alloc, &[byte]) {
-            push_text(out, &[byte])?;
+            line.show(&[byte]);
         }
     }
-    Ok(())
+    Some(())
 }
 
 fn is_host(alloc: Global, value: &[u8]) -> bool {

@@ -1,64 +1,49 @@
 //! References and tests, and what they are for a request.
 
-use crate::row::{Fault, number, pair, push_text, push_word};
-use edge_types::{NoMemory, Octets, Request, SharedBytes};
+use crate::row::{Line, number, pair};
+use edge_types::{Octets, Request, SharedBytes};
 use esi_vars::{Part, Reference, Variable};
 use std::alloc::Global;
 
 /// A request with this cookie.
-fn request(alloc: Global, cookie: &[u8]) -> Result<Request, NoMemory> {
+fn request(alloc: Global, cookie: &[u8]) -> Option<Request> {
     let mut request = Request::empty(alloc);
-    request.cookie = Octets::copy_of(alloc, cookie)?;
-    Ok(request)
+    request.cookie = Octets::copy_of(alloc, cookie).ok()?;
+    Some(request)
 }
 
 /// The parts of a text.
-pub fn parts_of(alloc: Global, text: &[u8]) -> Result<Vec<Part>, NoMemory> {
-    esi_vars::parts(alloc, &SharedBytes::copy_of(alloc, text)?)
+pub fn parts_of(alloc: Global, text: &[u8]) -> Option<Vec<Part>> {
+    let text = SharedBytes::copy_of(alloc, text).ok()?;
+    esi_vars::parts(alloc, &text).ok()
 }
 
 /// The parts of a row, with a bar behind each.
-pub fn parts(alloc: Global, row: &[u8], out: &mut String) -> Result<(), Fault> {
+pub fn parts(alloc: Global, row: &[u8], line: &mut Line) -> Option<()> {
     for part in &parts_of(alloc, row)? {
-        push_part(out, part)?;
-        out.push('|')?;
+        push_part(line, part);
+        line.push("|");
     }
-    Ok(())
+    Some(())
 }
 
-pub fn push_parts(out: &mut String, parts: &[Part]) -> Result<(), Fault> {
+pub fn push_parts(line: &mut Line, parts: &[Part]) {
     for part in parts {
-        push_part(out, part)?;
+        push_part(line, part);
     }
-    Ok(())
 }
 
-fn push_part(out: &mut String, part: &Part) -> Result<(), Fault> {
+fn push_part(line: &mut Line, part: &Part) {
     match part {
-        Part::Text(bytes) => push_text(out, bytes.as_bytes()),
-        Part::Reference(reference) => push_reference(out, reference),
+        Part::Text(bytes) => line.show(bytes.as_bytes()),
+        Part::Reference(reference) => push_reference(line, reference),
     }
 }
 
 // A reference is told as it is written, with its default in quotes.
-fn push_reference(out: &mut String, reference: &Reference) -> Result<(), Fault> {
-    out.push_str("$(")?;
-    push_text(out, variable(&reference.variable))?;
-    if let Some(key) = &reference.key {
-        out.push('{')?;
-        push_text(out, key.as_bytes())?;
-        out.push('}')?;
-    }
-    if let Some(default) = &reference.default {
-        out.push_str("|'")?;
-        push_text(out, default.as_bytes())?;
-        out.push('\'')?;
-    }
-    Ok(out.push(')')?)
-}
-
-fn variable(variable: &Variable) -> &[u8] {
-    match variable {
+fn push_reference(line: &mut Line, reference: &Reference) {
+    line.push("$(");
+    line.show(match &reference.variable {
         Variable::HttpAcceptLanguage => b"HTTP_ACCEPT_LANGUAGE",
         Variable::HttpCookie => b"HTTP_COOKIE",
         Variable::HttpHost => b"HTTP_HOST",
@@ -66,59 +51,67 @@ fn variable(variable: &Variable) -> &[u8] {
         Variable::HttpUserAgent => b"HTTP_USER_AGENT",
         Variable::QueryString => b"QUERY_STRING",
         Variable::Unknown(name) => name.as_bytes(),
+    });
+    if let Some(key) = &reference.key {
+        line.push("{");
+        line.show(key.as_bytes());
+        line.push("}");
     }
+    if let Some(default) = &reference.default {
+        line.push("|'");
+        line.show(default.as_bytes());
+        line.push("'");
+    }
+    line.push(")");
 }
 
 /// A row is the cookie, and behind a space the text.
-pub fn substitute(alloc: Global, row: &[u8], out: &mut String) -> Result<(), Fault> {
-    let (cookie, text) = pair(row)?;
+pub fn substitute(alloc: Global, row: &[u8], line: &mut Line) -> Option<()> {
+    let (cookie, text) = pair(row);
     let request = request(alloc, cookie)?;
     let parts = parts_of(alloc, text)?;
-    push_text(
-        out,
-        esi_vars::substitute(alloc, &request, parts.as_slice())?.as_slice(),
-    )
+    let found = esi_vars::substitute(alloc, &request, parts.as_slice()).ok()?;
+    line.show(found.as_slice());
+    Some(())
 }
 
 /// A row is the limit, the cookie and the text.
-pub fn substitute_within(alloc: Global, row: &[u8], out: &mut String) -> Result<(), Fault> {
-    let (limit, row) = pair(row)?;
-    let (cookie, text) = pair(row)?;
+pub fn substitute_within(alloc: Global, row: &[u8], line: &mut Line) -> Option<()> {
+    let (limit, row) = pair(row);
+    let limit = number(limit)?;
+    let (cookie, text) = pair(row);
     let request = request(alloc, cookie)?;
     let parts = parts_of(alloc, text)?;
-    match esi_vars::substitute_within(alloc, &request, parts.as_slice(), number(limit)?)? {
-        Some(text) => push_text(out, text.as_slice()),
-        None => push_word(out, "too long"),
+    match esi_vars::substitute_within(alloc, &request, parts.as_slice(), limit).ok()? {
+        Some(text) => line.show(text.as_slice()),
+        None => line.push("too long"),
     }
+    Some(())
 }
 
 /// A row is the cookie and the text; the reference's value is told and, behind a bar, what follows it.
-pub fn reference_at(alloc: Global, row: &[u8], out: &mut String) -> Result<(), Fault> {
-    let (cookie, text) = pair(row)?;
+pub fn reference_at(alloc: Global, row: &[u8], line: &mut Line) -> Option<()> {
+    let (cookie, text) = pair(row);
     let request = request(alloc, cookie)?;
-    match esi_vars::reference_at(alloc, text)? {
+    match &esi_vars::reference_at(alloc, text).ok()? {
         Some((reference, rest)) => {
-            push_text(out, esi_vars::value(&request, &reference))?;
-            out.push('|')?;
-            push_text(out, rest)
+            line.show(esi_vars::value(&request, reference));
+            line.push("|");
+            line.show(rest);
         }
-        None => push_word(out, "no reference"),
+        None => line.push("no reference"),
     }
+    Some(())
 }
 
 /// A row is the cookie, and behind a space the test.
-pub fn holds(alloc: Global, row: &[u8], out: &mut String) -> Result<(), Fault> {
-    let (cookie, text) = pair(row)?;
+pub fn holds(alloc: Global, row: &[u8], line: &mut Line) -> Option<()> {
+    let (cookie, text) = pair(row);
     let request = request(alloc, cookie)?;
-    match esi_expr::parse(alloc, text)? {
-        Some(test) => push_word(
-            out,
-            if test.holds(&request) {
-                "holds"
-            } else {
-                "fails"
-            },
-        ),
-        None => push_word(out, "no test"),
-    }
+    line.push(match &esi_expr::parse(alloc, text).ok()? {
+        Some(test) if test.holds(&request) => "holds",
+        Some(_) => "fails",
+        None => "no test",
+    });
+    Some(())
 }

@@ -19,7 +19,7 @@ mod trees;
 mod values;
 
 use edge_types::query_of;
-use row::{Fault, push_text, push_word, written_out};
+use row::{Line, written_out};
 use std::{env, fs, io};
 use surrogate_headers::is_token;
 
@@ -27,97 +27,98 @@ fn main(rt: HostRuntime) -> io::Result<()> {
     for table in env::args(&rt)?.skip(1) {
         let rows = fs::read_to_string(&rt, table.as_str())?;
         println!(rt; "== {table}")?;
-        print_rows(&rt, table.as_str(), rows.as_str())?;
-    }
-    Ok(())
-}
-
-fn print_rows(rt: &HostRuntime, table: &str, rows: &str) -> io::Result<()> {
-    for row in rows.lines() {
-        let mut answer = String::new(rt.alloc());
-        if let Err(fault) = push_answer(rt, table, row, &mut answer) {
-            eprintln!(rt; "{table}: {row}: {fault}")?;
-            return Err(io::Error::from(io::ErrorKind::InvalidData));
+        for row in rows.lines() {
+            print_row(&rt, table.as_str(), row)?;
         }
-        let space = if answer.is_empty() { "" } else { " " };
-        println!(rt; "{row} =>{space}{answer}")?;
     }
     Ok(())
 }
 
-fn push_answer(rt: &HostRuntime, table: &str, row: &str, out: &mut String) -> Result<(), Fault> {
+fn print_row(rt: &HostRuntime, table: &str, row: &str) -> io::Result<()> {
+    let mut line = Line::new(rt.alloc());
+    if let (Some(()), Some(answer)) = (answered(rt, table, row, &mut line), line.whole()) {
+        let space = if answer.is_empty() { "" } else { " " };
+        return println!(rt; "{row} =>{space}{answer}");
+    }
+    eprintln!(rt; "{table}: {row}: no such table, a row that can't be read, or out of memory")?;
+    Err(io::Error::from(io::ErrorKind::InvalidData))
+}
+
+fn answered(rt: &HostRuntime, table: &str, row: &str, line: &mut Line) -> Option<()> {
     let row = written_out(rt.alloc(), row)?;
-    answer(rt, table, row.as_slice(), out)
+    answer(rt, table, row.as_slice(), line)
 }
 
 // Makes the call of a table with a row.
-fn answer(rt: &HostRuntime, table: &str, row: &[u8], out: &mut String) -> Result<(), Fault> {
+fn answer(rt: &HostRuntime, table: &str, row: &[u8], line: &mut Line) -> Option<()> {
     let alloc = rt.alloc();
     match table {
-        "parse" => values::parse(alloc, row, out),
-        "resolve" => values::resolve(alloc, row, out),
-        "authority" => values::authority(alloc, row, out),
-        "compare" => values::compare(alloc, row, out),
-        "query_of" => push_text(out, query_of(row)),
-        "is_ws" => values::white_space(row, out),
-        "around" => values::halves(row, out),
-        "got" => values::got(alloc, row, out),
-        "failed" => values::failed(alloc, row, out),
-        "table" => values::table(alloc, row, out),
-        "body" => values::body(alloc, row, out),
-        "page_fault" => values::fault(row, out),
-        "control" => headers::control(row, out),
-        "is_token" => push_word(out, if is_token(row) { "a token" } else { "no token" }),
-        "capability" => headers::capability(alloc, row, out),
-        _ => answer_of_language(rt, table, row, out),
+        "parse" => values::parse(alloc, row, line),
+        "resolve" => values::resolve(alloc, row, line),
+        "authority" => values::authority(alloc, row, line),
+        "compare" => values::compare(alloc, row, line),
+        "query_of" => shown(line, query_of(row)),
+        "is_ws" => values::white_space(row, line),
+        "around" => values::halves(row, line),
+        "got" => values::got(alloc, row, line),
+        "failed" => values::failed(alloc, row, line),
+        "table" => values::table(alloc, row, line),
+        "body" => values::body(alloc, row, line),
+        "page_fault" => values::page_fault(row, line),
+        "control" => headers::control(row, line),
+        "is_token" => shown(
+            line,
+            if is_token(row) {
+                b"a token"
+            } else {
+                b"no token"
+            },
+        ),
+        "capability" => headers::capability(alloc, row, line),
+        _ => answer_of_language(rt, table, row, line),
     }
 }
 
+fn shown(line: &mut Line, text: &[u8]) -> Option<()> {
+    line.show(text);
+    Some(())
+}
+
 // The same for tables of texts of the language.
-fn answer_of_language(
-    rt: &HostRuntime,
-    table: &str,
-    row: &[u8],
-    out: &mut String,
-) -> Result<(), Fault> {
+fn answer_of_language(rt: &HostRuntime, table: &str, row: &[u8], line: &mut Line) -> Option<()> {
     let alloc = rt.alloc();
     match table {
-        "scan" => scanning::scan(alloc, row, out),
-        "attributes" => scanning::attributes(alloc, row, out),
-        "trouble_at" => scanning::trouble_at(alloc, row, out),
-        "parts" => language::parts(alloc, row, out),
-        "substitute" => language::substitute(alloc, row, out),
-        "substitute_within" => language::substitute_within(alloc, row, out),
-        "reference_at" => language::reference_at(alloc, row, out),
-        "holds" => language::holds(alloc, row, out),
-        "template" => trees::template(alloc, row, out),
-        "tree_fault" => trees::fault(row, out),
-        "check" => checking::check(alloc, row, out),
-        "trouble_of" => checking::trouble_of(alloc, row, out),
-        "position_of" => checking::position_of(row, out),
-        "report" => checking::report(alloc, row, out),
-        _ => answer_of_pages(rt, table, row, out),
+        "scan" => scanning::scan(alloc, row, line),
+        "attributes" => scanning::attributes(alloc, row, line),
+        "trouble_at" => scanning::trouble_at(alloc, row, line),
+        "parts" => language::parts(alloc, row, line),
+        "substitute" => language::substitute(alloc, row, line),
+        "substitute_within" => language::substitute_within(alloc, row, line),
+        "reference_at" => language::reference_at(alloc, row, line),
+        "holds" => language::holds(alloc, row, line),
+        "template" => trees::template(alloc, row, line),
+        "tree_fault" => trees::tree_fault(row, line),
+        "check" => checking::check(alloc, row, line),
+        "trouble_of" => checking::trouble_of(alloc, row, line),
+        "position_of" => checking::position_of(row, line),
+        "report" => checking::report(alloc, row, line),
+        _ => answer_of_pages(rt, table, row, line),
     }
 }
 
 // The same for tables of pages, of what HTTP carries, and of the cache.
-fn answer_of_pages(
-    rt: &HostRuntime,
-    table: &str,
-    row: &[u8],
-    out: &mut String,
-) -> Result<(), Fault> {
+fn answer_of_pages(rt: &HostRuntime, table: &str, row: &[u8], line: &mut Line) -> Option<()> {
     let alloc = rt.alloc();
     match table {
-        "plain_page" => meaning::plain_page(alloc, row, out),
-        "leg_url" => meaning::leg_url(alloc, row, out),
-        "are_levels" => meaning::are_levels(row, out),
-        "answer_head" => heads::answer_head(alloc, row, out),
-        "hosts" => heads::hosts(alloc, row, out),
-        "response_of" => responses::response_of(rt, row, out),
-        "refusal_of" => responses::refusal_of(rt, row, out),
-        "frames" => responses::frames(rt, row, out),
-        "shard" => shards::play(alloc, row, out),
-        _ => Err(Fault::NoTable),
+        "plain_page" => meaning::plain_page(alloc, row, line),
+        "leg_url" => meaning::leg_url(alloc, row, line),
+        "are_levels" => meaning::are_levels(row, line),
+        "answer_head" => heads::answer_head(alloc, row, line),
+        "hosts" => heads::hosts(alloc, row, line),
+        "response_of" => responses::response_of(rt, row, line),
+        "refusal_of" => responses::refusal_of(rt, row, line),
+        "frames" => responses::frames(rt, row, line),
+        "shard" => shards::play(alloc, row, line),
+        _ => None,
     }
 }

@@ -1,60 +1,59 @@
 //! Pages, and the legs of their includes.
 
 use crate::language::parts_of;
-use crate::row::{Fault, number, pair, push_word};
+use crate::row::{Line, number, pair};
 use crate::values::{push_pieces, push_url, url};
-use edge_types::{Answer, Control, Octets, Outcome, Request, SharedBytes, Table};
+use edge_types::{Answer, Control, Octets, Outcome, PageUrl, Request, SharedBytes, Table};
 use std::alloc::Global;
-use std::fmt::Write;
 use std::sync::Arc;
 
 /// A row is a page, a template that includes nothing.
-pub fn plain_page(alloc: Global, row: &[u8], out: &mut String) -> Result<(), Fault> {
-    let mut table = Table::new(alloc);
-    insert(alloc, &mut table, row)?;
-    let request = Request::empty(alloc);
+pub fn plain_page(alloc: Global, row: &[u8], line: &mut Line) -> Option<()> {
     let url = url(alloc, b"http://a.test/p")?;
-    let outcome = esi_meaning::plain_page(alloc, &url, &request, &table, 4)?;
-    push_outcome(out, &outcome)
+    let mut table = Table::new(alloc);
+    push_page(alloc, &url, row, &mut table, line)
 }
 
-// Puts the page in.
-fn insert(alloc: Global, table: &mut Table, text: &[u8]) -> Result<(), Fault> {
+fn push_page(
+    alloc: Global,
+    url: &PageUrl,
+    text: &[u8],
+    table: &mut Table,
+    line: &mut Line,
+) -> Option<()> {
     let control = Control {
         esi: true,
         ..Control::default()
     };
-    let url = url(alloc, b"http://a.test/p")?;
-    let body = SharedBytes::copy_of(alloc, text)?;
-    let answer = Answer::got(url, 200, Octets::empty(alloc), control, body);
-    let answer = Arc::new(alloc, answer.ok_or(Fault::Unreadable)?)?;
-    table.insert(answer).map_err(|_| Fault::Unreadable)
-}
-
-fn push_outcome(out: &mut String, outcome: &Outcome) -> Result<(), Fault> {
-    match outcome {
+    let body = SharedBytes::copy_of(alloc, text).ok()?;
+    let answer = Answer::got(url.share().ok()?, 200, Octets::empty(alloc), control, body)?;
+    table.insert(Arc::new(alloc, answer).ok()?).ok()?;
+    let request = Request::empty(alloc);
+    match &esi_meaning::plain_page(alloc, url, &request, table, 4).ok()? {
         Outcome::Page { status, body, .. } => {
-            write!(out, "{status} ")?;
-            push_pieces(out, body)
+            line.display(status);
+            line.push(" ");
+            push_pieces(line, body);
         }
-        Outcome::Fault(fault) => push_word(out, fault.name()),
+        Outcome::Fault(fault) => line.push(fault.name()),
     }
+    Some(())
 }
 
 /// A row is the URL of what includes, and behind a space the source.
-pub fn leg_url(alloc: Global, row: &[u8], out: &mut String) -> Result<(), Fault> {
-    let (base, source) = pair(row)?;
+pub fn leg_url(alloc: Global, row: &[u8], line: &mut Line) -> Option<()> {
+    let (base, source) = pair(row);
     let base = url(alloc, base)?;
     let source = parts_of(alloc, source)?;
     let request = Request::empty(alloc);
-    push_url(
-        out,
-        &esi_meaning::leg_url(alloc, &request, &base, source.as_slice())?,
-    )
+    let found = esi_meaning::leg_url(alloc, &request, &base, source.as_slice());
+    push_url(line, &found.ok()?);
+    Some(())
 }
 
 /// A row is a number.
-pub fn are_levels(row: &[u8], out: &mut String) -> Result<(), Fault> {
+pub fn are_levels(row: &[u8], line: &mut Line) -> Option<()> {
     let are_levels = esi_meaning::are_levels(number(row)?);
-    push_word(out, if are_levels { "levels" } else { "no levels" })
+    line.push(if are_levels { "levels" } else { "no levels" });
+    Some(())
 }

@@ -1,43 +1,102 @@
 //! Reading rows, and writing answers.
 
-use edge_types::{NoMemory, around};
-use std::alloc::{AllocError, AllocFailed, Global};
-use std::fmt::Write;
+use edge_types::around;
+use std::alloc::{AllocError, Global};
+use std::fmt::{Debug, Display, Write};
 use std::str;
 use std::str::FromStr;
-use thiserror::Error;
 
-/// Why a row has no answer.
-#[derive(Clone, Copy, Debug, Drop, Error)]
-pub enum Fault {
-    #[error("no table has the name: name another, or add it to the program")]
-    NoTable,
-    #[error("the row can't be read: write it as the others")]
-    Unreadable,
-    #[error("out of memory: try again with more of it")]
-    NoMemory,
+// A longer text is cut off in an answer, behind so many of its characters.
+const LONG: usize = 1000;
+
+const SHOWN: usize = 40;
+
+/// An answer as far as it is written. A growth that is refused is told at the end, so that nobody who writes has to.
+#[derive(Drop)]
+pub struct Line {
+    text: String,
+    is_cut: bool,
 }
 
-impl From<NoMemory> for Fault {
-    fn from(_: NoMemory) -> Fault {
-        Fault::NoMemory
+impl Line {
+    pub fn new(alloc: Global) -> Line {
+        Line {
+            text: String::new(alloc),
+            is_cut: false,
+        }
     }
-}
 
-impl From<AllocError> for Fault {
-    fn from(_: AllocError) -> Fault {
-        Fault::NoMemory
+    /// The whole text; none where a growth was refused.
+    pub fn whole(&self) -> Option<&str> {
+        if self.is_cut {
+            None
+        } else {
+            Some(self.text.as_str())
+        }
     }
-}
 
-impl<T: Drop> From<AllocFailed<T>> for Fault {
-    fn from(_: AllocFailed<T>) -> Fault {
-        Fault::NoMemory
+    fn note(&mut self, pushed: Result<(), AllocError>) {
+        if pushed.is_err() {
+            self.is_cut = true;
+        }
+    }
+
+    pub fn push(&mut self, text: &str) {
+        let pushed = self.text.push_str(text);
+        self.note(pushed);
+    }
+
+    pub fn display<D: Display>(&mut self, value: &D) {
+        let pushed = write!(self.text, "{value}");
+        self.note(pushed);
+    }
+
+    pub fn debug<D: Debug>(&mut self, value: &D) {
+        let pushed = write!(self.text, "{value:?}");
+        self.note(pushed);
+    }
+
+    /// Pushes a space where something stands before it.
+    pub fn space(&mut self) {
+        if !self.text.is_empty() {
+            self.push(" ");
+        }
+    }
+
+    /// Pushes a word, behind a space where something stands before it.
+    pub fn word(&mut self, word: &str) {
+        self.space();
+        self.push(word);
+    }
+
+    /// Pushes a text as answers show it.
+    pub fn show(&mut self, bytes: &[u8]) {
+        let text = str::from_utf8(bytes).unwrap_or("?");
+        if text.len() <= LONG {
+            self.characters(text, LONG);
+        } else {
+            self.characters(text, SHOWN);
+            self.push(".. of ");
+            self.display(&text.len());
+            self.push(" bytes");
+        }
+    }
+
+    fn characters(&mut self, text: &str, count: usize) {
+        for character in text.chars().take(count) {
+            let pushed = match character {
+                '\n' => self.text.push_str("\\n"),
+                '\t' => self.text.push_str("\\t"),
+                '\r' => self.text.push_str("\\r"),
+                _ => self.text.push(character),
+            };
+            self.note(pushed);
+        }
     }
 }
 
 /// A row with its repeated parts and its bytes written out.
-pub fn written_out(alloc: Global, row: &str) -> Result<Vec<u8>, Fault> {
+pub fn written_out(alloc: Global, row: &str) -> Option<Vec<u8>> {
     let repeated = repeated(alloc, row)?;
     let mut bytes = Vec::new(alloc);
     for (number, part) in repeated.split('\\').enumerate() {
@@ -46,103 +105,57 @@ pub fn written_out(alloc: Global, row: &str) -> Result<Vec<u8>, Fault> {
         } else {
             push_escape(&mut bytes, part)?
         };
-        bytes.extend_from_slice(rest.as_bytes())?;
+        bytes.extend_from_slice(rest.as_bytes()).ok()?;
     }
-    Ok(bytes)
+    Some(bytes)
 }
 
 // Pushes the byte whose name begins the part; gives what stands behind it.
-fn push_escape<'a>(bytes: &mut Vec<u8>, part: &'a str) -> Result<&'a str, Fault> {
+fn push_escape<'a>(bytes: &mut Vec<u8>, part: &'a str) -> Option<&'a str> {
     let (byte, len) = match part.as_bytes() {
         [b'n', ..] => (b'\n', 1),
         [b't', ..] => (b'\t', 1),
         [b'r', ..] => (b'\r', 1),
-        [b'x', ..] => (hexadecimal(part)?, 3),
-        _ => return Err(Fault::Unreadable),
+        [b'x', ..] => (u8::from_str_radix(part.get(1..3)?, 16).ok()?, 3),
+        _ => return None,
     };
-    bytes.push(byte)?;
-    part.get(len..).ok_or(Fault::Unreadable)
+    bytes.push(byte).ok()?;
+    part.get(len..)
 }
 
-// The two digits behind the part's first byte.
-fn hexadecimal(part: &str) -> Result<u8, Fault> {
-    let digits = part.get(1..3).ok_or(Fault::Unreadable)?;
-    u8::from_str_radix(digits, 16).map_err(|_| Fault::Unreadable)
-}
-
-fn repeated(alloc: Global, row: &str) -> Result<String, Fault> {
+fn repeated(alloc: Global, row: &str) -> Option<String> {
     let mut text = String::new(alloc);
     for (number, part) in row.split("[[").enumerate() {
         if number == 0 {
-            text.push_str(part)?;
+            text.push_str(part).ok()?;
         } else {
             push_repeated(&mut text, part)?;
         }
     }
-    Ok(text)
+    Some(text)
 }
 
 // Pushes what is repeated at the part's beginning, and what stands behind it.
-fn push_repeated(text: &mut String, part: &str) -> Result<(), Fault> {
-    let (inner, rest) = part.split_once("]]").ok_or(Fault::Unreadable)?;
-    let (count, unit) = inner.split_once('*').ok_or(Fault::Unreadable)?;
+fn push_repeated(text: &mut String, part: &str) -> Option<()> {
+    let (inner, rest) = part.split_once("]]")?;
+    let (count, unit) = inner.split_once('*')?;
     let count: usize = number(count.as_bytes())?;
     for _ in 0..count {
-        text.push_str(unit)?;
+        text.push_str(unit).ok()?;
     }
-    Ok(text.push_str(rest)?)
+    text.push_str(rest).ok()
 }
 
 /// The words of a row up to the first space, and those behind it.
-pub fn pair(row: &[u8]) -> Result<(&[u8], &[u8]), Fault> {
-    around(b' ', row).ok_or(Fault::Unreadable)
-}
-
-/// A row as text.
-pub fn text(row: &[u8]) -> Result<&str, Fault> {
-    str::from_utf8(row).map_err(|_| Fault::Unreadable)
+pub fn pair(row: &[u8]) -> (&[u8], &[u8]) {
+    around(b' ', row).unwrap_or((row, b""))
 }
 
 /// The number that a word is.
-pub fn number<N: FromStr>(word: &[u8]) -> Result<N, Fault>
+pub fn number<N: FromStr>(word: &[u8]) -> Option<N>
 where
     N: Drop,
     N::Err: Drop,
 {
-    text(word)?.parse::<N>().map_err(|_| Fault::Unreadable)
-}
-
-// A longer text is cut off in an answer, behind so many of its characters.
-const LONG: usize = 1000;
-
-const SHOWN: usize = 40;
-
-/// Pushes a text as answers show it.
-pub fn push_text(out: &mut String, bytes: &[u8]) -> Result<(), Fault> {
-    let text = str::from_utf8(bytes).unwrap_or("?");
-    let is_long = text.len() > LONG;
-    let shown = if is_long { SHOWN } else { LONG };
-    for character in text.chars().take(shown) {
-        match character {
-            '\n' => out.push_str("\\n")?,
-            '\t' => out.push_str("\\t")?,
-            '\r' => out.push_str("\\r")?,
-            _ => out.push(character)?,
-        }
-    }
-    if is_long {
-        write!(out, ".. of {} bytes", text.len())?;
-    }
-    Ok(())
-}
-
-/// Pushes a space where something stands before it.
-pub fn push_space(out: &mut String) -> Result<(), Fault> {
-    Ok(out.push_str(if out.is_empty() { "" } else { " " })?)
-}
-
-/// Pushes a word, behind a space where something stands before it.
-pub fn push_word(out: &mut String, word: &str) -> Result<(), Fault> {
-    push_space(out)?;
-    Ok(out.push_str(word)?)
+    str::from_utf8(word).ok()?.parse::<N>().ok()
 }

@@ -2,12 +2,12 @@
 ghost use Rattle.std.specs.Prelude.{◌≡◌};
 ghost use Rattle.std.specs.Arc.{arc_value};
 
-use crate::row::{Fault, number, pair, push_space, push_text, text};
+use crate::row::{Line, number, pair};
 use crate::values::url;
-use edge_types::{Answer, Octets, PageUrl, SharedBytes, around};
+use edge_types::{Answer, Octets, PageUrl, SharedBytes};
 use fragment_cache::{Begun, Flight, MAX_CAPACITY, Picked, Shard};
 use std::alloc::Global;
-use std::fmt::Write;
+use std::str;
 use std::sync::Arc;
 use surrogate_headers::{control, own_device};
 
@@ -23,35 +23,36 @@ use surrogate_headers::{control, own_device};
 /// A flight is named by how many left before it, and an answer by its body. What an origin told is `failed`, or the
 /// status, the body and the value of the field `Surrogate-Control`. The path `#` is the number of the next flight. What a
 /// call with `-` before it answers is left out.
-pub fn play(alloc: Global, row: &[u8], out: &mut String) -> Result<(), Fault> {
-    let (capacity, calls) = pair(row)?;
-    let calls = text(calls)?;
+pub fn play(alloc: Global, row: &[u8], line: &mut Line) -> Option<()> {
+    let (capacity, calls) = pair(row);
+    let calls = str::from_utf8(calls).ok()?;
     let mut desk = new_desk(alloc, number(capacity)?)?;
     for call in calls.split("; ") {
-        play_call(alloc, &mut desk, call, out)?;
+        play_call(alloc, &mut desk, call, line)?;
     }
-    Ok(())
+    Some(())
 }
 
-fn new_desk(alloc: Global, capacity: usize) -> Result<Desk, Fault> {
+fn new_desk(alloc: Global, capacity: usize) -> Option<Desk> {
     if capacity < 1 || MAX_CAPACITY < capacity {
-        return Err(Fault::Unreadable);
+        return None;
     }
-    Ok(Desk {
-        shard: Shard::new(alloc, capacity)?,
+    Some(Desk {
+        shard: Shard::new(alloc, capacity).ok()?,
         held: Vec::new(alloc),
         led: 0,
     })
 }
 
 // The desk is lent: whoever holds one pays in its proof for each way out.
-fn play_call(alloc: Global, desk: &mut Desk, call: &str, out: &mut String) -> Result<(), Fault> {
+fn play_call(alloc: Global, desk: &mut Desk, call: &str, line: &mut Line) -> Option<()> {
     if let Some(call) = call.strip_prefix('-') {
-        return desk.call(alloc, call.as_bytes(), &mut String::new(alloc));
+        return desk.call(alloc, call.as_bytes(), &mut Line::new(alloc));
     }
-    push_space(out)?;
-    desk.call(alloc, call.as_bytes(), out)?;
-    Ok(out.push(';')?)
+    line.space();
+    desk.call(alloc, call.as_bytes(), line)?;
+    line.push(";");
+    Some(())
 }
 
 // A flight that a leader holds, by its number, with its ready made failed answer. It lands in a shard of its own where
@@ -102,118 +103,114 @@ struct Desk {
 }
 
 impl Desk {
-    fn call(&mut self, alloc: Global, call: &[u8], out: &mut String) -> Result<(), Fault> {
-        let (name, words) = pair(call)?;
-        let (first, rest) = around(b' ', words).unwrap_or((words, b""));
+    fn call(&mut self, alloc: Global, call: &[u8], line: &mut Line) -> Option<()> {
+        let (name, words) = pair(call);
+        let (first, rest) = pair(words);
         match name {
             b"begin" => {
                 let url = self.url(alloc, first)?;
-                self.begin(alloc, &url, number(rest)?, out)
+                self.begin(alloc, &url, number(rest)?, line)
             }
             b"look" => {
                 let url = self.url(alloc, first)?;
-                self.look(&url, number(rest)?, out)
+                self.look(&url, number(rest)?, line)
             }
-            b"land" => self.land(alloc, number(first)?, rest, out),
-            b"pick" => self.pick(number(first)?, out),
-            _ => Err(Fault::Unreadable),
+            b"land" => self.land(alloc, number(first)?, rest, line),
+            b"pick" => self.pick(number(first)?, line),
+            _ => None,
         }
     }
 
-    fn url(&self, alloc: Global, path: &[u8]) -> Result<PageUrl, Fault> {
-        let mut whole = String::from_str(alloc, "http://a.test/")?;
-        if path == b"#".as_slice() {
-            write!(whole, "{}", self.led)?;
+    fn url(&self, alloc: Global, path: &[u8]) -> Option<PageUrl> {
+        let path = str::from_utf8(path).ok()?;
+        let text = if path == "#" {
+            format!(in alloc; "http://a.test/{}", self.led)
         } else {
-            whole.push_str(text(path)?)?;
-        }
-        url(alloc, whole.as_bytes())
+            format!(in alloc; "http://a.test/{path}")
+        };
+        url(alloc, text.ok()?.as_bytes())
     }
 
-    fn begin(
-        &mut self,
-        alloc: Global,
-        url: &PageUrl,
-        now: u64,
-        out: &mut String,
-    ) -> Result<(), Fault> {
-        let spare = Shard::new(alloc, 1)?;
+    fn begin(&mut self, alloc: Global, url: &PageUrl, now: u64, line: &mut Line) -> Option<()> {
+        let spare = Shard::new(alloc, 1).ok()?;
         match self.shard.begin(url, now) {
-            Begun::Hit(answer) => push_body(out, "hit ", &answer),
-            Begun::Join(number) => Ok(write!(out, "join {number}")?),
+            Begun::Hit(answer) => push_body(line, "hit ", &answer),
+            Begun::Join(number) => push_number(line, "join ", number),
             Begun::Lead(flight, ready) => {
                 let number = self.led;
-                self.held.push(Held {
+                push_number(line, "lead ", number);
+                self.led = number.wrapping_add(1);
+                let held = Held {
                     number,
                     flight,
                     ready,
                     spare,
-                })?;
-                self.led = number.wrapping_add(1);
-                Ok(write!(out, "lead {number}")?)
+                };
+                self.held.push(held).ok()?;
             }
-            Begun::Bypass => Ok(out.push_str("bypass")?),
+            Begun::Bypass => line.push("bypass"),
         }
+        Some(())
     }
 
-    fn look(&mut self, url: &PageUrl, now: u64, out: &mut String) -> Result<(), Fault> {
-        match self.shard.look(url, now)? {
-            Some(answer) => push_body(out, "hit ", &answer),
-            None => Ok(out.push_str("nothing")?),
+    fn look(&mut self, url: &PageUrl, now: u64, line: &mut Line) -> Option<()> {
+        match self.shard.look(url, now).ok()? {
+            Some(answer) => push_body(line, "hit ", &answer),
+            None => line.push("nothing"),
         }
+        Some(())
     }
 
-    fn land(
-        &mut self,
-        alloc: Global,
-        flight: u64,
-        words: &[u8],
-        out: &mut String,
-    ) -> Result<(), Fault> {
-        let (now, told) = pair(words)?;
-        let now = number(now)?;
-        let Some(at) = self.held.iter().position(|held| held.number == flight) else {
-            return Err(Fault::Unreadable);
-        };
+    fn land(&mut self, alloc: Global, number: u64, words: &[u8], line: &mut Line) -> Option<()> {
+        let (now, told) = pair(words);
+        let now = crate::row::number(now)?;
+        let at = self.held.iter().position(|held| held.number == number)?;
         let told = told_answer(alloc, self.held[at].flight.url(), told)?;
         let held = self.held.swap_remove(at);
-        push_body(out, "gives ", &held.land(&mut self.shard, told, now))
+        push_body(line, "gives ", &held.land(&mut self.shard, told, now));
+        Some(())
     }
 
-    fn pick(&mut self, flight: u64, out: &mut String) -> Result<(), Fault> {
-        match self.shard.pick(flight) {
-            Picked::Here(answer) => push_body(out, "here ", &answer),
-            Picked::Flying => Ok(out.push_str("flying")?),
-            Picked::Unknown => Ok(out.push_str("unknown")?),
+    fn pick(&mut self, number: u64, line: &mut Line) -> Option<()> {
+        match self.shard.pick(number) {
+            Picked::Here(answer) => push_body(line, "here ", &answer),
+            Picked::Flying => line.push("flying"),
+            Picked::Unknown => line.push("unknown"),
         }
+        Some(())
     }
 }
 
-// The answer of a URL that was told; none where the origin failed.
-fn told_answer(alloc: Global, url: &PageUrl, told: &[u8]) -> Result<Option<Arc<Answer>>, Fault> {
+// What was told of a URL: an answer, or none where the origin failed.
+fn told_answer(alloc: Global, url: &PageUrl, told: &[u8]) -> Option<Option<Arc<Answer>>> {
     if told == b"failed".as_slice() {
-        return Ok(None);
+        return Some(None);
     }
-    let (status, rest) = pair(told)?;
-    let (body, asked) = pair(rest)?;
+    let (status, rest) = pair(told);
+    let status = number(status)?;
+    let (body, asked) = pair(rest);
+    let control = control(asked, own_device());
+    let body = SharedBytes::copy_of(alloc, body).ok()?;
     let answer = Answer::got(
-        url.share()?,
-        number(status)?,
+        url.share().ok()?,
+        status,
         Octets::empty(alloc),
-        control(asked, own_device()),
-        SharedBytes::copy_of(alloc, body)?,
-    );
-    Ok(Some(Arc::new(alloc, answer.ok_or(Fault::Unreadable)?)?))
+        control,
+        body,
+    )?;
+    Some(Some(Arc::new(alloc, answer).ok()?))
 }
 
-fn push_body(out: &mut String, word: &str, answer: &Answer) -> Result<(), Fault> {
-    out.push_str(word)?;
-    push_text(
-        out,
-        if answer.body().is_empty() {
-            b"failed"
-        } else {
-            answer.body()
-        },
-    )
+fn push_number(line: &mut Line, word: &str, number: u64) {
+    line.push(word);
+    line.display(&number);
+}
+
+fn push_body(line: &mut Line, word: &str, answer: &Answer) {
+    line.push(word);
+    line.show(if answer.body().is_empty() {
+        b"failed"
+    } else {
+        answer.body()
+    });
 }

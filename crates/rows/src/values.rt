@@ -1,177 +1,159 @@
-//! URLs, answers, tables and faults.
+//! URLs, answers, tables and bodies.
 
-use crate::row::{Fault, number, pair, push_space, push_text, push_word, text};
+use crate::row::{Line, number, pair};
 use edge_types::{
     Answer, Control, Octets, PageBody, PageFault, PageUrl, Reply, SharedBytes, Table, around, is_ws,
 };
 use std::alloc::Global;
-use std::fmt::Write;
+use std::str;
 use std::sync::Arc;
 
 /// The URL of a text, which has one.
-pub fn url(alloc: Global, text: &[u8]) -> Result<PageUrl, Fault> {
-    PageUrl::parse(alloc, text)?.ok_or(Fault::Unreadable)
+pub fn url(alloc: Global, text: &[u8]) -> Option<PageUrl> {
+    PageUrl::parse(alloc, text).ok()?
 }
 
-pub fn push_url(out: &mut String, found: &Option<PageUrl>) -> Result<(), Fault> {
+pub fn push_url(line: &mut Line, found: &Option<PageUrl>) {
     match found {
-        Some(url) => push_text(out, url.as_bytes()),
-        None => push_word(out, "no URL"),
+        Some(url) => line.show(url.as_bytes()),
+        None => line.push("no URL"),
     }
 }
 
-pub fn parse(alloc: Global, row: &[u8], out: &mut String) -> Result<(), Fault> {
-    push_url(out, &PageUrl::parse(alloc, row)?)
+pub fn parse(alloc: Global, row: &[u8], line: &mut Line) -> Option<()> {
+    push_url(line, &PageUrl::parse(alloc, row).ok()?);
+    Some(())
 }
 
 /// A row is the base, and behind a space the text.
-pub fn resolve(alloc: Global, row: &[u8], out: &mut String) -> Result<(), Fault> {
-    let (base, text) = pair(row)?;
-    push_url(out, &url(alloc, base)?.resolve(alloc, text)?)
+pub fn resolve(alloc: Global, row: &[u8], line: &mut Line) -> Option<()> {
+    let (base, text) = pair(row);
+    push_url(line, &url(alloc, base)?.resolve(alloc, text).ok()?);
+    Some(())
 }
 
-pub fn authority(alloc: Global, row: &[u8], out: &mut String) -> Result<(), Fault> {
-    push_text(out, url(alloc, row)?.authority())
+pub fn authority(alloc: Global, row: &[u8], line: &mut Line) -> Option<()> {
+    line.show(url(alloc, row)?.authority());
+    Some(())
 }
 
 /// A row is two URLs.
-pub fn compare(alloc: Global, row: &[u8], out: &mut String) -> Result<(), Fault> {
-    let (left, right) = pair(row)?;
-    let order = url(alloc, left)?.cmp(&url(alloc, right)?);
-    Ok(write!(out, "{order:?}")?)
+pub fn compare(alloc: Global, row: &[u8], line: &mut Line) -> Option<()> {
+    let (left, right) = pair(row);
+    line.debug(&url(alloc, left)?.cmp(&url(alloc, right)?));
+    Some(())
 }
 
 /// A row is two bytes as numbers; those from the one to the other that are white space are told.
-pub fn white_space(row: &[u8], out: &mut String) -> Result<(), Fault> {
-    let (first, last) = pair(row)?;
+pub fn white_space(row: &[u8], line: &mut Line) -> Option<()> {
+    let (first, last) = pair(row);
     for byte in number::<u8>(first)?..=number(last)? {
         if is_ws(byte) {
-            push_text(out, &[byte])?;
+            line.show(&[byte]);
         }
     }
-    Ok(())
+    Some(())
 }
 
 /// The halves of a row round its first `=`, with a bar between.
-pub fn halves(row: &[u8], out: &mut String) -> Result<(), Fault> {
-    let Some((before, after)) = around(b'=', row) else {
-        return push_word(out, "no halves");
-    };
-    push_text(out, before)?;
-    out.push('|')?;
-    push_text(out, after)
+pub fn halves(row: &[u8], line: &mut Line) -> Option<()> {
+    match around(b'=', row) {
+        Some((before, after)) => {
+            line.show(before);
+            line.push("|");
+            line.show(after);
+        }
+        None => line.push("no halves"),
+    }
+    Some(())
 }
 
 /// A row is the URL, the status, `esi` or `plain`, and the type and, behind a bar, the body.
-pub fn got(alloc: Global, row: &[u8], out: &mut String) -> Result<(), Fault> {
-    let (at, row) = pair(row)?;
-    let (status, row) = pair(row)?;
-    let (word, row) = pair(row)?;
-    let (content_type, body) = around(b'|', row).ok_or(Fault::Unreadable)?;
-    let answer = Answer::got(
-        url(alloc, at)?,
-        number(status)?,
-        Octets::copy_of(alloc, content_type)?,
-        Control {
-            esi: word == b"esi".as_slice(),
-            ..Control::default()
-        },
-        SharedBytes::copy_of(alloc, body)?,
-    );
-    match &answer {
-        Some(answer) => push_answer(out, answer),
-        None => push_word(out, "no answer"),
+pub fn got(alloc: Global, row: &[u8], line: &mut Line) -> Option<()> {
+    let (at, row) = pair(row);
+    let (status, row) = pair(row);
+    let (word, row) = pair(row);
+    let (content_type, body) = around(b'|', row)?;
+    let control = Control {
+        esi: word == b"esi".as_slice(),
+        ..Control::default()
+    };
+    let status = number(status)?;
+    let url = url(alloc, at)?;
+    let content_type = Octets::copy_of(alloc, content_type).ok()?;
+    let body = SharedBytes::copy_of(alloc, body).ok()?;
+    match &Answer::got(url, status, content_type, control, body) {
+        Some(answer) => push_answer(line, answer),
+        None => line.push("no answer"),
     }
+    Some(())
 }
 
 /// A row is a URL.
-pub fn failed(alloc: Global, row: &[u8], out: &mut String) -> Result<(), Fault> {
-    push_answer(out, &Answer::failed(url(alloc, row)?))
+pub fn failed(alloc: Global, row: &[u8], line: &mut Line) -> Option<()> {
+    push_answer(line, &Answer::failed(url(alloc, row)?));
+    Some(())
 }
 
-fn push_answer(out: &mut String, answer: &Answer) -> Result<(), Fault> {
+fn push_answer(line: &mut Line, answer: &Answer) {
     if answer.succeeded() {
-        push_word(out, "succeeded")?;
+        line.push("succeeded ");
     }
     if answer.processed() {
-        push_word(out, "processed")?;
+        line.push("processed ");
     }
     if matches!(answer.reply(), Reply::Failed) {
-        push_word(out, "failed")?;
+        line.push("failed ");
     }
-    push_space(out)?;
-    push_text(out, answer.url().as_bytes())?;
-    out.push('|')?;
-    push_text(out, answer.body())
+    line.show(answer.url().as_bytes());
+    line.push("|");
+    line.show(answer.body());
 }
 
 /// A row is calls of a new table, with `; ` between: `insert` and `get`, each with a URL, which is the body of an
 /// answer too.
-pub fn table(alloc: Global, row: &[u8], out: &mut String) -> Result<(), Fault> {
-    let calls = text(row)?;
+pub fn table(alloc: Global, row: &[u8], line: &mut Line) -> Option<()> {
+    let calls = str::from_utf8(row).ok()?;
     let mut table = Table::new(alloc);
     for call in calls.split("; ") {
-        call_table(alloc, &mut table, call.as_bytes(), out)?;
+        call_table(alloc, &mut table, call.as_bytes(), line)?;
     }
-    Ok(())
+    Some(())
 }
 
-fn call_table(
-    alloc: Global,
-    table: &mut Table,
-    call: &[u8],
-    out: &mut String,
-) -> Result<(), Fault> {
-    let (name, at) = pair(call)?;
-    let asked = url(alloc, at)?;
-    push_space(out)?;
+fn call_table(alloc: Global, table: &mut Table, call: &[u8], line: &mut Line) -> Option<()> {
+    let (name, at) = pair(call);
+    let url = url(alloc, at)?;
+    line.space();
     match name {
-        b"insert" => insert(alloc, table, asked, out)?,
-        b"get" => {
-            let found = table.get(&asked);
-            push_text(out, found.map_or(b"none".as_slice(), |it| it.body()))?
-        }
-        _ => return Err(Fault::Unreadable),
+        b"insert" => insert(alloc, table, url, line)?,
+        b"get" => line.show(table.get(&url).map_or(b"none".as_slice(), |it| it.body())),
+        _ => return None,
     }
-    Ok(out.push(';')?)
+    line.push(";");
+    Some(())
 }
 
-fn insert(alloc: Global, table: &mut Table, url: PageUrl, out: &mut String) -> Result<(), Fault> {
-    let body = SharedBytes::copy_of(alloc, url.as_bytes())?;
-    let given = Answer::got(url, 200, Octets::empty(alloc), Control::default(), body);
-    let given = Arc::new(alloc, given.ok_or(Fault::Unreadable)?)?;
-    match table.insert(given) {
-        Ok(()) => Ok(out.push_str("taken")?),
+fn insert(alloc: Global, table: &mut Table, url: PageUrl, line: &mut Line) -> Option<()> {
+    let body = SharedBytes::copy_of(alloc, url.as_bytes()).ok()?;
+    let given = Answer::got(url, 200, Octets::empty(alloc), Control::default(), body)?;
+    match table.insert(Arc::new(alloc, given).ok()?) {
+        Ok(()) => line.push("taken"),
         Err((fault, back)) => {
-            write!(out, "{fault:?}, back is ")?;
-            push_text(out, back.url().as_bytes())
+            line.debug(&fault);
+            line.push(", back is ");
+            line.show(back.url().as_bytes());
         }
     }
-}
-
-/// The fault of a name.
-pub fn fault_of(row: &[u8]) -> Result<PageFault, Fault> {
-    match row {
-        b"PageFetch" => Ok(PageFault::PageFetch),
-        b"BadTemplate" => Ok(PageFault::BadTemplate(13)),
-        b"IncludeFailed" => Ok(PageFault::IncludeFailed),
-        b"TooManyLegs" => Ok(PageFault::TooManyLegs),
-        _ => Err(Fault::Unreadable),
-    }
-}
-
-/// A row is the name of a fault.
-pub fn fault(row: &[u8], out: &mut String) -> Result<(), Fault> {
-    let fault = fault_of(row)?;
-    Ok(write!(out, "{} {}", fault.number(), fault.name())?)
+    Some(())
 }
 
 /// A row is a text, and calls of a new body with a bar before each: `FROM TO` puts this part of the text in, `mark` marks
 /// a place, and `cut` goes back to it.
-pub fn body(alloc: Global, row: &[u8], out: &mut String) -> Result<(), Fault> {
-    let (whole, calls) = around(b'|', row).ok_or(Fault::Unreadable)?;
-    let calls = text(calls)?;
-    let whole = SharedBytes::copy_of(alloc, whole)?;
+pub fn body(alloc: Global, row: &[u8], line: &mut Line) -> Option<()> {
+    let (whole, calls) = around(b'|', row)?;
+    let calls = str::from_utf8(calls).ok()?;
+    let whole = SharedBytes::copy_of(alloc, whole).ok()?;
     let mut body = PageBody::new(alloc);
     let mut mark = 0;
     for call in calls.split('|') {
@@ -181,24 +163,43 @@ pub fn body(alloc: Global, row: &[u8], out: &mut String) -> Result<(), Fault> {
             _ => push_part(&mut body, &whole, call.as_bytes())?,
         }
     }
-    push_pieces(out, &body)
+    push_pieces(line, &body);
+    Some(())
 }
 
-fn push_part(body: &mut PageBody, whole: &SharedBytes, call: &[u8]) -> Result<(), Fault> {
-    let (from, to) = pair(call)?;
+fn push_part(body: &mut PageBody, whole: &SharedBytes, call: &[u8]) -> Option<()> {
+    let (from, to) = pair(call);
     let from: usize = number(from)?;
     let to: usize = number(to)?;
     if to < from || whole.len() < to {
-        return Err(Fault::Unreadable);
+        return None;
     }
-    Ok(body.push(whole.part(from, to)?)?)
+    body.push(whole.part(from, to).ok()?).ok()
 }
 
 /// Pushes the pieces of a body, with a bar behind each.
-pub fn push_pieces(out: &mut String, body: &PageBody) -> Result<(), Fault> {
+pub fn push_pieces(line: &mut Line, body: &PageBody) {
     for number in 0..body.mark() {
-        push_text(out, body.piece(number).unwrap_or(b""))?;
-        out.push('|')?;
+        line.show(body.piece(number).unwrap_or(b""));
+        line.push("|");
     }
-    Ok(())
+}
+
+/// The fault of a name.
+pub fn fault_of(row: &[u8]) -> Option<PageFault> {
+    match row {
+        b"PageFetch" => Some(PageFault::PageFetch),
+        b"BadTemplate" => Some(PageFault::BadTemplate(13)),
+        b"IncludeFailed" => Some(PageFault::IncludeFailed),
+        b"TooManyLegs" => Some(PageFault::TooManyLegs),
+        _ => None,
+    }
+}
+
+/// A row is the name of a fault.
+pub fn page_fault(row: &[u8], line: &mut Line) -> Option<()> {
+    let fault = fault_of(row)?;
+    line.display(&fault.number());
+    line.word(fault.name());
+    Some(())
 }
