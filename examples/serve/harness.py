@@ -11,7 +11,9 @@ HERE = os.path.dirname(os.path.realpath(__file__))
 sys.path.insert(0, os.path.join(HERE, "..", "site"))
 import origin as site_origin  # noqa: E402
 
-PROGRAM = os.path.join(HERE, "..", "..", "esi_edge")
+BUILDS = os.path.join(HERE, "..", "..", "esi_edge")
+# What that builds. The script looks for newer sources at each start, which takes longer than the start.
+PROGRAM = os.path.join(HERE, "..", "..", "crates", "edge_main", "out", "edge_main")
 # So long may a client of these tests wait for anything: it only bounds a run that has failed.
 PATIENCE = 20
 TEMPLATE = 'content="ESI/1.0"'
@@ -79,20 +81,32 @@ class Wires:
                 connection, _ = self.listener.accept()
             except OSError:
                 return
-            threading.Thread(target=self.answer, args=(connection,), daemon=True).start()
-
-    def answer(self, connection):
-        with connection:
-            connection.settimeout(PATIENCE)
             try:
-                head = b""
-                while b"\r\n\r\n" not in head:
-                    more = connection.recv(4096)
-                    if not more:
-                        return
-                    head += more
-                self.heads.append(head)
-                text = self.texts.get(head.split(b" ")[1].decode(), b"")
+                text = self.asked_of(connection)
+            except OSError:
+                connection.close()
+                continue
+            # What takes no time is sent at once: a thread for each connection takes longer.
+            if isinstance(text, bytes) and len(text) < 65536:
+                self.send(connection, text)
+            else:
+                threading.Thread(target=self.send, args=(connection, text), daemon=True).start()
+
+    def asked_of(self, connection):
+        """What is to be sent for what comes."""
+        connection.settimeout(PATIENCE)
+        head = b""
+        while b"\r\n\r\n" not in head:
+            more = connection.recv(4096)
+            if not more:
+                return b""
+            head += more
+        self.heads.append(head)
+        return self.texts.get(head.split(b" ")[1].decode(), b"")
+
+    def send(self, connection, text):
+        with connection:
+            try:
                 if callable(text):
                     text = text(connection) or b""
                 if isinstance(text, bytes):
@@ -109,8 +123,8 @@ class Edge:
     """An edge, with the options of `serve` behind `--listen`."""
 
     def __init__(self, *options):
-        words = [PROGRAM, "serve", "--listen", "127.0.0.1:0", *options]
-        self.process = subprocess.Popen(words, stdin=subprocess.DEVNULL, stdout=subprocess.PIPE, stderr=subprocess.PIPE)
+        words = ["esi_edge", "serve", "--listen", "127.0.0.1:0", *options]
+        self.process = subprocess.Popen(words, executable=PROGRAM, stdin=subprocess.DEVNULL, stdout=subprocess.PIPE, stderr=subprocess.PIPE)
         line = self.process.stdout.readline()
         found = re.fullmatch(rb"listening on 127\.0\.0\.1:([1-9][0-9]*)\n", line)
         if not found:

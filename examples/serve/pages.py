@@ -34,7 +34,8 @@ def of_case(origin, target, fields, options):
             text.append(b"control %s\n" % control.encode())
         text.append(b"body\n%s\n" % body)
     text.append(b"end\n")
-    return subprocess.run([PROGRAM, "case", *options], input=b"".join(text), stdout=subprocess.PIPE, check=True).stdout
+    words = ["esi_edge", "case", *options]
+    return subprocess.run(words, executable=PROGRAM, input=b"".join(text), stdout=subprocess.PIPE, check=True).stdout
 
 
 # A target, the fields of a request, and the same as lines of a case text.

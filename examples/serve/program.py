@@ -56,7 +56,7 @@ def usage_is_told():
         ["--client-timeout", "-"], ["--client-timeout", "86400001"], ["--threads", "0"], ["--threads", "65"], ["--log", "x"], ["--log=yes"],
     )]
     for words in rows:
-        ended = subprocess.run([PROGRAM, "serve", *words], stdin=subprocess.DEVNULL, capture_output=True, timeout=PATIENCE)
+        ended = subprocess.run(["esi_edge", "serve", *words], executable=PROGRAM, stdin=subprocess.DEVNULL, capture_output=True, timeout=PATIENCE)
         came = (ended.returncode, ended.stdout, ended.stderr != b"")
         same(" ".join(words), (2, b"", True), came)
 
@@ -73,8 +73,8 @@ def limits_are_taken():
 def a_used_port_is_told():
     """A port that somebody listens on: status 5, and the line for input and output."""
     with Origin() as origin:
-        words = [PROGRAM, "serve", "--listen", origin.at]
-        ended = subprocess.run(words, stdin=subprocess.DEVNULL, capture_output=True, timeout=PATIENCE)
+        words = ["esi_edge", "serve", "--listen", origin.at]
+        ended = subprocess.run(words, executable=PROGRAM, stdin=subprocess.DEVNULL, capture_output=True, timeout=PATIENCE)
         same("a used port", (5, b"", b"input or output failed\n"), (ended.returncode, ended.stdout, ended.stderr))
 
 
