@@ -134,6 +134,8 @@ class Kept:
             self.wrong += [f"{it} has a verdict, and is no edit" for it in sorted(set(self.verdicts.of_edits) - names)]
             self.wrong += [f"{it} has no verdict" for it in sorted(names - set(self.verdicts.of_edits))]
         self.stands = self.verdicts.rests_on == rests_on
+        kept = {it: self.verdicts.of_edits[it.name][1].partition(" ")[0] for it in self.edits if self.is_kept(it)}
+        self.wrong += [f"{edit.name} has a verdict at {path}, which need not notice" for edit, path in kept.items() if path not in edit.notices]
 
     @property
     def seconds(self):
@@ -148,11 +150,6 @@ class Kept:
     def to_judge(self, is_all):
         """The edits that are judged: all, or those whose verdict isn't kept."""
         return [it for it in self.edits if is_all or not self.is_kept(it)]
-
-    def differs(self, edit, where):
-        """Where an edit was refused by a verdict that is kept, if that isn't where it is refused now."""
-        written = self.verdicts.of_edits[edit.name][1] if self.is_kept(edit) else where
-        return written if written != where else None
 
     def write(self, judged, seconds):
         """Writes what was judged, by edit and where it was refused, if that is new. Of the others what is kept stays."""
