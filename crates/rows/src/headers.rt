@@ -28,6 +28,12 @@ pub fn control(row: &[u8], line: &mut Line) -> Option<()> {
     Some(())
 }
 
+/// Whether a row is a token of HTTP.
+pub fn token(row: &[u8], line: &mut Line) -> Option<()> {
+    line.push(if is_token(row) { "a token" } else { "no token" });
+    Some(())
+}
+
 /// A row is the name of a device, or `own` for this edge, whose field is told whole.
 pub fn capability(alloc: Global, row: &[u8], line: &mut Line) -> Option<()> {
     if row == b"own".as_slice() {

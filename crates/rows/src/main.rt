@@ -1,4 +1,4 @@
-//! Tables of worked examples. Each argument names a table, a file of rows; the program prints each row and, behind
+//! Tables of worked examples. Each argument names a table, a file of rows; the program prints each row and, after
 //! ` => `, what the call of the table's name answers.
 //!
 //! In a row `[[3*ab]]` is `ababab`, and then `\n`, `\t`, `\r` and `\xNN` are bytes. In an answer a line feed, a
@@ -18,10 +18,8 @@ mod shards;
 mod trees;
 mod values;
 
-use edge_types::query_of;
 use row::{Line, written_out};
 use std::{env, fs, io};
-use surrogate_headers::is_token;
 
 fn main(rt: HostRuntime) -> io::Result<()> {
     for table in env::args(&rt)?.skip(1) {
@@ -57,7 +55,7 @@ fn answer(rt: &HostRuntime, table: &str, row: &[u8], line: &mut Line) -> Option<
         "resolve" => values::resolve(alloc, row, line),
         "authority" => values::authority(alloc, row, line),
         "compare" => values::compare(alloc, row, line),
-        "query_of" => shown(line, query_of(row)),
+        "query_of" => values::query(row, line),
         "is_ws" => values::white_space(row, line),
         "around" => values::halves(row, line),
         "got" => values::got(alloc, row, line),
@@ -66,22 +64,10 @@ fn answer(rt: &HostRuntime, table: &str, row: &[u8], line: &mut Line) -> Option<
         "body" => values::body(alloc, row, line),
         "page_fault" => values::page_fault(row, line),
         "control" => headers::control(row, line),
-        "is_token" => shown(
-            line,
-            if is_token(row) {
-                b"a token"
-            } else {
-                b"no token"
-            },
-        ),
+        "is_token" => headers::token(row, line),
         "capability" => headers::capability(alloc, row, line),
         _ => answer_of_language(rt, table, row, line),
     }
-}
-
-fn shown(line: &mut Line, text: &[u8]) -> Option<()> {
-    line.show(text);
-    Some(())
 }
 
 // The same for tables of texts of the language.

@@ -2,7 +2,8 @@
 
 use crate::row::{Line, number, pair};
 use edge_types::{
-    Answer, Control, Octets, PageBody, PageFault, PageUrl, Reply, SharedBytes, Table, around, is_ws,
+    Answer, Control, Octets, PageBody, PageFault, PageUrl, Reply, SharedBytes, Table, around,
+    is_ws, query_of,
 };
 use std::alloc::Global;
 use std::str;
@@ -41,6 +42,12 @@ pub fn authority(alloc: Global, row: &[u8], line: &mut Line) -> Option<()> {
 pub fn compare(alloc: Global, row: &[u8], line: &mut Line) -> Option<()> {
     let (left, right) = pair(row);
     line.debug(&url(alloc, left)?.cmp(&url(alloc, right)?));
+    Some(())
+}
+
+/// The query of a URL.
+pub fn query(row: &[u8], line: &mut Line) -> Option<()> {
+    line.show(query_of(row));
     Some(())
 }
 
