@@ -1,4 +1,4 @@
-//! The tests of `plan_compiler`, `answer_board`, `plan_runner` and `edge_case`: of what no case shows.
+//! The tests of the libraries up to `edge_case`: of what neither a row of `rows` nor a case shows.
 #![tactic(auto)]
 
 #[cfg(test)]

@@ -1,6 +1,7 @@
 mod boards;
 mod broken;
 mod cases;
+mod owners;
 mod pages;
 mod plans;
 

@@ -1,3 +1,5 @@
+//! Owners of bytes and answers, and refused growths.
+
 use edge_types::{
     Answer, Control, NoMemory, Octets, PageBody, PageUrl, Request, SharedAnswer, SharedBytes,
 };
