@@ -8,7 +8,7 @@ import sys
 import threading
 
 HERE = os.path.dirname(os.path.realpath(__file__))
-sys.path.insert(0, os.path.join(HERE, "..", "site"))
+sys.path.insert(0, os.path.join(HERE, "..", "..", "examples", "site"))
 import origin as site_origin  # noqa: E402
 
 BUILDS = os.path.join(HERE, "..", "..", "esi_edge")
