@@ -25,9 +25,10 @@ pub struct Told {
 /// Why not all could be told.
 #[derive(Clone, Copy, Debug, Drop, PartialEq, Eq, Error)]
 pub enum ReportFault {
+    /// Also if a write, such as one to a buffer, runs out of memory.
     #[error("no memory")]
     NoMemory,
-    /// A write failed.
+    /// A write failed for another reason.
     #[error("output failed")]
     Write,
 }
@@ -39,8 +40,11 @@ impl From<NoMemory> for ReportFault {
 }
 
 impl From<io::Error> for ReportFault {
-    fn from(_: io::Error) -> ReportFault {
-        ReportFault::Write
+    fn from(error: io::Error) -> ReportFault {
+        match error.kind() {
+            io::ErrorKind::OutOfMemory => ReportFault::NoMemory,
+            _ => ReportFault::Write,
+        }
     }
 }
 
