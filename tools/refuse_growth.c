@@ -1,4 +1,4 @@
-// Preloaded into a program, refuses one growth: the one whose number, from 1, stands in REFUSED_GROWTH.
+// Preloaded into a program, refuses one growth: the one whose number, from 1, is in REFUSED_GROWTH.
 // A refusal writes one byte to descriptor 9, so that its caller knows that there was one.
 #define _GNU_SOURCE
 #include <dlfcn.h>

@@ -10,7 +10,7 @@ It can be told how a path is to answer from now on, and says how often a path wa
     /-/tell?path=/weather&as=failing    with status 500
     /-/tell?path=/weather&as=short      with half of its body, and then the connection is cut
     /-/tell?path=/weather&as=hanging    never
-    /-/tell?path=/weather&as=usual      as it stands in its file
+    /-/tell?path=/weather&as=usual      as its file has it
     /-/asked?path=/weather              the number of times
 """
 import http.server

@@ -1,4 +1,4 @@
-"""What clients are told, whole ones and slow ones."""
+"""What clients get, whole ones and slow ones."""
 import socket
 import threading
 import time
@@ -10,7 +10,7 @@ OTHER = wire("POST /p HTTP/1.1|host: a.test|content-length: 9||")
 
 
 def one_request_is_served_a_connection():
-    """A target that is a whole URL, HTTP/1.0, and requests one behind another, of which the first is served."""
+    """A target that is a whole URL, HTTP/1.0, and requests one after another, of which the first is served."""
     rows = (
         "GET /p HTTP/1.1|host: a.test||",
         "GET http://a.test/p HTTP/1.1|host: b.test||",
@@ -42,7 +42,7 @@ def own_answers_have_their_fields():
 
 
 def pages_of_faults():
-    """A page that is no template, and one whose fragment can't be had: 502; other statuses as they are."""
+    """A page that isn't a template, and one whose fragment can't be fetched: 502; other statuses as they are."""
     paths = {
         "/bad": (b"<esi:try>", "text/html", TEMPLATE),
         "/gap": (b"<esi:include src='/none'/>", "text/html", TEMPLATE),
@@ -66,12 +66,12 @@ def silent_clients_are_cut():
 
 def slow_clients_lose_their_connection():
     """A client that sends nothing, one that sends half a head and one that reads nothing of a long page hold
-    the one thread; behind them another is served."""
+    the one thread; after them another is served."""
     texts = {"/p": wire(PAGE + "<esi:include src='/x'/>" * 40), "/x": wire("HTTP/1.1 200 OK||") + b"1" * 250000}
     with Wires(texts) as origin, before(origin, "--client-timeout", "50", "--threads", "1", "--accept", "4") as edge:
         with client(edge) as silent, client(edge, b"GET /p HT") as half, client(edge, ASKED):
             same("the other", b"Only GET is served.\n", Response(exchange(edge, OTHER)).body)
-            same("what the slow ones are told", (b"", b""), (rest(silent), rest(half)))
+            same("what the slow ones get", (b"", b""), (rest(silent), rest(half)))
             same("exit status", 0, edge.ends())
 
 
@@ -90,7 +90,7 @@ def without_a_limit_a_client_takes_its_time():
         with client(edge, ASKED[:9]) as connection:
             time.sleep(0.1)
             connection.sendall(ASKED[9:])
-            same("what it is told", b"[12345678]", Response(rest(connection)).body)
+            same("what it gets", b"[12345678]", Response(rest(connection)).body)
 
 
 def a_request_has_to_come_in_time():

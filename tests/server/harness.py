@@ -51,7 +51,7 @@ class Origin:
 
 class Wires:
     """An origin in a thread of its own that sends for each target these very bytes, and hangs up; for
-    another none. Bytes that are to go on without end stand as one piece of them, in a list; a function
+    another none. Bytes that are to go on without end are one piece of them, in a list; a function
     says what to send when it is asked for, or sends it itself. It keeps what it was asked."""
 
     def __init__(self, texts):
@@ -120,7 +120,7 @@ class Wires:
 
 
 class Edge:
-    """An edge, with the options of `serve` behind `--listen`."""
+    """An edge, with the options of `serve` after `--listen`."""
 
     def __init__(self, *options):
         words = ["esi_edge", "serve", "--listen", "127.0.0.1:0", *options]
@@ -150,7 +150,7 @@ class Edge:
         return self.said
 
     def ends(self):
-        """Waits for its end by itself, and gives its exit status."""
+        """Waits until it ends, and gives its exit status."""
         return self.process.wait(PATIENCE)
 
 

@@ -5,7 +5,7 @@ from harness import PAGE, PLAIN, TRY, UNASSEMBLED, Edge, Origin, Wires, before, 
 
 
 def each_cut_of_a_fragment_fails_its_page():
-    """A fragment that is cut anywhere, in its head, behind it or in its body, can't be had."""
+    """A fragment that is cut anywhere, in its head, after it or in its body, can't be fetched."""
     whole = wire("HTTP/1.1 200 OK|content-length: 1||1")
     chunks = wire("HTTP/1.1 200 OK|transfer-encoding: chunked||1|1|0||")
     with Wires({"/p": wire(PAGE + "A<esi:include src='/x'/>B")}) as origin, before(origin) as edge:
@@ -19,7 +19,7 @@ MOST = 262144
 
 
 def no_more_is_read_than_a_body_may_have():
-    """A fragment of 262,144 bytes can be had, and one of a byte more can't, whether its length is told
+    """A fragment of 262,144 bytes can be fetched, and one of a byte more can't, whether its length is given
     or its connection ends; nor can one without an end, of which no more is read than that."""
     heads = ("HTTP/1.1 200 OK||", "HTTP/1.1 200 OK|content-length: %d||")
     page = PAGE + TRY[0].decode()
@@ -60,13 +60,13 @@ def an_origin_is_asked_for_the_url_alone():
         with Edge("--origin", "b.test=" + silent.at, "--origin", "a.test=" + origin.at, "--origin", "*=" + silent.at) as edge:
             for _ in range(2):
                 got = get(edge, "/x?q=1", fields="Cookie: a=1\r\nUser-Agent: x\r\n")
-                same("what the client is told", (200, "text/html", b"1"), (got.status, got.fields.get("content-type"), got.body))
+                same("what the client gets", (200, "text/html", b"1"), (got.status, got.fields.get("content-type"), got.body))
             wanted = wire('GET /x?q=1 HTTP/1.1|host: a.test|surrogate-capability: edge1="Surrogate/1.0 ESI/1.0"||')
             same("what the origin is asked, once", [wanted], origin.heads)
 
 
 def what_is_no_answer_is_a_failed_one():
-    """What an origin sends for a page, and what a client is told of it."""
+    """What an origin sends for a page, and what a client gets."""
     rows = (
         ("HTTP/1.1 404 Not Found|content-length: 4||gone", (404, b"gone")),
         ("HTTP/1.1 200 OK|content-length: 2||1", UNASSEMBLED),
@@ -85,7 +85,7 @@ def what_is_no_answer_is_a_failed_one():
 
 
 def a_fragment_cut_short_is_none():
-    """A fragment whose connection is cut behind half of it can't be had; whole again, it can."""
+    """A fragment whose connection is cut after half of it can't be fetched; whole again, it can."""
     with Origin(PLAIN) as origin, before(origin) as edge:
         for how, body in (("usual", b"[12345678]"), ("short", b"none"), ("failing", b"none"), ("usual", b"[12345678]")):
             origin.site.tell("/x", how)
@@ -105,7 +105,7 @@ def an_origin_goes_and_comes_back():
 
 
 def a_hanging_origin_is_given_up():
-    """With --timeout a fetch that isn't answered in time can't be had."""
+    """With --timeout a fetch that isn't answered in time can't be fetched."""
     with Origin(PLAIN) as origin, before(origin, "--timeout", "300") as edge:
         origin.site.tell("/x", "hanging")
         begun = time.monotonic()

@@ -67,7 +67,7 @@ def pages_are_those_of_case():
 
 
 def pages_are_what_origins_send():
-    """What an origin sends for a page and its fragments, to the end of each connection, and what a client is told."""
+    """What an origin sends for a page and its fragments, to the end of each connection, and what a client gets."""
     rows = (
         (PAGE + "A<esi:include src='/x'/>B", "HTTP/1.1 200 OK||1", "", (200, b"A1B")),
         (PAGE + "A<esi:include src='/x' alt='/y'/>B", "HTTP/1.1 404 Not Found||gone", "HTTP/1.1 200 OK||2", (200, b"A2B")),
@@ -82,7 +82,7 @@ def pages_are_what_origins_send():
 
 
 def wires_of(answers, kept=""):
-    """What an origin sends for the answers of a page's row, and how long they are kept; nothing for one that can't be had."""
+    """What an origin sends for the answers of a page's row, and how long they are kept; nothing for one that can't be fetched."""
     texts = {}
     for path, answer in answers:
         if answer is not None:
@@ -95,7 +95,7 @@ def wires_of(answers, kept=""):
 
 
 def row_is_served(edge, origin, head, name, texts, wanted):
-    """Whether a page's row is what the client is told. The origin is asked for no URL twice; what for is given back."""
+    """Whether a page's row is what the client gets. The origin is asked for no URL twice; which it was asked for is returned."""
     target = "/p?" + head["query"] if "query" in head else "/p"
     origin.texts = dict(texts)
     if "/p" in texts:
@@ -114,7 +114,7 @@ def row_is_served(edge, origin, head, name, texts, wanted):
 
 def pages_are_the_same_whoever_fetches():
     """Each page of the tables, by any number of workers and slots ahead: what its row says. No URL is asked
-    twice, and the log tells as many answers as there were fetches."""
+    twice, and the log has as many answers as there were fetches."""
     module, rows = tables_of("pages")
     for levels in sorted({head.get("levels", "4") for _, head, _, _, _ in rows}):
         these = [row for row in rows if row[1].get("levels", "4") == levels]
@@ -127,7 +127,7 @@ def pages_are_the_same_whoever_fetches():
                     asked.append(len(row_is_served(edge, origin, head, told_of, wires_of(module.answers_of(given)), wanted)))
                 same("exit status", 0, edge.ends())
                 answers = [int(line.split(" ")[5]) for line in edge.end().decode().splitlines()]
-                same("answers that the log tells, by %s" % " ".join(words), asked, answers)
+                same("answers in the log, by %s" % " ".join(words), asked, answers)
 
 
 def pages_are_the_same_where_answers_are_ready():
@@ -147,7 +147,7 @@ def include(path):
 
 
 def is_assembled(texts, wanted, workers, times):
-    """A page by so many workers, several times, each URL asked once each time."""
+    """A page by this many workers, several times, each URL asked once each time."""
     with Wires(texts) as origin, before(origin, "--workers", str(workers), "--ahead", "256") as edge:
         for _ in range(times):
             origin.heads.clear()
@@ -177,7 +177,7 @@ PIECE = 250000
 
 
 def of_pieces(count, millis=0):
-    """What an origin sends for a page of so many fragments of 250,000 bytes, each answer after some time."""
+    """What an origin sends for a page of this many fragments of 250,000 bytes, each answer after some time."""
 
     def late(text):
         def send(_):
@@ -191,8 +191,8 @@ def of_pieces(count, millis=0):
 
 
 def read_of(edge, pause=0.0):
-    """How many bytes of the body come, and its first and last one, read with a pause behind each read. Without
-    one the client has ended its input behind its request."""
+    """How many bytes of the body come, and its first and last one, read with a pause after each read. Without
+    one the client has ended its input after its request."""
     front, last, count = b"", b"", 0
     with client(edge, ASKED, ends=not pause) as connection:
         while True:

@@ -6,7 +6,7 @@ from harness import PATIENCE, PLAIN, PROGRAM, TEMPLATE, Edge, Origin, before, ex
 
 
 def the_edge_ends_after_its_connections():
-    """With --accept it ends with status 0 once so many connections have ended, whatever came of them."""
+    """With --accept it ends with status 0 once this many connections have ended, whatever they got."""
     with Origin(PLAIN) as origin, before(origin, "--accept", "3") as edge:
         same("first", 200, get(edge, "/p").status)
         exchange(edge, b"nothing of HTTP\r\n\r\n")

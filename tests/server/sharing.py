@@ -6,7 +6,7 @@ from harness import PAGE, PATIENCE, Origin, Wires, before, get, same, told, wire
 
 
 class Meeting:
-    """Where fetches meet: each waits until so many are there at once, or too long. It counts the most that
+    """Where fetches meet: each waits until this many are there at once, or too long. It counts the most that
     were, and how many gave up."""
 
     def __init__(self, needed, seconds=PATIENCE):
@@ -112,7 +112,7 @@ def pages_share_what_is_kept():
 
 def answers_are_kept_and_bridged():
     """Within max-age nobody asks the origin; past it a failing origin is bridged within the extension,
-    and is passed on where there is none."""
+    and is passed on where there isn't one."""
     paths = {"/x": (b"x", "text/plain", "max-age=2+60"), "/y": (b"y", "text/plain", "max-age=2")}
     with Origin(paths) as origin, before(origin) as edge:
         for _ in range(2):
