@@ -2,32 +2,14 @@
 use Rattle.std.proofs.Common.{◌≡◌, ◌≢◌, ℕ, ◌+◌, ◌<◌, ◌≤◌, Bool, true, false, List, [], ◌∷◌, ◌++◌, length, Option, Some, None, find, position, get_or, slice_get, refl, sym, ◌∙◌, ap, arith, nat_lt, cond, eqb, length-append}
 use Rattle.std.proofs.lemmas.Grind.{common_steps}
 use Rattle.std.proofs.lemmas.List.Folds.{find_at, position_or_len_push}
-use Rattle.std.proofs.lemmas.List.Sums.{prefix_len-le-length, fails_before_first, position_or_len_is}
+use Rattle.std.proofs.lemmas.List.Sums.{fails_before_first, position_or_len_is}
 use Rattle.std.proofs.lemmas.Option.{slice_get_past, slice_get-get_or}
 use Rattle.std.proofs.lemmas.List.Quantifiers.{position-Some, all_pairs_push}
 use Rattle.std.proofs.lemmas.Slice.Eq.{bytes_eq-Decides}
 use Rattle.std.specs.List.{position_or_len}
 use Rattle.edge_types.specs.Answered.{Answered}
 use Rattle.edge_types.specs.Table.{is_of, IsTable}
-
-some : (b : Bool) (m n : ℕ) → cond b (Some n) None ≡ Some m → n ≡ m
-some true m n e = cc
-some false m n e = cc
-
-none : (b : Bool) (n : ℕ) → cond b (Some n) None ≡ None → b ≡ false
-none true n e = cc
-none false n e = refl
-
--- where the first such element stands, told by `position`
-pub position_or_len-some : {X : Type 0} (p : X → Bool) (xs : List X) (at : ℕ) → position p xs ≡ Some at → position_or_len p xs ≡ at
-position_or_len-some p xs at e = some (nat_lt (position_or_len p xs) (length xs)) at (position_or_len p xs) e
-
--- no such element: the length
-pub position_or_len-none : {X : Type 0} (p : X → Bool) (xs : List X) → position p xs ≡ None → position_or_len p xs ≡ length xs
-position_or_len-none p xs e =
-    let past : nat_lt (position_or_len p xs) (length xs) ≡ false = none _ (position_or_len p xs) e in
-    let within : position_or_len p xs ≤ length xs = prefix_len-le-length _ xs in
-    grind (arith, common_steps)
+use Rattle.edge_types.proofs.PositionLemmas.{position_or_len-some, position_or_len-none}
 
 pub find-none : {X : Type 0} (p : X → Bool) (xs : List X) → position p xs ≡ None → find p xs ≡ None
 find-none p xs e = find_at p xs ∙ ap (slice_get xs) (position_or_len-none p xs e) ∙ slice_get_past xs (length xs) (omega arith)

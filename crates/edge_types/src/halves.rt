@@ -1,21 +1,26 @@
-//! The two halves of a text, round a byte.
+//! The first place of a byte in a text, and the two halves of the text round it.
 
 ghost use Rattle.std.specs.Prelude.{◌≡◌, ◌==◌, ◌<◌, length, position, IfSome};
 ghost use Rattle.std.specs.Option.{option_map};
 ghost use Rattle.edge_types.specs.Halves.{around, lent_pair};
 
-fn place_of(mark: u8, text: &[u8]) -> Option<usize>
-    ensures value { result ≡ position (λ b. b == mark) text.now }
+use memchr::memchr;
+
+/// The place of the first such byte; none without one. Takes no memory.
+#[tactic(auto, using(crate::proofs::SearchLemmas::position_from_search))]
+pub fn find_byte(byte: u8, text: &[u8]) -> Option<usize>
+    ensures value { result ≡ position (λ b. b == byte) text.now }
     ensures within { IfSome result (λ n. n < length text.now) }
 {
-    text.iter().position(|byte| *byte == mark)
+    memchr(byte, text)
 }
 
 /// What stands before the first of this byte, and after it; none without one. Takes no memory.
 #[tactic(auto, unfolding(crate::specs::Halves::around))]
 pub fn around(mark: u8, text: &[u8]) -> Option<(&[u8], &[u8])>
-    ensures { option_map lent_pair result ≡ around mark text.now }
+    ensures value { option_map lent_pair result ≡ around mark text.now }
+    ensures shorter { IfSome result (λ halves. length halves.1.now < length text.now) }
 {
-    let at = place_of(mark, text)?;
+    let at = find_byte(mark, text)?;
     Some((&text[..at], &text[at + 1..]))
 }

@@ -1,10 +1,13 @@
-//! The values that every layer of the edge speaks of: URLs, answers, requests, tables and outcomes.
+//! The values that every layer of the edge speaks of: URLs, answers, requests, tables and outcomes; and the small readers
+//! of bytes that several layers share: white space, blanks, and the first place of a byte.
 #![tactic(auto)]
 
 mod answer;
+mod blanks;
 mod compare;
 mod control;
 mod halves;
+pub mod laws;
 mod no_memory;
 mod octets;
 mod outcome;
@@ -17,8 +20,9 @@ mod table;
 mod white_space;
 
 pub use answer::{Answer, MAX_BODY, MAX_CONTENT_TYPE, MAX_STATUS, MIN_STATUS, Reply};
+pub use blanks::{is_blank, skip_blanks, trimmed};
 pub use control::Control;
-pub use halves::around;
+pub use halves::{around, find_byte};
 pub use no_memory::NoMemory;
 pub use octets::Octets;
 pub use outcome::{Outcome, PageFault};
@@ -28,4 +32,4 @@ pub use request::{Request, query_of};
 pub use shared_answer::SharedAnswer;
 pub use shared_bytes::SharedBytes;
 pub use table::{InsertFault, Table};
-pub use white_space::is_ws;
+pub use white_space::{after_ws, is_ws, ws_len};

@@ -2,6 +2,7 @@
 
 ghost use Rattle.std.specs.Prelude.{◌≡◌, IfOk};
 
+use crate::halves::find_byte;
 use crate::no_memory::NoMemory;
 use crate::octets::Octets;
 use std::alloc::Global;
@@ -67,8 +68,8 @@ const FRAGMENT_MARK: u8 = b'#';
 pub fn query_of(text: &[u8]) -> &[u8]
     ensures { result.now ≡ query_of text.now }
 {
-    let before = &text[..place_of(FRAGMENT_MARK, text)];
-    let mark = place_of(QUERY_MARK, before);
+    let before = &text[..place_or_len(FRAGMENT_MARK, text)];
+    let mark = place_or_len(QUERY_MARK, before);
     if mark < before.len() {
         &before[mark + 1..]
     } else {
@@ -76,22 +77,16 @@ pub fn query_of(text: &[u8]) -> &[u8]
     }
 }
 
-ghost use Rattle.std.specs.Prelude.{◌==◌, ◌≤◌, length, position};
+ghost use Rattle.std.specs.Prelude.{◌==◌, ◌≤◌, length};
 ghost use Rattle.std.specs.List.{position_or_len};
 
 // The place of the first such byte, or the length where there is none.
-fn place_of(byte: u8, text: &[u8]) -> usize
+fn place_or_len(byte: u8, text: &[u8]) -> usize
     ensures first { result ≡ position_or_len (λ b. b == byte) text.now }
     ensures within { result ≤ length text.now }
 {
-    match position_of(byte, text) {
+    match find_byte(byte, text) {
         Some(at) => at,
         None => text.len(),
     }
-}
-
-fn position_of(byte: u8, text: &[u8]) -> Option<usize>
-    ensures { result ≡ position (λ b. b == byte) text.now }
-{
-    text.iter().position(|b| *b == byte)
 }

@@ -1,15 +1,17 @@
 -- What is read as an attribute is spelled so, and what is spelled so is read.
-use Rattle.std.proofs.Common.{◌≡◌, ℕ, zero, suc, ◌+◌, ◌<◌, ◌≤◌, Bool, true, false, not, ◌==◌, ◌&&◌, nat_lt, cond, List, [], ◌∷◌, ◌++◌, length, get_or, take, drop, Option, Some, None, refl, sym, ◌∙◌, ap, subst, append_assoc, lt-ltb, ltb-true, codes, arith}
-use Rattle.std.specs.List.{AllPass, prefix_len}
-use Rattle.std.proofs.lemmas.List.{take-append-drop, drop_at, take_at, length-append, length-take, drop_more}
+use Rattle.std.proofs.Common.{◌≡◌, ℕ, zero, suc, ◌<◌, ◌≤◌, Bool, true, false, not, ◌==◌, ◌&&◌, nat_lt, cond, List, [], ◌∷◌, ◌++◌, length, take, drop, Option, Some, None, refl, sym, ◌∙◌, ap, subst, append_assoc, lt-ltb, codes, arith}
+use Rattle.std.specs.List.{AllPass}
+use Rattle.std.proofs.lemmas.List.{take-append-drop, drop_at, take_at, length-append, length-take}
 use Rattle.esi_scanner.specs.declared.attribute.Attribute.{Attribute}
 use Rattle.esi_scanner.specs.Names.{attribute_name_of}
-use Rattle.edge_types.specs.WhiteSpace.{is_ws}
-use Rattle.esi_scanner.specs.Bytes.{is_attribute_byte, is_quote, ws_len, attribute_len, after_ws, after_bytes, ◌>>=◌}
+use Rattle.edge_types.specs.WhiteSpace.{is_ws, ws_len, after_ws}
+use Rattle.edge_types.specs.Halves.{around}
+use Rattle.edge_types.proofs.HalvesLemmas.{around_sound, around_again}
+use Rattle.esi_scanner.specs.Bytes.{is_attribute_byte, is_quote, attribute_len, after_bytes, ◌>>=◌}
 use Rattle.esi_scanner.specs.Entities.{decoded}
-use Rattle.esi_scanner.specs.Tag.{name_at, equals_at, place_of, quoted_by, quoted_at, attribute_at, then_attributes, attributes_at}
+use Rattle.esi_scanner.specs.Tag.{name_at, equals_at, quoted_at, attribute_at, then_attributes, attributes_at}
 use Rattle.esi_scanner.specs.Spelling.{SpellsAttribute, SpellsAttributes}
-use Rattle.esi_scanner.proofs.RunLemmas.{run-append, run-within, run-pass, stop-at, stop-run, stop-after, stopped, after_ws-append, ws-no_attribute, attribute-no_ws, quote-no_ws, head-pass}
+use Rattle.esi_scanner.proofs.RunLemmas.{run-append, run-within, run-pass, stop-at, stop-run, after_ws-append, ws-no_attribute, attribute-no_ws, quote-no_ws, head-pass}
 use Rattle.esi_scanner.proofs.ValueLemmas.{some-same, bind-some, after-cut, decoded-spelled, decoded-found}
 use Rattle.esi_scanner.proofs.AttributeLemmas.{ahead, attributes-some, attributes-none}
 
@@ -49,27 +51,10 @@ unfolding equals_at
 equals-spelled left right tail left_ws right_ws stops =
     rw (after_ws-append left (codes "=" ++ (right ++ tail)) left_ws refl, after_ws-append right tail right_ws stops) refl
 
-drop_past : (raw : List ℕ) (b : ℕ) (rest : List ℕ) → drop (suc (length raw)) (raw ++ b ∷ rest) ≡ rest
-drop_past [] b rest = refl
-drop_past (x ∷ raw) b rest = drop_past raw b rest
-
-drop_at_more : (raw : List ℕ) (b : ℕ) (rest : List ℕ) → drop (length raw + 1) (raw ++ b ∷ rest) ≡ rest
-drop_at_more raw b rest = let n : length raw + 1 ≡ suc (length raw) = omega arith in rw n (drop_past raw b rest)
-
-place-spelled : (quote : ℕ) (raw rest : List ℕ) → AllPass (λ b. not (b == quote)) raw → place_of quote (raw ++ quote ∷ rest) ≡ Some (length raw)
-unfolding place_of
-place-spelled quote raw rest all =
-    let same : (quote == quote) ≡ true = grind arith in
-    let stops = stop-at (λ b. not (b == quote)) quote rest (ap not same) in
-    let len : prefix_len (λ b. not (b == quote)) (raw ++ quote ∷ rest) ≡ length raw = run-append (λ b. not (b == quote)) raw (quote ∷ rest) all stops in
-    let within : length raw < length (raw ++ quote ∷ rest) = omega (arith, length-append raw (quote ∷ rest)) in
-    rw (len, lt-ltb (length raw) (length (raw ++ quote ∷ rest)) within) refl
-
 quoted-spelled : (quote : ℕ) (raw rest : List ℕ) → is_quote quote ≡ true → AllPass (λ b. not (b == quote)) raw → quoted_at (quote ∷ (raw ++ quote ∷ rest)) ≡ Some (raw, rest)
-unfolding quoted_at quoted_by
+unfolding quoted_at
 quoted-spelled quote raw rest is all =
-    let past : drop (length raw + 1) (raw ++ quote ∷ rest) ≡ rest = drop_at_more raw quote rest in
-    rw (is, place-spelled quote raw rest all, past, take_at raw (quote ∷ rest) (length raw) refl) refl
+    rw is (around_again quote raw rest all)
 
 -- the bytes behind a name don't belong to it
 behind_name : (left rest : List ℕ) → AllPass is_ws left → attribute_len (left ++ (codes "=" ++ rest)) ≡ 0
@@ -148,23 +133,6 @@ equals-found text rest found =
       cut-at (ws_len text) text ∙ ap (λ xs. take (ws_len text) text ++ xs) (mark ∙ ap (λ xs. codes "=" ++ xs) right_is),
     )
 
-same-byte : (b q : ℕ) → not (b == q) ≡ false → b ≡ q
-same-byte b q e = grind arith
-
-IsPlaceOf : ℕ → List ℕ → ℕ → Type 0
-IsPlaceOf q text n = AllPass (λ b. not (b == q)) (take n text) × (text ≡ take n text ++ q ∷ drop (n + 1) text)
-
-place-found : (q : ℕ) (text : List ℕ) (n : ℕ) → place_of q text ≡ Some n → IsPlaceOf q text n
-unfolding place_of IsPlaceOf
-place-found q text n found =
-    let p = λ (b : ℕ). not (b == q) in
-    let (test, same) = if-some (nat_lt (prefix_len p text) (length text)) (prefix_len p text) n found in
-    let within : n < length text = omega (arith, same, ltb-true (prefix_len p text) (length text) test) in
-    let cut : drop n text ≡ get_or text n 0 ∷ drop (n + 1) text = drop_more text n 0 within in
-    let none : prefix_len p (get_or text n 0 ∷ drop (n + 1) text) ≡ 0 = ap (λ xs. prefix_len p xs) (sym cut ∙ ap (λ k. drop k text) (sym same)) ∙ stop-after p text in
-    let byte : get_or text n 0 ≡ q = same-byte (get_or text n 0) q (stopped p (get_or text n 0) (drop (n + 1) text) none) in
-    (rw (← same) (run-pass p text), cut-at n text ∙ ap (λ xs. take n text ++ xs) (cut ∙ ap (λ b. b ∷ drop (n + 1) text) byte))
-
 IsQuotedAt : List ℕ → List ℕ → List ℕ → Type 0
 IsQuotedAt text raw rest =
     (q : ℕ) × (is_quote q ≡ true) × AllPass (λ b. not (b == q)) raw × (text ≡ q ∷ (raw ++ q ∷ rest))
@@ -174,15 +142,12 @@ if-then true o y e = (refl, e)
 if-then false o y e = absurd (cc)
 
 quoted-found : (text raw rest : List ℕ) → quoted_at text ≡ Some (raw, rest) → IsQuotedAt text raw rest
-unfolding quoted_at quoted_by IsQuotedAt IsPlaceOf
+unfolding quoted_at IsQuotedAt
 quoted-found [] raw rest found = absurd (cc)
 quoted-found (b ∷ bs) raw rest found =
-    let (quote, inner) = if-then (is_quote b) (quoted_by b bs) (raw, rest) found in
-    let (n, place, same) = bind-some (place_of b bs) (λ n. Some (take n bs, drop (n + 1) bs)) (raw, rest) inner in
-    let (all, cut) = place-found b bs n place in
-    let raw_is : take n bs ≡ raw = ap (λ (p : List ℕ × List ℕ). p.0) (some-same same) in
-    let rest_is : drop (n + 1) bs ≡ rest = ap (λ (p : List ℕ × List ℕ). p.1) (some-same same) in
-    (b, quote, rw (← raw_is) all, ap (λ xs. b ∷ xs) (cut ∙ rw (raw_is, rest_is) refl))
+    let (quote, inner) = if-then (is_quote b) (around b bs) (raw, rest) found in
+    let (all, cut) = around_sound b bs raw rest inner in
+    (b, quote, all, ap (λ xs. b ∷ xs) cut)
 
 abbrev pub IsAttributeAt : List ℕ → Attribute → List ℕ → Type 0
 IsAttributeAt text a rest = (piece : List ℕ) × (text ≡ piece ++ rest) × SpellsAttribute piece a

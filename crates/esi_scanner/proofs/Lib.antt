@@ -1,6 +1,5 @@
 pub mod ByteLemmas
 pub mod EntityLemmas
-pub mod Finds
 pub mod AttributeLemmas
 pub mod DistinctLemmas
 pub mod ProblemLemmas

@@ -2,8 +2,8 @@
 use Rattle.std.proofs.Common.{◌≡◌, ◌⊎◌, inl, inr, ℕ, zero, suc, ◌+◌, ◌<◌, ◌≤◌, Bool, true, false, ◌||◌, cond, List, [], ◌∷◌, ◌++◌, length, get_or, take, drop, refl, sym, ◌∙◌, ap, subst, arith}
 use Rattle.std.specs.List.{AllPass, prefix_len}
 use Rattle.std.proofs.lemmas.List.{take_all, drop_at}
-use Rattle.edge_types.specs.WhiteSpace.{is_ws}
-use Rattle.esi_scanner.specs.Bytes.{is_element_byte, is_attribute_byte, is_quote, ws_len, after_ws}
+use Rattle.edge_types.specs.WhiteSpace.{is_ws, ws_len, after_ws}
+use Rattle.esi_scanner.specs.Bytes.{is_element_byte, is_attribute_byte, is_quote}
 
 pub head-pass : (p : ℕ → Bool) (x : ℕ) (xs : List ℕ) → AllPass p (x ∷ xs) → p x ≡ true
 head-pass p x xs all = all 0 x (omega arith)

@@ -8,8 +8,8 @@ use Rattle.esi_scanner.specs.declared.tag.Tag.{Tag}
 use Rattle.esi_scanner.specs.declared.element_name.ElementName.{ElementName}
 use Rattle.esi_scanner.specs.declared.element_name.ElementName.TheVariants as element
 use Rattle.esi_scanner.specs.Names.{element_text, elements, element_of}
-use Rattle.edge_types.specs.WhiteSpace.{is_ws}
-use Rattle.esi_scanner.specs.Bytes.{is_element_byte, ws_len, element_len, attribute_len, after_ws, after_bytes, begins_with, bytes_before, ◌>>=◌}
+use Rattle.edge_types.specs.WhiteSpace.{is_ws, ws_len, after_ws}
+use Rattle.esi_scanner.specs.Bytes.{is_element_byte, element_len, attribute_len, after_bytes, begins_with, bytes_before, ◌>>=◌}
 use Rattle.esi_scanner.specs.Tag.{name_at, attribute_at, attributes_at, all_distinct, names_of, distinct_attributes_at, end_at, element_at, tag_at, closing_at, removed_len, after_removed}
 use Rattle.esi_scanner.specs.Spelling.{SpellsAttributes, end_text, SpellsTag, SpellsClose}
 use Rattle.esi_scanner.proofs.RunLemmas.{run-append, run-pass, stop-at, stop-run, after_ws-append, all-from-run, ws-no_element, head-pass}

@@ -1,10 +1,13 @@
 -- Which bytes a tag is made of.
-use Rattle.std.specs.Prelude.{ℕ, Bool, false, not, ◌||◌, ◌==◌, nat_eq, List, [], ◌∷◌, drop, ◌+◌, length, Option, Some, None, if◌then◌else◌, option_and_then}
+use Rattle.std.specs.Prelude.{ℕ, Bool, false, not, ◌||◌, ◌==◌, nat_eq, List, [], ◌∷◌, drop, ◌+◌, length, Option, Some, None, if◌then◌else◌, option_and_then, option_map}
 use Rattle.std.specs.Str.{byte}
 use Rattle.std.specs.List.{starts_with, prefix_len}
 use Rattle.std.specs.Char.{is_ascii_alphanumeric}
 use Rattle.std.specs.Borrow.{Bor}
 use Rattle.edge_types.specs.WhiteSpace.{is_ws}
+use Rattle.edge_types.specs.Halves.{lent_pair}
+-- the white space at the front of a text
+pub use Rattle.edge_types.specs.WhiteSpace.{ws_len, after_ws}
 
 -- any byte but white space, `/` and `>`
 abbrev pub is_element_byte : ℕ → Bool
@@ -23,10 +26,6 @@ abbrev pub begins_ws : List ℕ → Bool
 begins_ws [] = false
 begins_ws (b ∷ bs) = is_ws b
 
--- how many bytes of white space stand at the front
-abbrev pub ws_len : List ℕ → ℕ
-ws_len text = prefix_len is_ws text
-
 -- how many bytes of an element's name stand there
 abbrev pub element_len : List ℕ → ℕ
 element_len text = prefix_len is_element_byte text
@@ -34,10 +33,6 @@ element_len text = prefix_len is_element_byte text
 -- how many bytes of an attribute's name stand there
 abbrev pub attribute_len : List ℕ → ℕ
 attribute_len text = prefix_len is_attribute_byte text
-
--- what follows the white space at the front
-abbrev pub after_ws : List ℕ → List ℕ
-after_ws text = drop (ws_len text) text
 
 -- whether the text begins with these bytes
 abbrev pub begins_with : List ℕ → List ℕ → Bool
@@ -64,5 +59,4 @@ shown (Some found) = Some (found.0, found.1.now)
 
 -- the same of a reader that finds bytes
 abbrev pub shown_pair : Option (Bor (List ℕ) × Bor (List ℕ)) → Option (List ℕ × List ℕ)
-shown_pair None = None
-shown_pair (Some found) = Some (found.0.now, found.1.now)
+shown_pair found = option_map lent_pair found

@@ -6,7 +6,8 @@ use Rattle.esi_scanner.specs.declared.element_name.ElementName.{ElementName}
 use Rattle.esi_scanner.specs.declared.problem.Problem.{Problem}
 use Rattle.esi_scanner.specs.declared.problem.Problem.TheVariants as problem
 use Rattle.esi_scanner.specs.declared.problem.Trouble.{Trouble}
-use Rattle.esi_scanner.specs.Bytes.{is_quote, attribute_len, after_ws, begins_with, ◌>>=◌}
+use Rattle.edge_types.specs.WhiteSpace.{after_ws}
+use Rattle.esi_scanner.specs.Bytes.{is_quote, attribute_len, begins_with, ◌>>=◌}
 use Rattle.esi_scanner.specs.Tag.{name_at, equals_at, quoted_at, element_at, end_at}
 
 -- the name of an attribute at the front, and what follows its value

@@ -1,12 +1,14 @@
 -- Tags, read from the front of a text.
-use Rattle.std.specs.Prelude.{ℕ, zero, suc, ◌+◌, Bool, true, false, not, ◌&&◌, ◌==◌, nat_lt, List, [], ◌∷◌, take, drop, length, map, codes, bytes_eq, Option, Some, None, if◌then◌else◌}
-use Rattle.std.specs.List.{prefix_len, list_any}
+use Rattle.std.specs.Prelude.{ℕ, zero, suc, Bool, true, false, not, ◌&&◌, nat_lt, List, [], ◌∷◌, take, drop, length, map, codes, bytes_eq, Option, Some, None, if◌then◌else◌}
+use Rattle.std.specs.List.{list_any}
+use Rattle.edge_types.specs.Halves.{around}
+use Rattle.edge_types.specs.WhiteSpace.{ws_len, after_ws}
 use Rattle.esi_scanner.specs.declared.element_name.ElementName.{ElementName}
 use Rattle.esi_scanner.specs.declared.attribute.Attribute.{Attribute}
 use Rattle.esi_scanner.specs.declared.attribute.KnownAttribute.{KnownAttribute}
 use Rattle.esi_scanner.specs.declared.tag.Tag.{Tag}
 use Rattle.esi_scanner.specs.Names.{element_of, is_named, attribute_text, attribute_name_of}
-use Rattle.esi_scanner.specs.Bytes.{is_quote, ws_len, element_len, attribute_len, after_ws, after_bytes, bytes_before, begins_with, ◌>>=◌}
+use Rattle.esi_scanner.specs.Bytes.{is_quote, element_len, attribute_len, after_bytes, bytes_before, begins_with, ◌>>=◌}
 use Rattle.esi_scanner.specs.Entities.{decoded}
 
 -- white space, at least one byte of it, and an attribute's name, at least one byte of it; and what follows
@@ -22,20 +24,10 @@ equals_at text = do
   after ← after_bytes (after_ws text) (codes "=")
   Some (after_ws after)
 
--- the place of the first such byte
-unfoldable pub place_of : ℕ → List ℕ → Option ℕ
-place_of byte text = let n = prefix_len (λ b. not (b == byte)) text in if nat_lt n (length text) then Some n else None
-
--- the bytes up to the next such quote, and what follows the quote
-unfoldable pub quoted_by : ℕ → List ℕ → Option (List ℕ × List ℕ)
-quoted_by quote text = do
-  n ← place_of quote text
-  Some (take n text, drop (n + 1) text)
-
 -- the bytes between two equal quotes
 unfoldable pub quoted_at : List ℕ → Option (List ℕ × List ℕ)
 quoted_at [] = None
-quoted_at (b ∷ bs) = if is_quote b then quoted_by b bs else None
+quoted_at (b ∷ bs) = if is_quote b then around b bs else None
 
 -- an attribute, with the white space before it
 unfoldable pub attribute_at : List ℕ → Option (Attribute × List ℕ)

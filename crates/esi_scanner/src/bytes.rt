@@ -19,19 +19,6 @@ fn is_attribute_byte(byte: u8) -> bool
     byte.is_ascii_alphanumeric() || matches!(byte, b'-' | b'_' | b':' | b'.')
 }
 
-// How many bytes of white space stand at the front.
-pub(crate) fn ws_len(text: &[u8]) -> usize
-    ensures value { result ≡ spec.ws_len text.now }
-    ensures within { result ≤ length text.now }
-{
-    for (i, byte) in text.iter().enumerate() {
-        if !is_ws(*byte) {
-            return i;
-        }
-    }
-    text.len()
-}
-
 // How many bytes of an element's name stand at the front.
 pub(crate) fn element_len(text: &[u8]) -> usize
     ensures value { result ≡ spec.element_len text.now }
@@ -56,15 +43,6 @@ pub(crate) fn attribute_len(text: &[u8]) -> usize
         }
     }
     text.len()
-}
-
-// What follows the white space at the front.
-pub(crate) fn after_ws(text: &[u8]) -> &[u8]
-    ensures value { result.now ≡ spec.after_ws text.now }
-    ensures within { length result.now ≤ length text.now }
-{
-    let (_, after) = text.split_at(ws_len(text));
-    after
 }
 
 /// Whether the first byte is white space. Takes no memory.

@@ -4,9 +4,9 @@ ghost use Rattle.std.specs.Prelude.{◌≡◌, ◌<◌, ◌≤◌, [], length, I
 ghost use Rattle.esi_scanner.specs.Bytes.{shown_pair};
 ghost use Rattle.esi_scanner.specs.Problems.{skipped_at, walked, value_problem, attribute_problem, end_problem, open_problem, close_problem, problem_of, trouble_at, shown_problem, shown_walk};
 
-use crate::bytes::{after_ws, attribute_len};
+use crate::bytes::attribute_len;
 use crate::tag::{element_at, end_at, equals_at, name_at, quoted_at};
-use edge_types::NoMemory;
+use edge_types::{NoMemory, after_ws};
 use std::alloc::Global;
 use std::collections::BTreeSet;
 

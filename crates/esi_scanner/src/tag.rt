@@ -3,15 +3,14 @@
 ghost use Rattle.std.specs.Prelude.{◌≡◌, ◌<◌, ◌≤◌, length, IfOk, IfSome};
 ghost use Rattle.std.specs.Option.{option_copied};
 ghost use Rattle.esi_scanner.specs.Bytes.{shown, shown_pair};
-ghost use Rattle.esi_scanner.specs.Tag.{name_at, equals_at, place_of, quoted_by, quoted_at, attribute_at, attributes_at, distinct_attributes_at, all_distinct, names_of, end_at, element_at, tag_at, closing_at, after_removed};
+ghost use Rattle.esi_scanner.specs.Tag.{name_at, equals_at, quoted_at, attribute_at, attributes_at, distinct_attributes_at, all_distinct, names_of, end_at, element_at, tag_at, closing_at, after_removed};
 
 use crate::attribute::{Attribute, AttributeName};
 use crate::attributes::Attributes;
-use crate::bytes::{after_ws, attribute_len, element_len, ws_len};
+use crate::bytes::{attribute_len, element_len};
 use crate::element_name::ElementName;
 use crate::entity::decoded;
-use edge_types::NoMemory;
-use memchr::memchr;
+use edge_types::{NoMemory, after_ws, around, ws_len};
 use std::alloc::Global;
 use std::collections::BTreeSet;
 
@@ -55,29 +54,9 @@ pub(crate) fn quoted_at(text: &[u8]) -> Option<(&[u8], &[u8])>
     ensures shorter { IfSome result (λ found. length found.1.now ≤ length text.now) }
 {
     match text {
-        [quote @ (b'"' | b'\''), rest @ ..] => quoted_by(*quote, rest),
+        [quote @ (b'"' | b'\''), rest @ ..] => around(*quote, rest),
         _ => None,
     }
-}
-
-// The bytes up to the next such quote, and what follows the quote.
-#[tactic(auto, unfolding(crate::specs::Tag::quoted_by))]
-fn quoted_by(quote: u8, text: &[u8]) -> Option<(&[u8], &[u8])>
-    ensures value { shown_pair result ≡ quoted_by quote text.now }
-    ensures shorter { IfSome result (λ found. length found.1.now ≤ length text.now) }
-{
-    let place = place_of(quote, text)?;
-    let (value, _) = text.split_at(place);
-    let (_, rest) = text.split_at(place + 1);
-    Some((value, rest))
-}
-
-// The place of the first such byte.
-fn place_of(byte: u8, text: &[u8]) -> Option<usize>
-    ensures value { result ≡ place_of byte text.now }
-    ensures within { IfSome result (λ place. place < length text.now) }
-{
-    memchr(byte, text)
 }
 
 // An attribute, with the white space before it, and what follows.

@@ -1,13 +1,15 @@
 -- What is spelled as a reference is read as one, whatever follows it.
-use Rattle.std.proofs.Common.{◌≡◌, ℕ, ◌+◌, ◌==◌, Bool, true, false, List, [], ◌∷◌, ◌++◌, length, drop, Option, Some, None, nat_lt, refl, sym, ◌∙◌, ap, inl, inr, append_assoc, arith}
-use Rattle.std.specs.List.{AllPass, prefix_len, position_or_len}
-use Rattle.std.proofs.lemmas.Bool.{eqb-true, eq-eqb, ne_eqb, lt-ltb}
-use Rattle.std.proofs.lemmas.List.{take_at, drop_at, length-append, length_push}
+use Rattle.std.proofs.Common.{◌≡◌, ℕ, ◌==◌, Bool, true, false, List, [], ◌∷◌, ◌++◌, length, Option, Some, None, refl, sym, ◌∙◌, ap, inl, inr, append_assoc, arith}
+use Rattle.std.specs.List.{AllPass, prefix_len}
+use Rattle.std.proofs.lemmas.Bool.{eqb-true, eq-eqb, ne_eqb}
+use Rattle.std.proofs.lemmas.List.{take_at, drop_at}
 use Rattle.std.proofs.lemmas.List.Sums.{prefix_len_is}
 use Rattle.std.proofs.lemmas.List.Folds.{prefix_len-append}
 use Rattle.esi_vars.specs.declared.reference.Reference.{Reference}
 use Rattle.esi_vars.specs.Reference.{is_name_byte, is_key_byte, is_default_byte, is_quoted_byte, IsRun, IsKey, IsDefault, IsReference}
-use Rattle.esi_vars.specs.Reading.{run_at, cut_at, quoted_key_at, key_text_at, braced_key_at, key_at, default_text_at, barred_default_at, default_at, body_at, reference_at}
+use Rattle.edge_types.specs.Halves.{around}
+use Rattle.edge_types.proofs.HalvesLemmas.{around_again}
+use Rattle.esi_vars.specs.Reading.{run_at, quoted_key_at, key_text_at, braced_key_at, key_at, default_text_at, barred_default_at, default_at, body_at, reference_at}
 
 -- a run of bytes that pass, and then one that doesn't, is the longest run
 pub prefix_len-run : (p : ℕ → Bool) (xs ys : List ℕ) → AllPass p xs → prefix_len p ys ≡ 0 → prefix_len p (xs ++ ys) ≡ length xs
@@ -23,14 +25,8 @@ run_again p x rest run none =
     let some : (length x == 0) ≡ false = ne_eqb (length x) 0 (λ e. omega (arith, run.0)) in
     rw (len, some, take_at x rest (length x) refl, drop_at x rest (length x) refl) refl
 
-pub cut_again : (bytes rest : List ℕ) → AllPass is_quoted_byte bytes → cut_at 39 (bytes ++ (39 ∷ rest)) ≡ Some (bytes, rest)
-unfolding cut_at
-cut_again bytes rest all =
-    let len : position_or_len (λ (b : ℕ). b == 39) (bytes ++ (39 ∷ rest)) ≡ length bytes = prefix_len-run is_quoted_byte bytes (39 ∷ rest) all refl in
-    let within : nat_lt (length bytes) (length (bytes ++ (39 ∷ rest))) ≡ true = lt-ltb _ _ (omega (arith, length-append bytes (39 ∷ rest))) in
-    let front = take_at bytes (39 ∷ rest) (length bytes) refl in
-    let back : drop (length bytes + 1) (bytes ++ (39 ∷ rest)) ≡ rest = ap (drop (length bytes + 1)) (sym (append_assoc bytes (39 ∷ []) rest)) ∙ drop_at (bytes ++ 39 ∷ []) rest (length bytes + 1) (length_push bytes 39) in
-    rw (len, within, front, back) refl
+pub cut_again : (bytes rest : List ℕ) → AllPass is_quoted_byte bytes → around 39 (bytes ++ (39 ∷ rest)) ≡ Some (bytes, rest)
+cut_again bytes rest all = around_again 39 bytes rest all
 
 -- no key and no default begins with a quote
 unquoted : (p : ℕ → Bool) (b : ℕ) → p 39 ≡ false → p b ≡ true → (b == 39) ≡ false

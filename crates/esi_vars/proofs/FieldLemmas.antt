@@ -6,8 +6,9 @@ use Rattle.std.proofs.lemmas.List.Sums.{fails_before_first}
 use Rattle.std.proofs.lemmas.List.{length-drop}
 use Rattle.std.proofs.lemmas.Option.{none-some}
 use Rattle.std.specs.Borrow.{Bor}
-use Rattle.esi_vars.specs.Reading.{cut_at}
-use Rattle.esi_vars.specs.Field.{parts_between, halves, named, cookie_value, query_value, names_language, language_value, trimmed}
+use Rattle.edge_types.specs.Halves.{around}
+use Rattle.esi_vars.specs.Field.{parts_between, halves, named, cookie_value, query_value, names_language, language_value}
+use Rattle.edge_types.specs.Blanks.{trimmed}
 
 -- how much of a field is left to read
 abbrev pub len_left : Option (Bor (List ℕ)) → ℕ
@@ -28,8 +29,8 @@ second_half None = []
 second_half (Some x) = x.1
 
 cuts_by : (c : ℕ) (text part rest : List ℕ) (b : Bool) → nat_lt (position_or_len (λ x. x == c) text) (length text) ≡ b
-    → Some (part, rest) ≡ cut_at c text → Cuts c text part rest
-unfolding cut_at
+    → Some (part, rest) ≡ around c text → Cuts c text part rest
+unfolding around
 cuts_by c text part rest true within found =
     let n = position_or_len (λ (x : ℕ). x == c) text in
     let some : Some (part, rest) ≡ Some (take n text, drop (n + 1) text) = found ∙ rw within refl in
@@ -44,12 +45,12 @@ cuts_by c text part rest false within found =
     let none : None ≡ Some (part, rest) = sym (found ∙ rw within refl) in
     absurd (none-some _ none)
 
-pub cuts : (c : ℕ) (text part rest : List ℕ) → Some (part, rest) ≡ cut_at c text → Cuts c text part rest
+pub cuts : (c : ℕ) (text part rest : List ℕ) → Some (part, rest) ≡ around c text → Cuts c text part rest
 cuts c text part rest found = cuts_by c text part rest _ refl found
 
 uncut_by : (c : ℕ) (text : List ℕ) (b : Bool) → nat_lt (position_or_len (λ x. x == c) text) (length text) ≡ b
-    → None ≡ cut_at c text → text ∷ [] ≡ parts_between c text
-unfolding cut_at
+    → None ≡ around c text → text ∷ [] ≡ parts_between c text
+unfolding around
 uncut_by c text true within none =
     let some : None ≡ Some (take (position_or_len (λ (x : ℕ). x == c) text) text, drop (position_or_len (λ (x : ℕ). x == c) text + 1) text) = none ∙ rw within refl in
     absurd (cc)
@@ -57,7 +58,7 @@ uncut_by c text false within none =
     let all : length text ≤ position_or_len (λ (x : ℕ). x == c) text = grind (arith, within) in
     sym (slice_split_none (λ x. x == c) text (λ k d h. fails_before_first (λ x. x == c) text k d (omega arith)))
 
-pub uncut : (c : ℕ) (text : List ℕ) → None ≡ cut_at c text → text ∷ [] ≡ parts_between c text
+pub uncut : (c : ℕ) (text : List ℕ) → None ≡ around c text → text ∷ [] ≡ parts_between c text
 uncut c text none = uncut_by c text _ refl none
 
 -- a part of the name that is asked for settles the search

@@ -1,18 +1,16 @@
 -- A field's parts, their names and values are those that stand in it.
-use Rattle.std.proofs.Common.{◌≡◌, ℕ, zero, suc, ◌+◌, ◌-◌, ◌<◌, ◌≤◌, ◌==◌, Bool, true, false, List, [], ◌∷◌, ◌++◌, length, take, drop, get_or, reverse, nat_lt, bytes_eq, refl, sym, ◌∙◌, ap, subst, inl, inr, append_assoc, arith}
-use Rattle.std.specs.List.{All, AllPass, Contains, join_with_byte, position_or_len, prefix_len, suffix_len, slice_split, onto_first}
+use Rattle.std.proofs.Common.{◌≡◌, ℕ, zero, suc, ◌+◌, ◌<◌, ◌≤◌, ◌==◌, Bool, true, false, List, [], ◌∷◌, ◌++◌, length, take, drop, get_or, nat_lt, bytes_eq, refl, sym, ◌∙◌, ap, subst, inl, inr, append_assoc, arith}
+use Rattle.std.specs.List.{All, Contains, join_with_byte, position_or_len, slice_split, onto_first}
 use Rattle.std.proofs.lemmas.Bool.{eqb-true, eq-eqb, lt-ltb, le-ltb}
-use Rattle.std.proofs.lemmas.List.{take_at, drop_at, take_all, take_more, take-append-drop, length-append, length-take, length-drop, length-reverse, get_or-take, get_or-drop, get_or-reverse, get_or_default, get_or_at, get_or_append_left, get_or-append_right, append-nil, length_push}
-use Rattle.std.proofs.lemmas.List.Elements.{All-nil, All-cons, All-head, All-tail, All-append}
+use Rattle.std.proofs.lemmas.List.{take_at, drop_at, length-append, length-take, get_or-take, get_or_default, get_or_at, get_or_append_left, length_push}
+use Rattle.std.proofs.lemmas.List.Elements.{All-nil, All-cons, All-head, All-tail}
 use Rattle.std.proofs.lemmas.List.Splits.{slice_split_none, slice_split_at, length-slice_split, join_with_byte-slice_split}
-use Rattle.std.proofs.lemmas.List.Sums.{split_at_first, fails_before_first, passes_at_first, position_or_len_is, prefix_len_passes, prefix_len_stops, suffix_len_is}
+use Rattle.std.proofs.lemmas.List.Sums.{split_at_first, fails_before_first, passes_at_first, position_or_len_is}
 use Rattle.std.proofs.lemmas.Slice.Eq.{bytes_eq-Decides}
-use Rattle.esi_vars.specs.Reference.{is_blank}
-use Rattle.esi_vars.specs.Reading.{cut_at}
-use Rattle.esi_vars.specs.Field.{parts_between, trimmed_front, trimmed_end, trimmed, halves, named}
-use Rattle.esi_vars.specs.Finds.{AreParts, IsTrimmed, AreHalves, HasName, IsNamed}
-use Rattle.esi_vars.proofs.Complete.{prefix_len-run}
-use Rattle.esi_vars.specs.Laws.{CutsFields, TrimsTexts, CutsOnce, LooksUp}
+use Rattle.edge_types.specs.Halves.{around}
+use Rattle.esi_vars.specs.Field.{parts_between, halves, named}
+use Rattle.esi_vars.specs.Finds.{AreParts, AreHalves, HasName, IsNamed}
+use Rattle.esi_vars.specs.Laws.{CutsFields, CutsOnce, LooksUp}
 
 -- a list that doesn't contain a byte has another one at each place
 other_bytes : (c : ℕ) (bs : List ℕ) → (Contains bs c → ⊥) → All (λ b. (b == c) ≡ false) bs
@@ -66,123 +64,14 @@ parts_are c field = record {
 pub cuts_fields : CutsFields
 cuts_fields c field parts = (λ is. subst (λ ps. AreParts c field ps) is (parts_are c field), cut_again c field parts)
 
--- the blanks at the end of a text
-end_passes : (text : List ℕ) (k d : ℕ) → length text - suffix_len is_blank text ≤ k → k < length text → is_blank (get_or text k d) ≡ true
-end_passes text k d past within =
-    let at : length text - 1 - (length text - 1 - k) ≡ k = omega arith in
-    let same : get_or (reverse text) (length text - 1 - k) d ≡ get_or text k d = get_or-reverse text (length text - 1 - k) d (omega arith) ∙ ap (λ n. get_or text n d) at in
-    ap is_blank (sym same) ∙ prefix_len_passes is_blank (reverse text) (length text - 1 - k) d (omega arith)
-
-end_stops : (text : List ℕ) (n d : ℕ) → n ≡ length text - suffix_len is_blank text → 0 < n → is_blank (get_or text (n - 1) d) ≡ false
-end_stops text n d is some =
-    let at : length text - 1 - suffix_len is_blank text ≡ n - 1 = omega arith in
-    let same : get_or (reverse text) (suffix_len is_blank text) d ≡ get_or text (n - 1) d = get_or-reverse text (suffix_len is_blank text) d (omega arith) ∙ ap (λ m. get_or text m d) at in
-    ap is_blank (sym same) ∙ prefix_len_stops is_blank (reverse text) d (omega (arith, length-reverse text))
-
--- a text without the blanks at its front, and then without those at its end
-front_is : (text : List ℕ) → text ≡ take (prefix_len is_blank text) text ++ trimmed_front text
-front_is text = sym (take-append-drop (prefix_len is_blank text) text)
-
-end_is : (text : List ℕ) → text ≡ trimmed_end text ++ drop (length text - suffix_len is_blank text) text
-end_is text = sym (take-append-drop (length text - suffix_len is_blank text) text)
-
-left_passes : (text : List ℕ) → AllPass is_blank (take (prefix_len is_blank text) text)
-left_passes text k d h =
-    let within : k < prefix_len is_blank text = omega (arith, length-take (prefix_len is_blank text) text) in
-    ap is_blank (get_or-take (prefix_len is_blank text) text k d within) ∙ prefix_len_passes is_blank text k d within
-
-right_passes : (text : List ℕ) → AllPass is_blank (drop (length text - suffix_len is_blank text) text)
-right_passes text k d h =
-    let n = length text - suffix_len is_blank text in
-    let within : n + k < length text = omega (arith, length-drop n text) in
-    ap is_blank (get_or-drop n text k d) ∙ end_passes text (n + k) d (omega arith) within
-
--- neither end of what is left is a blank
-begins_bare : (text : List ℕ) (b : ℕ) (bs : List ℕ) → trimmed_end (trimmed_front text) ≡ b ∷ bs → is_blank b ≡ false
-begins_bare text b bs is =
-    let front = trimmed_front text in
-    let n = length front - suffix_len is_blank front in
-    let len : length (trimmed_end front) ≡ suc (length bs) = ap length is in
-    let some : 0 < n = omega (arith, len, length-take n front) in
-    let first : get_or (trimmed_end front) 0 0 ≡ b = ap (λ t. get_or t 0 0) is in
-    let at : get_or (trimmed_end front) 0 0 ≡ get_or text (prefix_len is_blank text + 0) 0 = get_or-take n front 0 0 some ∙ get_or-drop (prefix_len is_blank text) text 0 0 in
-    let place : prefix_len is_blank text + 0 ≡ prefix_len is_blank text = omega arith in
-    ap is_blank (sym first ∙ at ∙ ap (λ m. get_or text m 0) place)
-    ∙ prefix_len_stops is_blank text 0 (omega (arith, length-drop (prefix_len is_blank text) text))
-
-ends_bare : (text : List ℕ) (bs : List ℕ) (b : ℕ) → trimmed_end text ≡ bs ++ b ∷ [] → is_blank b ≡ false
-ends_bare text bs b is =
-    let n = length text - suffix_len is_blank text in
-    let len : length (trimmed_end text) ≡ length bs + 1 = ap length is ∙ length_push bs b in
-    let all : n ≡ length bs + 1 = omega (arith, len, length-take n text) in
-    let last : get_or (trimmed_end text) (n - 1) 0 ≡ b = ap (λ t. get_or t (n - 1) 0) is ∙ get_or_at bs b [] 0 (n - 1) (omega arith) in
-    ap is_blank (sym last ∙ get_or-take n text (n - 1) 0 (omega arith)) ∙ end_stops text n 0 refl (omega arith)
-
-is_trimmed : (text : List ℕ) → IsTrimmed text (trimmed text)
-unfolding trimmed
-is_trimmed text =
-    let front = trimmed_front text in
-    record {
-      left = take (prefix_len is_blank text) text;
-      right = drop (length front - suffix_len is_blank front) front;
-      whole = front_is text ∙ ap (λ t. take (prefix_len is_blank text) text ++ t) (end_is front);
-      left_blank = left_passes text;
-      right_blank = right_passes front;
-      begins = begins_bare text;
-      ends = ends_bare front;
-    }
-
--- what stands between blanks is what trimming leaves
-front_again : (left rest : List ℕ) → AllPass is_blank left → ((b : ℕ) (bs : List ℕ) → rest ≡ b ∷ bs → is_blank b ≡ false) → trimmed_front (left ++ rest) ≡ rest
-front_again left rest all stops =
-    let n : prefix_len is_blank (left ++ rest) ≡ length left = prefix_len-run is_blank left rest all (none rest stops) in
-    rw n (drop_at left rest (length left) refl)
-  where
-    none : (xs : List ℕ) → ((b : ℕ) (bs : List ℕ) → xs ≡ b ∷ bs → is_blank b ≡ false) → prefix_len is_blank xs ≡ 0
-    none [] bare = refl
-    none (b ∷ bs) bare = rw (bare b bs refl) refl
-
-end_again : (middle right : List ℕ) → AllPass is_blank right → ((bs : List ℕ) (b : ℕ) → middle ≡ bs ++ b ∷ [] → is_blank b ≡ false) → trimmed_end (middle ++ right) ≡ middle
-end_again middle right all stops =
-    let len : length (middle ++ right) ≡ length middle + length right = length-append middle right in
-    let n : suffix_len is_blank (middle ++ right) ≡ length (middle ++ right) - length middle = suffix_len_is is_blank (middle ++ right) (length middle) 0 (omega arith) passes last in
-    let cut : length (middle ++ right) - suffix_len is_blank (middle ++ right) ≡ length middle = omega arith in
-    rw cut (take_at middle right (length middle) refl)
-  where
-    passes : (k : ℕ) → length middle ≤ k → k < length (middle ++ right) → is_blank (get_or (middle ++ right) k 0) ≡ true
-    passes k past within =
-        ap is_blank (get_or-append_right middle right (length middle) k 0 refl past) ∙ all (k - length middle) 0 (omega (arith, length-append middle right))
-
-    last : 0 < length middle → is_blank (get_or (middle ++ right) (length middle - 1) 0) ≡ false
-    last some =
-        let at : get_or (middle ++ right) (length middle - 1) 0 ≡ get_or middle (length middle - 1) 0 = get_or_append_left middle right 0 (length middle - 1) (omega arith) in
-        let n : length middle - 1 + 1 ≡ length middle = omega arith in
-        let cut : middle ≡ take (length middle - 1) middle ++ get_or middle (length middle - 1) 0 ∷ [] = sym (take_all (length middle) middle (omega arith)) ∙ ap (λ m. take m middle) (sym n) ∙ take_more middle (length middle - 1) 0 (omega arith) in
-        ap is_blank at ∙ stops (take (length middle - 1) middle) (get_or middle (length middle - 1) 0) cut
-
-trimmed_again : (text middle : List ℕ) → IsTrimmed text middle → trimmed text ≡ middle
-unfolding trimmed
-trimmed_again text [] is =
-    let all : AllPass is_blank (is.left ++ is.right) = All-append (λ b. is_blank b ≡ true) is.left is.right is.left_blank is.right_blank in
-    let front : trimmed_front (is.left ++ is.right) ≡ [] = ap trimmed_front (sym (append-nil (is.left ++ is.right))) ∙ front_again (is.left ++ is.right) [] all (λ b bs e. absurd (cc)) in
-    ap (λ t. trimmed_end (trimmed_front t)) is.whole ∙ ap trimmed_end front
-trimmed_again text (b ∷ bs) is =
-    let bare : (x : ℕ) (xs : List ℕ) → b ∷ (bs ++ is.right) ≡ x ∷ xs → is_blank x ≡ false = λ x xs e. is.begins x bs (let same : b ≡ x = cc in ap (λ y. y ∷ bs) same) in
-    ap (λ t. trimmed_end (trimmed_front t)) is.whole
-    ∙ ap trimmed_end (front_again is.left (b ∷ (bs ++ is.right)) is.left_blank bare)
-    ∙ end_again (b ∷ bs) is.right is.right_blank is.ends
-
-pub trims_texts : TrimsTexts
-trims_texts text middle = (λ is. subst (λ t. IsTrimmed text t) is (is_trimmed text), trimmed_again text middle)
-
 -- the halves of a text, by whether it has the byte
 halves_some : (c : ℕ) (text : List ℕ) → nat_lt (position_or_len (λ b. b == c) text) (length text) ≡ true
     → halves c text ≡ (take (position_or_len (λ b. b == c) text) text, drop (position_or_len (λ b. b == c) text + 1) text)
-unfolding halves cut_at
+unfolding halves around
 halves_some c text is = rw is refl
 
 halves_none : (c : ℕ) (text : List ℕ) → nat_lt (position_or_len (λ b. b == c) text) (length text) ≡ false → halves c text ≡ (text, [])
-unfolding halves cut_at
+unfolding halves around
 halves_none c text is = rw is refl
 
 are_halves : (c : ℕ) (text : List ℕ) → AreHalves c text (halves c text)

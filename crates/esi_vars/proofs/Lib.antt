@@ -1,4 +1,3 @@
-pub mod BytesLemmas
 pub mod FieldLemmas
 pub mod AgentLemmas
 pub mod Sound

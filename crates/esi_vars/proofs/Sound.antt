@@ -1,13 +1,15 @@
 -- What is read at the front of a text stands there.
-use Rattle.std.proofs.Common.{◌≡◌, ◌⊎◌, ℕ, ◌+◌, ◌<◌, ◌==◌, Bool, true, false, not, cond, List, [], ◌∷◌, ◌++◌, length, take, drop, get_or, Option, Some, None, option_map, codes, nat_lt, refl, sym, ◌∙◌, ap, subst, inl, inr, append_assoc, arith}
-use Rattle.std.specs.List.{AllPass, prefix_len, position_or_len}
-use Rattle.std.proofs.lemmas.Bool.{eqb-true, eqb-false, ltb-true}
-use Rattle.std.proofs.lemmas.List.{take-append-drop, get_or-take, drop_more, length-take-le}
-use Rattle.std.proofs.lemmas.List.Sums.{prefix_len_passes, passes_at_first, fails_before_first}
+use Rattle.std.proofs.Common.{◌≡◌, ◌⊎◌, ℕ, ◌<◌, ◌==◌, Bool, true, false, cond, List, [], ◌∷◌, ◌++◌, take, drop, Option, Some, None, codes, refl, sym, ◌∙◌, ap, subst, inl, inr, append_assoc, arith}
+use Rattle.std.specs.List.{AllPass, prefix_len}
+use Rattle.std.proofs.lemmas.Bool.{eqb-true, eqb-false}
+use Rattle.std.proofs.lemmas.List.{take-append-drop, get_or-take}
+use Rattle.std.proofs.lemmas.List.Sums.{prefix_len_passes}
 use Rattle.std.proofs.lemmas.List.Folds.{length-prefix_len}
 use Rattle.std.proofs.lemmas.Option.{cond_some, option_and_then_some, some_pair_parts}
 use Rattle.esi_vars.specs.Reference.{is_name_byte, is_key_byte, is_default_byte, is_quoted_byte, IsRun, IsKey, IsDefault, IsReference}
-use Rattle.esi_vars.specs.Reading.{Written, reference_of, after_byte, run_at, cut_at, quoted_key_at, key_text_at, braced_key_at, key_at, default_text_at, barred_default_at, default_at, body_at, written_at}
+use Rattle.edge_types.specs.Halves.{around}
+use Rattle.edge_types.proofs.HalvesLemmas.{around_sound}
+use Rattle.esi_vars.specs.Reading.{Written, reference_of, after_byte, run_at, quoted_key_at, key_text_at, braced_key_at, key_at, default_text_at, barred_default_at, default_at, body_at, written_at}
 
 -- the piece with this fact stands at the front, and the rest behind it
 pub record Stands (P : List ℕ → Type 0) (text rest : List ℕ) : Type 0 where
@@ -39,24 +41,8 @@ after_sound c (b ∷ bs) rest e =
     let same = eqb-true b c parts.0 in
     let later = parts.1 in cc
 
-cut_by : (text x rest : List ℕ) (b : Bool) → nat_lt (position_or_len (λ c. c == 39) text) (length text) ≡ b
-    → option_map {U = List ℕ × List ℕ} (λ at. (take at text, drop (at + 1) text)) (cond b (Some (position_or_len (λ c. c == 39) text)) None) ≡ Some (x, rest)
-    → AllPass is_quoted_byte x × (text ≡ x ++ (39 ∷ rest))
-cut_by text x rest false test e = absurd (cc)
-cut_by text x rest true test e =
-    let n = position_or_len (λ (c : ℕ). c == 39) text in
-    let parts = some_pair_parts (take n text) x (drop (n + 1) text) rest e in
-    let less = ltb-true n (length text) test in
-    let quote : get_or text n 0 ≡ 39 = eqb-true _ _ (passes_at_first (λ c. c == 39) text 0 less) in
-    let tail : drop n text ≡ 39 ∷ drop (n + 1) text = drop_more text n 0 less ∙ ap (λ c. c ∷ drop (n + 1) text) quote in
-    let all : AllPass is_quoted_byte (take n text) = λ k d h.
-    let below : k < n = omega (arith, length-take-le n text (omega arith)) in
-    ap is_quoted_byte (get_or-take n text k d below) ∙ ap not (fails_before_first (λ c. c == 39) text k d below) in
-    (subst (λ y. AllPass is_quoted_byte y) parts.0 all, rw (← parts.0, ← parts.1) (sym (take-append-drop n text) ∙ ap (λ t. take n text ++ t) tail))
-
-pub cut_sound : (text x rest : List ℕ) → cut_at 39 text ≡ Some (x, rest) → AllPass is_quoted_byte x × (text ≡ x ++ (39 ∷ rest))
-unfolding cut_at
-cut_sound text x rest e = cut_by text x rest _ refl e
+pub cut_sound : (text x rest : List ℕ) → around 39 text ≡ Some (x, rest) → AllPass is_quoted_byte x × (text ≡ x ++ (39 ∷ rest))
+cut_sound text x rest e = around_sound 39 text x rest e
 
 -- a key, in quotes or not
 abbrev KeyText : List ℕ → List ℕ → List ℕ → Type 0
@@ -116,7 +102,7 @@ default_text_sound : (text bytes rest : List ℕ) → default_text_at text ≡ S
 default_text_sound [] bytes rest e = absurd (cc)
 default_text_sound (b ∷ bs) bytes rest e = by_test (b == 39) refl e
   where
-    by_test : (t : Bool) → (b == 39) ≡ t → cond t (cut_at 39 bs) (run_at is_default_byte (b ∷ bs)) ≡ Some (bytes, rest) → DefaultText (b ∷ bs) bytes rest
+    by_test : (t : Bool) → (b == 39) ≡ t → cond t (around 39 bs) (run_at is_default_byte (b ∷ bs)) ≡ Some (bytes, rest) → DefaultText (b ∷ bs) bytes rest
     by_test true test found =
         let quoted = cut_sound bs bytes rest found in
         let quote = eqb-true b 39 test in

@@ -1,29 +1,17 @@
 -- Fields that are cut into parts: cookies, queries and languages.
-use Rattle.std.specs.Prelude.{ℕ, ◌-◌, Bool, ◌==◌, List, [], ◌∷◌, length, take, drop, map, codes, bytes_eq, unwrap_or, if◌then◌else◌}
-use Rattle.std.specs.List.{prefix_len, suffix_len, slice_split, list_any}
+use Rattle.std.specs.Prelude.{ℕ, Bool, ◌==◌, List, [], ◌∷◌, map, codes, bytes_eq, unwrap_or, if◌then◌else◌}
+use Rattle.std.specs.List.{slice_split, list_any}
 use Rattle.std.specs.Str.{byte, str_eq_ignore_ascii_case}
-use Rattle.esi_vars.specs.Reference.{is_blank}
-use Rattle.esi_vars.specs.Reading.{cut_at}
+use Rattle.edge_types.specs.Blanks.{trimmed}
+use Rattle.edge_types.specs.Halves.{around}
 
 -- the parts of a field between such bytes
 abbrev pub parts_between : ℕ → List ℕ → List (List ℕ)
 parts_between c field = slice_split (λ b. b == c) field
 
--- without the spaces and tabs at its front
-abbrev pub trimmed_front : List ℕ → List ℕ
-trimmed_front text = drop (prefix_len is_blank text) text
-
--- without those at its end
-abbrev pub trimmed_end : List ℕ → List ℕ
-trimmed_end text = take (length text - suffix_len is_blank text) text
-
--- without the spaces and tabs at both ends
-unfoldable pub trimmed : List ℕ → List ℕ
-trimmed text = trimmed_end (trimmed_front text)
-
 -- what stands before the first such byte and what follows it; without one, the whole and nothing
 unfoldable pub halves : ℕ → List ℕ → List ℕ × List ℕ
-halves c text = unwrap_or (cut_at c text) (text, [])
+halves c text = unwrap_or (around c text) (text, [])
 
 -- the value of the first part `name=value` of this name, or nothing
 unfoldable pub named : List ℕ → List (List ℕ) → List ℕ

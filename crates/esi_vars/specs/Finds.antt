@@ -1,24 +1,13 @@
 -- What stands in a field, told without a search: its parts, their names and values, and the text behind a word.
-use Rattle.std.specs.Prelude.{◌≡◌, ◌≢◌, ◌⊎◌, ℕ, ◌<◌, false, List, [], ◌∷◌, ◌++◌, length, drop}
+use Rattle.std.specs.Prelude.{◌≡◌, ◌≢◌, ◌⊎◌, ℕ, ◌<◌, List, [], ◌∷◌, ◌++◌, length, drop}
 use Rattle.std.specs.Str.{byte}
-use Rattle.std.specs.List.{All, AllPass, Contains, join_with_byte}
-use Rattle.esi_vars.specs.Reference.{is_blank}
+use Rattle.std.specs.List.{All, Contains, join_with_byte}
 
 -- the field is these parts, with such a byte between each two and in none of them
 pub record AreParts (c : ℕ) (field : List ℕ) (parts : List (List ℕ)) : Type 0 where
   pub some : 0 < length parts
   pub whole : join_with_byte c parts ≡ field
   pub uncut : All (λ part. ¬ Contains part c) parts
-
--- the text is this one with spaces and tabs on both sides, and it neither begins nor ends with one
-pub record IsTrimmed (text middle : List ℕ) : Type 0 where
-  pub left : List ℕ
-  pub right : List ℕ
-  pub whole : text ≡ left ++ (middle ++ right)
-  pub left_blank : AllPass is_blank left
-  pub right_blank : AllPass is_blank right
-  pub begins : (b : ℕ) (bs : List ℕ) → middle ≡ b ∷ bs → is_blank b ≡ false
-  pub ends : (bs : List ℕ) (b : ℕ) → middle ≡ bs ++ b ∷ [] → is_blank b ≡ false
 
 -- the text is cut at the first such byte; where there is none, it is the front, and nothing follows it
 abbrev pub AreHalves : ℕ → List ℕ → List ℕ × List ℕ → Type 0

@@ -9,9 +9,9 @@ use Rattle.esi_vars.specs.Reading.{reference_at}
 use Rattle.esi_vars.specs.Spelling.{Spells}
 use Rattle.esi_vars.specs.Parts.{parts_of}
 use Rattle.esi_vars.specs.Values.{substituted, text_of}
-use Rattle.esi_vars.specs.Field.{parts_between, trimmed, halves, named}
+use Rattle.esi_vars.specs.Field.{parts_between, halves, named}
 use Rattle.esi_vars.specs.Agent.{behind}
-use Rattle.esi_vars.specs.Finds.{AreParts, IsTrimmed, AreHalves, IsNamed, IsBehind}
+use Rattle.esi_vars.specs.Finds.{AreParts, AreHalves, IsNamed, IsBehind}
 
 -- what is read at the front of a text is what is spelled there
 abbrev pub ReadsReferences : Type 0
@@ -32,10 +32,6 @@ SubstitutesText = (request : Request) (text : List ℕ) → substituted request 
 -- the parts between such bytes are those that the bytes separate
 abbrev pub CutsFields : Type 0
 CutsFields = (separator : ℕ) (field : List ℕ) (parts : List (List ℕ)) → (parts_between separator field ≡ parts) ↔ AreParts separator field parts
-
--- a trimmed text is what stands between the blanks at its ends
-abbrev pub TrimsTexts : Type 0
-TrimsTexts = (text middle : List ℕ) → (trimmed text ≡ middle) ↔ IsTrimmed text middle
 
 -- the halves of a text are those at the first such byte
 abbrev pub CutsOnce : Type 0

@@ -1,7 +1,10 @@
 -- The reference at the front of a text, read part by part from the left.
-use Rattle.std.specs.Prelude.{ℕ, ◌+◌, Bool, ◌==◌, List, [], ◌∷◌, take, drop, Option, Some, None, option_and_then, option_map, if◌then◌else◌}
+use Rattle.std.specs.Prelude.{ℕ, Bool, ◌==◌, List, [], ◌∷◌, take, drop, Option, Some, None, option_and_then, option_map, if◌then◌else◌}
 use Rattle.std.specs.Str.{byte}
-use Rattle.std.specs.List.{prefix_len, position}
+use Rattle.std.specs.List.{prefix_len}
+use Rattle.edge_types.specs.Halves.{around}
+-- what stands before the first such byte, and what follows that byte
+unfoldable pub use Rattle.edge_types.specs.Halves.{around as cut_at}
 use Rattle.esi_vars.specs.declared.reference.Reference.{Reference}
 use Rattle.esi_vars.specs.Reference.{is_name_byte, is_key_byte, is_default_byte, variable_of}
 
@@ -28,10 +31,6 @@ after_byte c (b ∷ bs) = if b == c then Some bs else None
 -- the longest run of bytes that pass at the front, where there is one, and what follows it
 unfoldable pub run_at : (ℕ → Bool) → List ℕ → Option (List ℕ × List ℕ)
 run_at p text = if prefix_len p text == 0 then None else Some (take (prefix_len p text) text, drop (prefix_len p text) text)
-
--- what stands before the first such byte, and what follows that byte
-unfoldable pub cut_at : ℕ → List ℕ → Option (List ℕ × List ℕ)
-cut_at c text = option_map (λ at. (take at text, drop (at + 1) text)) (position (λ b. b == c) text)
 
 -- a key behind its opening quote
 unfoldable pub quoted_key_at : List ℕ → Option (List ℕ × List ℕ)
@@ -60,7 +59,7 @@ key_at (b ∷ bs) = if b == byte "{" then braced_key_at bs else Some (None, b �
 -- a default, with its quotes or without
 abbrev pub default_text_at : List ℕ → Option (List ℕ × List ℕ)
 default_text_at [] = None
-default_text_at (b ∷ bs) = if b == byte "'" then cut_at (byte "'") bs else run_at is_default_byte (b ∷ bs)
+default_text_at (b ∷ bs) = if b == byte "'" then around (byte "'") bs else run_at is_default_byte (b ∷ bs)
 
 -- a default behind its bar
 unfoldable pub barred_default_at : List ℕ → Option (Option (List ℕ) × List ℕ)

@@ -27,17 +27,12 @@ is_default_byte b = not (is_ws b || char_set_contains (codes "'()$") b)
 abbrev pub is_version_byte : ℕ → Bool
 is_version_byte b = is_ascii_digit b || b == byte "."
 
--- a space or a tab
-abbrev pub is_blank : ℕ → Bool
-is_blank b = b == byte " " || b == byte "\t"
-
 -- the bytes of a class
 abbrev pub allows : ByteClass → ℕ → Bool
 allows class.Name = is_name_byte
 allows class.Key = is_key_byte
 allows class.Default = is_default_byte
 allows class.Version = is_version_byte
-allows class.Blank = is_blank
 
 -- a byte of a default in quotes
 abbrev pub is_quoted_byte : ℕ → Bool

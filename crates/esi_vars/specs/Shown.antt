@@ -1,7 +1,8 @@
 -- What the code's readers lend, as the lists that the definitions speak of.
 use Rattle.std.specs.Prelude.{ℕ, List, [], ◌∷◌, Option, Some, None}
-use Rattle.std.specs.Option.{option_copied}
+use Rattle.std.specs.Option.{option_copied, option_map}
 use Rattle.std.specs.Borrow.{Bor}
+use Rattle.edge_types.specs.Halves.{lent_pair}
 use Rattle.esi_vars.specs.declared.reference.Reference.{Reference}
 use Rattle.esi_vars.specs.declared.written.Written as code
 use Rattle.esi_vars.specs.declared.part.Found as found
@@ -15,8 +16,7 @@ shown_written w = record { name = w.name.now; key = option_copied w.key; default
 
 -- a run and what follows it
 abbrev pub shown_run : Option (Bor (List ℕ) × Bor (List ℕ)) → Option (List ℕ × List ℕ)
-shown_run None = None
-shown_run (Some x) = Some (x.0.now, x.1.now)
+shown_run found = option_map lent_pair found
 
 -- a key or a default, perhaps none, and what follows it
 abbrev pub shown_optional : Option (Option (Bor (List ℕ)) × Bor (List ℕ)) → Option (Option (List ℕ) × List ℕ)

@@ -1,14 +1,13 @@
-// Runs of bytes at the front of a text, and cuts at a byte.
+// Runs of bytes at the front of a text.
 
-ghost use Rattle.std.specs.Prelude.{◌≡◌, ◌==◌, ◌<◌, ◌≤◌, length, IfSome};
-ghost use Rattle.std.specs.List.{prefix_len, position};
+ghost use Rattle.std.specs.Prelude.{◌≡◌, ◌≤◌, length};
+ghost use Rattle.std.specs.List.{prefix_len};
 ghost use Rattle.std.specs.Option.{option_copied};
-ghost use Rattle.esi_vars.specs.Reading.{run_at, cut_at, after_byte};
+ghost use Rattle.esi_vars.specs.Reading.{run_at, after_byte};
 ghost use Rattle.esi_vars.specs.Shown.{shown_run};
 ghost use Rattle.esi_vars.specs.Reference as spec;
 
 use edge_types::is_ws;
-use memchr::memchr;
 
 /// The bytes of which parts of references and of fields are made.
 #[derive(Clone, Copy)]
@@ -17,7 +16,6 @@ pub(crate) enum ByteClass {
     Key,
     Default,
     Version,
-    Blank,
 }
 
 impl ByteClass {
@@ -31,7 +29,6 @@ impl ByteClass {
                 && !matches!(byte, b'{' | b'}' | b'(' | b')' | b'|' | b'\'' | b'"'),
             ByteClass::Default => !is_ws(byte) && !matches!(byte, b'\'' | b'(' | b')' | b'$'),
             ByteClass::Version => byte.is_ascii_digit() || byte == b'.',
-            ByteClass::Blank => byte == b' ' || byte == b'\t',
         }
     }
 }
@@ -70,24 +67,4 @@ pub fn after_byte(byte: u8, text: &[u8]) -> Option<&[u8]>
         Some((first, rest)) if *first == byte => Some(rest),
         _ => None,
     }
-}
-
-/// The place of the first such byte.
-#[tactic(auto, using(crate::proofs::BytesLemmas::position_from_search))]
-pub(crate) fn find_byte(byte: u8, text: &[u8]) -> Option<usize>
-    ensures value { result ≡ position (λ b. b == byte) text.now }
-    ensures within { IfSome result (λ at. at < length text.now) }
-{
-    memchr(byte, text)
-}
-
-/// What stands before the first such byte, and what follows that byte; `None` without one. Takes no memory.
-#[tactic(auto, unfolding(crate::specs::Reading::cut_at))]
-pub fn cut_at(byte: u8, text: &[u8]) -> Option<(&[u8], &[u8])>
-    ensures { shown_run result ≡ cut_at byte text.now }
-{
-    let at = find_byte(byte, text)?;
-    let (before, rest) = text.split_at(at);
-    let (_, after) = rest.split_at(1);
-    Some((before, after))
 }

@@ -3,7 +3,8 @@
 ghost use Rattle.std.specs.Prelude.{◌≡◌};
 ghost use Rattle.esi_vars.specs.Field as spec;
 
-use crate::field::{first_part, halves, trimmed};
+use crate::field::{first_part, halves};
+use edge_types::trimmed;
 
 /// The value of the first cookie of this name, or nothing.
 pub(crate) fn cookie_value<'a>(name: &[u8], field: &'a [u8]) -> &'a [u8]

@@ -4,7 +4,8 @@ ghost use Rattle.std.specs.Prelude.{◌≡◌};
 ghost use Rattle.std.specs.Str.{str_eq_ignore_ascii_case};
 ghost use Rattle.esi_vars.specs.Field as spec;
 
-use crate::field::{first_part, halves, trimmed};
+use crate::field::{first_part, halves};
+use edge_types::trimmed;
 
 /// `true` where a part of the field names the language, ASCII case aside, or nothing.
 pub(crate) fn language_value(language: &[u8], field: &[u8]) -> &'static [u8]

@@ -1,6 +1,7 @@
 //! Laws that tie the definitions together. Each function's clauses are its laws; none of them does anything.
 
-ghost use Rattle.esi_vars.specs.Laws.{ReadsReferences, PartsSpell, PartsAreOne, SubstitutesText, CutsFields, TrimsTexts, CutsOnce, LooksUp, FindsTheFirst, FindsNone};
+ghost use Rattle.edge_types.specs.Trimming.{TrimsTexts};
+ghost use Rattle.esi_vars.specs.Laws.{ReadsReferences, PartsSpell, PartsAreOne, SubstitutesText, CutsFields, CutsOnce, LooksUp, FindsTheFirst, FindsNone};
 
 /// A reference is read at the front of a text, with what follows it, exactly where one is spelled there.
 pub fn references_are_read()

@@ -13,7 +13,8 @@ pub mod reference;
 pub mod values;
 mod written;
 
-pub use bytes::{after_byte, cut_at};
+pub use bytes::after_byte;
+pub use edge_types::around as cut_at;
 pub use part::{Part, parts, substitute, substitute_within};
 pub use reference::{Reference, Variable, reference_at};
 pub use values::value;

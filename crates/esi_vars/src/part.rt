@@ -5,11 +5,10 @@ ghost use Rattle.esi_vars.specs.Parts.{parts_of, next_reference, text_part};
 ghost use Rattle.esi_vars.specs.Shown.{shown_next};
 ghost use Rattle.esi_vars.specs.Values.{part_value, substituted, within};
 
-use crate::bytes::find_byte;
 use crate::reference::{Reference, owned};
 use crate::values::value;
 use crate::written::{Written, written_at};
-use edge_types::{NoMemory, Request, SharedBytes};
+use edge_types::{NoMemory, Request, SharedBytes, find_byte};
 use std::alloc::Global;
 
 /// The byte with which each reference begins.

@@ -4,7 +4,8 @@ ghost use Rattle.std.specs.Prelude.{◌≡◌};
 ghost use Rattle.esi_vars.specs.Reading.{quoted_key_at, key_text_at, braced_key_at, key_at, default_text_at, barred_default_at, default_at, body_at, written_at};
 ghost use Rattle.esi_vars.specs.Shown.{shown_run, shown_optional, shown_found};
 
-use crate::bytes::{ByteClass, after_byte, cut_at, run_at};
+use crate::bytes::{ByteClass, after_byte, run_at};
+use edge_types::around;
 
 /// The quotation mark round keys and defaults.
 const QUOTE: u8 = b'\'';
@@ -105,7 +106,7 @@ fn default_text_at(text: &[u8]) -> Option<(&[u8], &[u8])>
     ensures { shown_run result ≡ default_text_at text.now }
 {
     match text {
-        [QUOTE, rest @ ..] => cut_at(QUOTE, rest),
+        [QUOTE, rest @ ..] => around(QUOTE, rest),
         _ => run_at(ByteClass::Default, text),
     }
 }

@@ -14,13 +14,14 @@ use Rattle.surrogate_headers.specs.declared.directive.Name.TheVariants as name
 use Rattle.surrogate_headers.specs.declared.directive.Asks.{Asks}
 use Rattle.surrogate_headers.specs.declared.directive.Asks.TheVariants.{NoStore, MaxAge, Content}
 use Rattle.surrogate_headers.specs.Token.{is_token_byte, is_token}
-use Rattle.surrogate_headers.specs.Cut.{is_blank, skip_blanks}
+use Rattle.edge_types.specs.Blanks.{is_blank, skip_blanks}
 use Rattle.edge_types.specs.WhiteSpace.{is_ws}
 use Rattle.edge_types.specs.Halves.{around}
 use Rattle.surrogate_headers.specs.Parameter.{ends_value, bare_value, value_after_equals, value_at, seconds_of, age, age_around, age_of, names_esi}
 use Rattle.surrogate_headers.specs.Directive.{Target, Every, Device, Directive, ends_name, name_of, asked_by, token_behind, target_of, directive_of}
 use Rattle.surrogate_headers.specs.Spelling.{EachPasses, NonePasses, IsNamed, SpellsValue, SpellsSeconds, SpellsAge, SpellsParameter, SpellsAsks, SpellsTarget, Spells}
 use Rattle.surrogate_headers.proofs.RunLemmas.{run_stops, stops_at, around-spelled, around-none}
+use Rattle.edge_types.proofs.TrimLemmas.{skip_run}
 
 seconds_of-spelled : (digits : List ℕ) (n : ℕ) → SpellsSeconds digits n → seconds_of digits ≡ Some n
 unfolding seconds_of
@@ -146,12 +147,6 @@ skip_none [] is = refl
 skip_none (b ∷ bs) is =
     let each = (and_parts (ltb 0 (length (b ∷ bs))) (list_all is_token_byte (b ∷ bs)) is).1 in
     cond-false (is_blank b) (skip_blanks bs) (b ∷ bs) (no_blank b (and_parts (is_token_byte b) (list_all is_token_byte bs) each).0)
-
-skip_run : (blanks text : List ℕ) → EachPasses is_blank blanks → skip_blanks (blanks ++ text) ≡ skip_blanks text
-skip_run [] text each = refl
-skip_run (b ∷ bs) text each =
-    let here = and_parts (is_blank b) (list_all is_blank bs) each in
-    cond-true (is_blank b) (skip_blanks (bs ++ text)) (b ∷ (bs ++ text)) here.0 ∙ skip_run bs text here.1
 
 token_behind-spelled : (after token : List ℕ) → EachPasses is_blank after → is_token token ≡ true → token_behind (59 ∷ (after ++ token)) ≡ Some (Device token)
 token_behind-spelled after token each is =

@@ -11,7 +11,7 @@ use Rattle.surrogate_headers.specs.declared.found.Aim.{Aim}
 use Rattle.surrogate_headers.specs.declared.found.Aim.TheVariants.{Here, Anywhere}
 use Rattle.surrogate_headers.specs.declared.found.Choice.{Choice}
 use Rattle.surrogate_headers.specs.declared.found.Found.{Found}
-use Rattle.surrogate_headers.specs.Cut.{trimmed}
+use Rattle.edge_types.specs.Blanks.{trimmed}
 use Rattle.surrogate_headers.specs.Directive.{Target, Every, Device, Directive, directive_of}
 use Rattle.surrogate_headers.specs.Control.{directives_among, is_aimed_at, is_unaimed, age_asked, esi_asked, first_said, forbids_storing, control_by}
 use Rattle.surrogate_headers.specs.Found.{aim_of, nothing, noted, settled_choice, settled}

@@ -5,4 +5,3 @@ pub mod RunLemmas
 pub mod Complete
 pub mod Sound
 pub mod Parted
-pub mod Trimmed

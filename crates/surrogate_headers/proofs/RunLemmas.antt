@@ -1,13 +1,12 @@
 -- Runs of bytes at the front of a text.
-use Rattle.std.proofs.Common.{◌≡◌, ℕ, suc, ◌+◌, ◌<◌, Bool, true, false, not, cond, eqb, ltb, List, [], ◌∷◌, ◌++◌, length, get_or, take, drop, Option, Some, None, refl, ap, ◌∙◌, arith, add-one}
+use Rattle.std.proofs.Common.{◌≡◌, ℕ, ◌+◌, ◌<◌, Bool, true, false, not, cond, eqb, ltb, List, [], ◌∷◌, ◌++◌, length, take, drop, Option, Some, None, refl, ap, ◌∙◌, arith}
 use Rattle.std.specs.Prelude.{position, option_map, option_and_then}
 use Rattle.std.specs.List.{list_all, position_or_len}
-use Rattle.std.proofs.lemmas.Bool.{and_parts, lt-ltb, le-ltb, ltb-true, cond-true, eqb-true, eq-eqb, not_from_false}
-use Rattle.std.proofs.lemmas.List.{length-append, get_or-take, length-take}
-use Rattle.std.proofs.lemmas.List.Sums.{list_all-from_AllPass, fails_before_first, passes_at_first, split_at_first}
-use Rattle.std.proofs.lemmas.Option.{some_pair_parts}
-use Rattle.std.proofs.Math.Seq.{take-append_seam}
+use Rattle.std.proofs.lemmas.Bool.{and_parts, le-ltb, cond-true, not_from_false}
+use Rattle.std.proofs.lemmas.List.{get_or-take, length-take}
+use Rattle.std.proofs.lemmas.List.Sums.{list_all-from_AllPass, AllPass-from_list_all, fails_before_first}
 use Rattle.edge_types.specs.Halves.{around}
+use Rattle.edge_types.proofs.HalvesLemmas.{around_sound, around_again}
 use Rattle.surrogate_headers.specs.Spelling.{NonePasses}
 
 -- a value that a chain of steps gave
@@ -45,21 +44,8 @@ run_passes p xs =
 pub stops_at : (p : ℕ → Bool) (x : ℕ) (xs : List ℕ) → p x ≡ true → position_or_len p (x ∷ xs) ≡ 0
 stops_at p x xs e = ap (λ t. cond (not t) (1 + position_or_len p xs) 0) e
 
-drop_past : (xs : List ℕ) (m : ℕ) (ys : List ℕ) → drop (suc (length xs)) (xs ++ m ∷ ys) ≡ ys
-drop_past [] m ys = refl
-drop_past (x ∷ xs) m ys = drop_past xs m ys
-
 pub around-spelled : (mark : ℕ) (xs ys : List ℕ) → NonePasses (λ b. eqb b mark) xs → around mark (xs ++ mark ∷ ys) ≡ Some (xs, ys)
-unfolding around
-around-spelled mark xs ys none =
-    let is : ℕ → Bool = λ b. eqb b mark in
-    let text = xs ++ mark ∷ ys in
-    let at : position_or_len is text ≡ length xs = run_stops is xs (mark ∷ ys) none (stops_at is mark ys (eq-eqb mark mark refl)) in
-    let inside : ltb (length xs) (length text) ≡ true = lt-ltb (length xs) (length text) (omega (arith, length-append xs (mark ∷ ys))) in
-    let place : position is text ≡ Some (length xs) = rw (at, inside) refl in
-    let cut = take-append_seam xs (mark ∷ ys) in
-    let rest : drop (length xs + 1) text ≡ ys = rw add-one (drop_past xs mark ys) in
-    ap (option_map (λ n. (take n text, drop (n + 1) text))) place ∙ (λ i. Some (cut i, rest i))
+around-spelled mark xs ys none = around_again mark xs ys (AllPass-from_list_all (λ b. not (eqb b mark)) xs none)
 
 pub around-none : (mark : ℕ) (xs : List ℕ) → NonePasses (λ b. eqb b mark) xs → around mark xs ≡ None
 unfolding around
@@ -75,21 +61,7 @@ pub record Around (mark : ℕ) (text xs ys : List ℕ) : Type 0 where
   pub joined : text ≡ xs ++ mark ∷ ys
   pub none : NonePasses (λ b. eqb b mark) xs
 
-around_found : (mark : ℕ) (text : List ℕ) → position_or_len (λ b. eqb b mark) text < length text
-    → Around mark text (take (position_or_len (λ b. eqb b mark) text) text) (drop (position_or_len (λ b. eqb b mark) text + 1) text)
-around_found mark text inside =
-    let is : ℕ → Bool = λ b. eqb b mark in
-    let n = position_or_len is text in
-    let same : get_or text n 0 ≡ mark = eqb-true _ mark (passes_at_first is text 0 inside) in
-    record { joined = split_at_first is text 0 inside ∙ ap (λ (m : ℕ). take n text ++ m ∷ drop (n + 1) text) same; none = run_passes is text }
-
-around_by_place : (mark : ℕ) (text xs ys : List ℕ) (t : Bool) → ltb (position_or_len (λ b. eqb b mark) text) (length text) ≡ t
-    → option_map {U = List ℕ × List ℕ} (λ k. (take k text, drop (k + 1) text)) (cond t (Some (position_or_len (λ b. eqb b mark) text)) None) ≡ Some (xs, ys) → Around mark text xs ys
-around_by_place mark text xs ys true at h =
-    let both = some_pair_parts _ xs _ ys h in
-    rw (← both.0, ← both.1) (around_found mark text (ltb-true _ (length text) at))
-around_by_place mark text xs ys false at h = absurd (cc)
-
 pub around-sound : (mark : ℕ) (text xs ys : List ℕ) → around mark text ≡ Some (xs, ys) → Around mark text xs ys
-unfolding around
-around-sound mark text xs ys e = around_by_place mark text xs ys (ltb (position_or_len (λ b. eqb b mark) text) (length text)) refl e
+around-sound mark text xs ys e =
+    let (all, joined) = around_sound mark text xs ys e in
+    record { joined = joined; none = list_all-from_AllPass (λ b. not (eqb b mark)) xs all }

@@ -6,7 +6,8 @@ use Rattle.edge_types.specs.declared.control.Control.{Control}
 use Rattle.surrogate_headers.specs.declared.parameter.Age.{Age}
 use Rattle.surrogate_headers.specs.declared.directive.Asks.{Asks}
 use Rattle.surrogate_headers.specs.declared.directive.Asks.TheVariants.{NoStore, MaxAge, Content}
-use Rattle.surrogate_headers.specs.Cut.{parts_of, trimmed}
+use Rattle.edge_types.specs.Blanks.{trimmed}
+use Rattle.surrogate_headers.specs.Cut.{parts_of}
 use Rattle.surrogate_headers.specs.Directive.{Target, Every, Device, Directive, directive_of}
 
 -- the directives among the parts, in order; a part that is none is passed over

@@ -1,5 +1,5 @@
 -- How the value of a header is cut into parts.
-use Rattle.std.specs.Prelude.{ℕ, Bool, true, false, not, ◌||◌, ◌==◌, List, [], ◌∷◌, reverse, Option, Some, None, if◌then◌else◌}
+use Rattle.std.specs.Prelude.{ℕ, Bool, true, false, not, ◌==◌, List, [], ◌∷◌, Option, Some, None, if◌then◌else◌}
 use Rattle.std.specs.List.{onto_first}
 use Rattle.std.specs.Borrow.{Bor}
 use Rattle.std.specs.Str.{byte}
@@ -10,19 +10,6 @@ abbrev pub parts_from : Bool → List ℕ → List (List ℕ)
 parts_from quoted [] = [] ∷ []
 parts_from true (b ∷ bs) = onto_first b (parts_from (not (b == byte "\"")) bs)
 parts_from false (b ∷ bs) = if b == byte "," then [] ∷ parts_from false bs else onto_first b (parts_from (b == byte "\"") bs)
-
--- a space or a tab
-abbrev pub is_blank : ℕ → Bool
-is_blank b = b == byte " " || b == byte "\t"
-
--- the text from its first byte on that is no blank
-abbrev pub skip_blanks : List ℕ → List ℕ
-skip_blanks [] = []
-skip_blanks (b ∷ bs) = if is_blank b then skip_blanks bs else b ∷ bs
-
--- the text without the blanks at its ends
-unfoldable pub trimmed : List ℕ → List ℕ
-trimmed text = reverse (skip_blanks (reverse (skip_blanks text)))
 
 -- the parts of a value: it is cut at each comma outside quotes
 unfoldable pub parts_of : List ℕ → List (List ℕ)

@@ -6,4 +6,3 @@ pub mod Control
 pub mod Found
 pub mod Spelling
 pub mod Parting
-pub mod Trimming

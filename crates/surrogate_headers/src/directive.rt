@@ -7,8 +7,8 @@ ghost use Rattle.surrogate_headers.specs.Directive as spec;
 ghost use Rattle.surrogate_headers.specs.Directive.{name_of, asked_by, token_behind, target_of, directive_of, shown_asked, shown_target, shown_directive};
 
 use crate::parameter::{Age, age_of, names_esi, value_at};
-use crate::parts::{is_blank, skip_blanks};
 use crate::token::is_token;
+use edge_types::{is_blank, skip_blanks};
 
 // The names that count; `no-store-remote` counts as `no-store`.
 #[derive(Clone, Copy, Drop)]

@@ -1,8 +1,7 @@
 // The parts of a header's value, one after another.
-ghost use Rattle.std.specs.Prelude.{◌≡◌, ◌∷◌, reverse};
+ghost use Rattle.std.specs.Prelude.{◌≡◌, ◌∷◌};
 ghost use Rattle.std.specs.Iterator.{YieldsFirstRef, item_count};
-ghost use Rattle.surrogate_headers.specs.Cut as spec;
-ghost use Rattle.surrogate_headers.specs.Cut.{parts_of, parts_after, parts_left, skip_blanks};
+ghost use Rattle.surrogate_headers.specs.Cut.{parts_of, parts_after, parts_left};
 
 /// The parts of a value that are still to come: it is cut at each comma outside quotes.
 #[derive(Drop)]
@@ -45,42 +44,4 @@ fn first_part(value: &[u8]) -> (&[u8], Option<&[u8]>)
         }
     }
     (value, None)
-}
-
-pub(crate) fn is_blank(byte: u8) -> bool
-    ensures { result ≡ spec.is_blank byte }
-{
-    matches!(byte, b' ' | b'\t')
-}
-
-// The text from its first byte on that is no blank.
-pub(crate) fn skip_blanks(mut text: &[u8]) -> &[u8]
-    ensures { result.now ≡ skip_blanks text.now }
-{
-    while let [first, rest @ ..] = text
-        && is_blank(*first)
-    {
-        text = rest;
-    }
-    text
-}
-
-// The text up to its last byte that is no blank.
-fn skip_last_blanks(mut text: &[u8]) -> &[u8]
-    ensures { result.now ≡ reverse (skip_blanks (reverse text.now)) }
-{
-    while let [rest @ .., last] = text
-        && is_blank(*last)
-    {
-        text = rest;
-    }
-    text
-}
-
-// The text without the blanks at its ends.
-#[tactic(auto, unfolding(crate::specs::Cut::trimmed))]
-pub(crate) fn trimmed(text: &[u8]) -> &[u8]
-    ensures { result.now ≡ spec.trimmed text.now }
-{
-    skip_last_blanks(skip_blanks(text))
 }

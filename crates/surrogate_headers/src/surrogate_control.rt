@@ -5,8 +5,8 @@ ghost use Rattle.surrogate_headers.specs.Found.{settled};
 
 use crate::directive::directive_of;
 use crate::found::{Found, aim_of};
-use crate::parts::{Parts, trimmed};
-use edge_types::Control;
+use crate::parts::Parts;
+use edge_types::{Control, trimmed};
 
 /// Reads what the value of a `Surrogate-Control` header asks of a device.
 ///

@@ -1,6 +1,7 @@
 use Rattle.std.proofs.Common.{◌≡◌, map, ◌∷◌, sym, ap, ◌∙◌}
 use Rattle.std.specs.Option.{option_copied}
-use Rattle.esi_vars.specs.Field.{named, trimmed, parts_between}
+use Rattle.edge_types.specs.Blanks.{trimmed}
+use Rattle.esi_vars.specs.Field.{named, parts_between}
 use Rattle.esi_vars.specs.Shown.{parts_left}
 use Rattle.esi_vars.proofs.FieldLemmas.{named_found, named_later, named_none, cookie_starts}
 use Rattle.esi_vars.proofs.cookie.cookie_value.Goals as goal

@@ -1,6 +1,7 @@
 use Rattle.std.proofs.Common.{◌≡◌, map}
 use Rattle.std.specs.Option.{option_copied}
-use Rattle.esi_vars.specs.Field.{named, trimmed, cookie_value}
+use Rattle.edge_types.specs.Blanks.{trimmed}
+use Rattle.esi_vars.specs.Field.{named, cookie_value}
 use Rattle.esi_vars.specs.Shown.{parts_left}
 use Rattle.esi_vars.proofs.FieldLemmas.{len_left}
 use Rattle.esi_vars.proofs.cookie.cookie_value.Given as goal

@@ -1,4 +1,5 @@
-use Rattle.esi_vars.proofs.FieldTheorems.{cuts_fields, trims_texts, cuts_once}
+use Rattle.edge_types.proofs.TrimLemmas.{trims_texts}
+use Rattle.esi_vars.proofs.FieldTheorems.{cuts_fields, cuts_once}
 use Rattle.esi_vars.proofs.laws.fields_are_cut.Goals as goal
 
 pub returns-clause-parts : goal.returns-clause-parts

@@ -1,6 +1,6 @@
-use Rattle.std.proofs.Common.{◌≡◌, ◌≤◌, ◌+◌, ◌-◌, ◌++◌, length, drop, refl, sym, ap, ◌∙◌, arith}
+use Rattle.std.proofs.Common.{◌+◌, ◌-◌, ◌++◌, length, drop, refl, sym, ap, ◌∙◌, arith}
 use Rattle.esi_vars.specs.Parts.{parts_of, text_part}
-use Rattle.esi_vars.proofs.PartsLemmas.{Within, next_within, rest_of, parts_turn, parts_end}
+use Rattle.esi_vars.proofs.PartsLemmas.{next_within, rest_of, parts_turn, parts_end}
 use Rattle.esi_vars.proofs.part.parts.Goals as goal
 
 pub push_text-requires-clause-within : goal.push_text-requires-clause-within

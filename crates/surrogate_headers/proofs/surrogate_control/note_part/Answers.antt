@@ -1,5 +1,5 @@
 use Rattle.std.proofs.Common.{◌≡◌, Some, sym, ap, ◌∙◌}
-use Rattle.surrogate_headers.specs.Cut.{trimmed}
+use Rattle.edge_types.specs.Blanks.{trimmed}
 use Rattle.surrogate_headers.specs.Directive.{directive_of, shown_directive, shown_target}
 use Rattle.surrogate_headers.specs.Control.{directives_among}
 use Rattle.surrogate_headers.specs.Found.{settled}

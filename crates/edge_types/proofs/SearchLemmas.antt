@@ -1,10 +1,8 @@
 -- What a search for a byte finds.
-use Rattle.std.proofs.Common.{◌≡◌, ℕ, ◌==◌, Bool, true, false, List, length, take, drop, Option, Some, None, refl, arith, lt-ltb, le-ltb}
+use Rattle.std.proofs.Common.{◌≡◌, ℕ, ◌==◌, Bool, true, false, List, length, Option, Some, None, refl, arith, lt-ltb, le-ltb}
 use Rattle.std.specs.List.{position, position_or_len}
 use Rattle.std.proofs.lemmas.List.Sums.{position_or_len_is}
-use Rattle.std.proofs.lemmas.List.{drop-drop}
 use Rattle.memchr.specs.Find.{IsFirstByte, is_byte}
-use Rattle.esi_vars.specs.Reading.{cut_at}
 
 -- what fails is false
 fails : (b : Bool) → (b ≡ true → ⊥) → b ≡ false
@@ -18,8 +16,3 @@ position_from_search c text None none =
 position_from_search c text (Some n) found =
     let at : position_or_len (λ b. b == c) text ≡ n = position_or_len_is (λ b. b == c) text n 0 (omega (arith, found.0.high)) (λ k h. fails _ (found.0.before k (omega arith) h)) (λ h. found.1) in
     rw (at, lt-ltb n (length text) found.0.high) refl
-
-pub cut_found : (c at : ℕ) (text before rest after : List ℕ) → Some at ≡ position (λ b. b == c) text → before ≡ take at text → rest ≡ drop at text → after ≡ drop 1 rest → Some (before, after) ≡ cut_at c text
-unfolding cut_at
-cut_found c at text before rest after found front back later =
-    rw (← found, front, later, back, drop-drop 1 at text) refl

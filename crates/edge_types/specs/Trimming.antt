@@ -1,15 +1,14 @@
 -- What is left of a text without the blanks at its ends, told without a search.
 use Rattle.std.specs.Prelude.{◌≡◌, ◌↔◌, ℕ, false, List, [], ◌∷◌, ◌++◌}
-use Rattle.surrogate_headers.specs.Cut.{is_blank, trimmed}
-use Rattle.surrogate_headers.specs.Spelling.{EachPasses}
+use Rattle.edge_types.specs.Blanks.{is_blank, AreBlank, trimmed}
 
 -- the text is this one with blanks on both sides, and it neither begins nor ends with one
 pub record IsTrimmed (text middle : List ℕ) : Type 0 where
   pub left : List ℕ
   pub right : List ℕ
   pub whole : text ≡ left ++ (middle ++ right)
-  pub left_blank : EachPasses is_blank left
-  pub right_blank : EachPasses is_blank right
+  pub left_blank : AreBlank left
+  pub right_blank : AreBlank right
   pub begins : (first : ℕ) (rest : List ℕ) → middle ≡ first ∷ rest → is_blank first ≡ false
   pub ends : (front : List ℕ) (last : ℕ) → middle ≡ front ++ last ∷ [] → is_blank last ≡ false
 

@@ -1,6 +1,6 @@
 use Rattle.std.proofs.Common.{◌≡◌, length}
-use Rattle.surrogate_headers.specs.Cut.{skip_blanks}
-use Rattle.surrogate_headers.proofs.parts.skip_blanks.Given as goal
+use Rattle.edge_types.specs.Blanks.{skip_blanks}
+use Rattle.edge_types.proofs.blanks.skip_blanks.Given as goal
 
 abbrev pub invariant-loop-text : goal.invariant-loop-text
 invariant-loop-text l = skip_blanks l.text ≡ skip_blanks l.fn.text

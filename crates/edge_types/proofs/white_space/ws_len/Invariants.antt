@@ -1,6 +1,6 @@
 use Rattle.std.proofs.Common.{◌≡◌, ◌+◌, drop}
-use Rattle.esi_scanner.specs.Bytes.{ws_len}
-use Rattle.esi_scanner.proofs.bytes.ws_len.Given as goal
+use Rattle.edge_types.specs.WhiteSpace.{ws_len}
+use Rattle.edge_types.proofs.white_space.ws_len.Given as goal
 
 abbrev pub invariant-loop-i : goal.invariant-loop-i
 invariant-loop-i l = ws_len l.text ≡ l.i + ws_len (drop l.i l.text)

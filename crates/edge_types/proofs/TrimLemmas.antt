@@ -1,18 +1,17 @@
 -- A trimmed text is what stands between the blanks at its ends.
-use Rattle.std.proofs.Common.{◌≡◌, ℕ, Bool, true, false, ◌&&◌, List, [], ◌∷◌, ◌++◌, reverse, refl, sym, ap, ◌∙◌, subst, append_assoc}
+use Rattle.std.proofs.Common.{◌≡◌, ℕ, Bool, true, false, ◌&&◌, List, [], ◌∷◌, ◌++◌, reverse, refl, sym, ap, ◌∙◌, subst}
 use Rattle.std.specs.List.{list_all}
 use Rattle.std.proofs.lemmas.Bool.{and_parts}
 use Rattle.std.proofs.lemmas.List.{append-nil, reverse-append, reverse-reverse}
 use Rattle.std.proofs.lemmas.List.Folds.{list_all-append}
-use Rattle.surrogate_headers.specs.Cut.{is_blank, skip_blanks, trimmed}
-use Rattle.surrogate_headers.specs.Spelling.{EachPasses}
-use Rattle.surrogate_headers.specs.Trimming.{IsTrimmed, TrimsTexts}
+use Rattle.edge_types.specs.Blanks.{is_blank, AreBlank, skip_blanks, trimmed}
+use Rattle.edge_types.specs.Trimming.{IsTrimmed, TrimsTexts}
 
 -- the blanks that are passed over, and what begins with none
 record Skipped (text : List ℕ) : Type 0 where
   left : List ℕ
   whole : text ≡ left ++ skip_blanks text
-  blank : EachPasses is_blank left
+  blank : AreBlank left
   bare : (first : ℕ) (rest : List ℕ) → skip_blanks text ≡ first ∷ rest → is_blank first ≡ false
 
 skipped : (text : List ℕ) → Skipped text
@@ -34,7 +33,7 @@ skipped (b ∷ bs) = by_test (is_blank b) refl (skipped bs)
     }
 
 -- blanks are passed over, and a text that begins with none stays
-skip_run : (left text : List ℕ) → EachPasses is_blank left → skip_blanks (left ++ text) ≡ skip_blanks text
+pub skip_run : (left text : List ℕ) → AreBlank left → skip_blanks (left ++ text) ≡ skip_blanks text
 skip_run [] text all = refl
 skip_run (b ∷ bs) text all =
     let both = and_parts (is_blank b) (list_all is_blank bs) all in
@@ -44,7 +43,7 @@ stays : (text : List ℕ) → ((first : ℕ) (rest : List ℕ) → text ≡ firs
 stays [] bare = refl
 stays (b ∷ bs) bare = rw (bare b bs refl) refl
 
-each_reversed : (xs : List ℕ) → EachPasses is_blank xs → EachPasses is_blank (reverse xs)
+each_reversed : (xs : List ℕ) → AreBlank xs → AreBlank (reverse xs)
 each_reversed [] all = refl
 each_reversed (b ∷ bs) all =
     let both = and_parts (is_blank b) (list_all is_blank bs) all in
@@ -72,7 +71,7 @@ is_trimmed text =
     }
 
 -- what stands between blanks is what trimming leaves
-ends_again : (middle right : List ℕ) → EachPasses is_blank right → ((front : List ℕ) (last : ℕ) → middle ≡ front ++ last ∷ [] → is_blank last ≡ false) → reverse (skip_blanks (reverse (middle ++ right))) ≡ middle
+ends_again : (middle right : List ℕ) → AreBlank right → ((front : List ℕ) (last : ℕ) → middle ≡ front ++ last ∷ [] → is_blank last ≡ false) → reverse (skip_blanks (reverse (middle ++ right))) ≡ middle
 ends_again middle right all bare =
     ap (λ xs. reverse (skip_blanks xs)) (reverse-append middle right)
     ∙ ap reverse (skip_run (reverse right) (reverse middle) (each_reversed right all) ∙ stays (reverse middle) turned)
