@@ -19,7 +19,7 @@ pub const MAX_CONTENT_TYPE: usize = 256;
 pub const MAX_BODY: usize = 262_144;
 
 /// What came of asking a URL.
-#[derive(Drop)]
+#[derive(Drop, PartialEq, Eq)]
 pub enum Reply {
     /// Nothing could be had.
     Failed,
