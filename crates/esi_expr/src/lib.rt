@@ -5,10 +5,11 @@ mod comparison;
 pub mod expr;
 pub mod laws;
 mod number;
-mod part;
+pub mod part;
 pub mod reading;
 pub mod truth;
 
 pub use expr::{Comparison, Conjunction, Expr, Negation, Operand};
 pub use number::DIGIT_LIMIT;
+pub use part::{after_sign, after_ws, comparison_at, operand_at};
 pub use reading::{NESTING_LIMIT, parse};

@@ -4,7 +4,6 @@
 #![tactic(auto)]
 
 pub mod laws;
-mod part;
 mod stop;
 mod trouble;
 mod walk;

@@ -3,10 +3,9 @@ ghost use Rattle.std.specs.Prelude.{◌≡◌, ◌≤◌, suc, length, IfOk};
 ghost use Rattle.expr_check.specs.Walks as spec;
 ghost use Rattle.expr_check.specs.Shown.{Walks, shown_stop};
 
-use crate::part::{after_sign, after_ws, comparison_end, operand_end};
 use crate::stop::{Halt, Stop, Wanted};
 use edge_types::NoMemory;
-use esi_expr::NESTING_LIMIT;
+use esi_expr::{NESTING_LIMIT, after_sign, after_ws, comparison_at, operand_at};
 use std::alloc::Global;
 
 // An operand.
@@ -14,8 +13,8 @@ use std::alloc::Global;
 fn pass_operand(alloc: Global, text: &[u8]) -> Result<&[u8], Halt>
     ensures { Walks result (spec.operand_walk text.now) }
 {
-    match operand_end(alloc, text)? {
-        Some(rest) => Ok(rest),
+    match operand_at(alloc, text)? {
+        Some((_, rest)) => Ok(rest),
         None => Err(Halt::Stopped(Stop {
             wanted: Wanted::Operand,
             rest: after_ws(text),
@@ -29,8 +28,8 @@ fn pass_plain(alloc: Global, text: &[u8]) -> Result<&[u8], Halt>
     ensures { Walks result (spec.plain_walk text.now) }
 {
     let rest = pass_operand(alloc, text)?;
-    match comparison_end(rest) {
-        Some(behind) => pass_operand(alloc, behind),
+    match comparison_at(rest) {
+        Some((_, behind)) => pass_operand(alloc, behind),
         None => Ok(rest),
     }
 }
