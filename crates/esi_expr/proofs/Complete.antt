@@ -1,5 +1,5 @@
 -- What is spelled so is read.
-use Rattle.std.proofs.Common.{◌≡◌, ◌⊎◌, ℕ, zero, suc, ◌≤◌, ◌==◌, Bool, true, false, cond, List, [], ◌∷◌, ◌++◌, length, length-append, Option, Some, None, codes, refl, ◌∙◌, ap, inl, inr, append_assoc, arith}
+use Rattle.std.proofs.Common.{◌≡◌, ◌⊎◌, ℕ, zero, suc, ◌≤◌, ◌==◌, Bool, true, false, cond, List, [], ◌∷◌, ◌++◌, length, length-append, Some, None, Ok, codes, refl, ◌∙◌, ap, inl, inr, append_assoc, arith}
 use Rattle.std.specs.List.{AllPass, list_all, prefix_len}
 use Rattle.std.specs.Char.{is_ascii_digit}
 use Rattle.std.proofs.lemmas.Bool.{eqb-true, eq-eqb, ne_eqb}
@@ -16,7 +16,7 @@ use Rattle.esi_expr.specs.declared.expr.Operand.{Operand}
 use Rattle.esi_expr.specs.declared.expr.Operand.TheVariants as operand
 use Rattle.esi_expr.specs.Tree.{Test, Single, Or, Conj, Sole, And, Neg, Not, Group, Filled, Compared}
 use Rattle.esi_expr.specs.Numbers.{is_digit_count, are_digits, is_number}
-use Rattle.esi_expr.specs.Reading.{after_ws, after_sign, paired, alone, symbol_at, comparison_at, digits_at, operand_in, operand_at, plain_at, conj_with, test_with, neg_at}
+use Rattle.esi_expr.specs.Reading.{Found, after_ws, after_sign, paired, alone, symbol_at, comparison_at, digits_at, operand_in, operand_at, plain_at, conj_with, test_with, neg_at}
 use Rattle.esi_expr.specs.Spelling.{Padded, symbol, IsOperand, SpellsOperand, Spells, SpellsConj, SpellsNeg, nesting, conj_nesting, neg_nesting}
 use Rattle.esi_expr.proofs.NumberLemmas.{both, digit_at}
 use Rattle.esi_expr.proofs.ReadingLemmas.{Underway, underway_step, underway_end, conj_begun, test_begun}
@@ -322,7 +322,7 @@ symbol_no_digit comparison.Above rest = refl
 padded_no_digit : (bytes piece rest : List ℕ) → Padded bytes piece → prefix_len is_ascii_digit (bytes ++ rest) ≡ 0 → prefix_len is_ascii_digit (piece ++ rest) ≡ 0
 padded_no_digit bytes piece rest padded e = rw (sign_text bytes piece rest padded) (no_digit_white padded.0 (bytes ++ rest) padded.1 e)
 
-filled_again : (one : Operand) (piece rest : List ℕ) → SpellsOperand one piece → EndsNeg rest → plain_at (piece ++ rest) ≡ Some (Filled one, rest)
+filled_again : (one : Operand) (piece rest : List ℕ) → SpellsOperand one piece → EndsNeg rest → plain_at (piece ++ rest) ≡ Ok (Filled one, rest)
 unfolding plain_at
 filled_again one piece rest spelled ends = let none = ends.no_comparison in rw (operand_again one piece rest spelled ends.no_digit, none) refl
 
@@ -330,7 +330,7 @@ three : (piece a b c rest : List ℕ) → piece ≡ a ++ (b ++ c) → piece ++ r
 three piece a b c rest e = rw e (simp append_assoc)
 
 compared_again : (left : Operand) (by : Comparison) (right : Operand) (before sign after rest : List ℕ) → SpellsOperand left before → Padded (symbol by) sign → SpellsOperand right after → EndsNeg rest
-    → plain_at (before ++ (sign ++ (after ++ rest))) ≡ Some (Compared left by right, rest)
+    → plain_at (before ++ (sign ++ (after ++ rest))) ≡ Ok (Compared left by right, rest)
 unfolding plain_at
 compared_again left by right before sign after rest l padded r ends =
     let first = operand_again left before (sign ++ (after ++ rest)) l (padded_no_digit (symbol by) sign (after ++ rest) padded (symbol_no_digit by (after ++ rest))) in
@@ -339,10 +339,10 @@ compared_again left by right before sign after rest l padded r ends =
     rw (first, mid, last) refl
 
 -- a reader that reads what is spelled so, where a negation goes on no further
-abbrev pub Reads : ℕ → (List ℕ → Option (Neg × List ℕ)) → Type 0
-Reads n neg = (one : Neg) (piece rest : List ℕ) → SpellsNeg one piece → neg_nesting one ≤ n → EndsNeg rest → neg (piece ++ rest) ≡ Some (one, rest)
+abbrev pub Reads : ℕ → (List ℕ → Found Neg) → Type 0
+Reads n neg = (one : Neg) (piece rest : List ℕ) → SpellsNeg one piece → neg_nesting one ≤ n → EndsNeg rest → neg (piece ++ rest) ≡ Ok (one, rest)
 
-conj_under : (n : ℕ) (neg : List ℕ → Option (Neg × List ℕ)) → Reads n neg → (one : Conj) (piece rest : List ℕ) → SpellsConj one piece → conj_nesting one ≤ n → EndsNeg rest
+conj_under : (n : ℕ) (neg : List ℕ → Found Neg) → Reads n neg → (one : Conj) (piece rest : List ℕ) → SpellsConj one piece → conj_nesting one ≤ n → EndsNeg rest
     → Underway And 38 neg one rest (conj_with neg (piece ++ rest))
 conj_under n neg reads (Sole only) piece rest spelled few ends = conj_begun neg (piece ++ rest) rest only (reads only piece rest spelled few ends)
 conj_under n neg reads (And front last) piece rest (before, sign, after, f, padded, l, whole) few ends =
@@ -351,11 +351,11 @@ conj_under n neg reads (And front last) piece rest (before, sign, after, f, padd
     rw text (underway_step And 38 neg front last (sign ++ (after ++ rest)) (after ++ rest) rest (conj_with neg (before ++ (sign ++ (after ++ rest)))) under
     (sign_again 38 sign (after ++ rest) and_marks padded) (reads last after rest l (omega arith) ends) (omega (arith, length-append after rest)))
 
-conj_again : (n : ℕ) (neg : List ℕ → Option (Neg × List ℕ)) → Reads n neg → (one : Conj) (piece rest : List ℕ) → SpellsConj one piece → conj_nesting one ≤ n → EndsConj rest
-    → conj_with neg (piece ++ rest) ≡ Some (one, rest)
+conj_again : (n : ℕ) (neg : List ℕ → Found Neg) → Reads n neg → (one : Conj) (piece rest : List ℕ) → SpellsConj one piece → conj_nesting one ≤ n → EndsConj rest
+    → conj_with neg (piece ++ rest) ≡ Ok (one, rest)
 conj_again n neg reads one piece rest spelled few ends = underway_end And 38 neg one rest (conj_with neg (piece ++ rest)) (conj_under n neg reads one piece rest spelled few ends.neg) ends.no_and
 
-test_under : (n : ℕ) (neg : List ℕ → Option (Neg × List ℕ)) → Reads n neg → (one : Test) (piece rest : List ℕ) → Spells one piece → nesting one ≤ n → EndsConj rest
+test_under : (n : ℕ) (neg : List ℕ → Found Neg) → Reads n neg → (one : Test) (piece rest : List ℕ) → Spells one piece → nesting one ≤ n → EndsConj rest
     → Underway Or 124 (conj_with neg) one rest (test_with neg (piece ++ rest))
 test_under n neg reads (Single only) piece rest spelled few ends = test_begun neg (piece ++ rest) rest only (conj_again n neg reads only piece rest spelled few ends)
 test_under n neg reads (Or front last) piece rest (before, sign, after, f, padded, l, whole) few ends =
@@ -364,8 +364,8 @@ test_under n neg reads (Or front last) piece rest (before, sign, after, f, padde
     rw text (underway_step Or 124 (conj_with neg) front last (sign ++ (after ++ rest)) (after ++ rest) rest (test_with neg (before ++ (sign ++ (after ++ rest)))) under
     (sign_again 124 sign (after ++ rest) or_marks padded) (conj_again n neg reads last after rest l (omega arith) ends) (omega (arith, length-append after rest)))
 
-pub test_again : (n : ℕ) (neg : List ℕ → Option (Neg × List ℕ)) → Reads n neg → (one : Test) (piece rest : List ℕ) → Spells one piece → nesting one ≤ n → EndsTest rest
-    → test_with neg (piece ++ rest) ≡ Some (one, rest)
+pub test_again : (n : ℕ) (neg : List ℕ → Found Neg) → Reads n neg → (one : Test) (piece rest : List ℕ) → Spells one piece → nesting one ≤ n → EndsTest rest
+    → test_with neg (piece ++ rest) ≡ Ok (one, rest)
 test_again n neg reads one piece rest spelled few ends = underway_end Or 124 (conj_with neg) one rest (test_with neg (piece ++ rest)) (test_under n neg reads one piece rest spelled few ends.conj) ends.no_or
 
 two : (piece a b rest : List ℕ) → piece ≡ a ++ b → piece ++ rest ≡ a ++ (b ++ rest)

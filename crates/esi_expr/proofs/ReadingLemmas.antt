@@ -1,11 +1,16 @@
 -- Reading parts one after another, each behind a sign.
-use Rattle.std.proofs.Common.{◌≡◌, ℕ, zero, suc, ◌<◌, ◌≤◌, Bool, true, false, cond, List, [], ◌∷◌, ◌++◌, length, map, Option, Some, None, refl, sym, ap, arith}
+use Rattle.std.proofs.Common.{◌≡◌, ℕ, zero, suc, ◌<◌, ◌≤◌, Bool, true, false, cond, List, [], ◌∷◌, ◌++◌, length, map, Some, None, Result, Ok, Err, refl, sym, ap, subst, arith}
+use Rattle.std.specs.Borrow.{Bor}
 use Rattle.std.specs.List.{fold}
+use Rattle.std.specs.Result.{IsErrAnd}
 use Rattle.std.proofs.lemmas.Option.{cond_some}
 use Rattle.edge_types.specs.WhiteSpace.{is_ws}
 use Rattle.esi_vars.specs.Reading.{after_byte}
+use Rattle.esi_expr.specs.declared.stop.Halt.{Halt}
+use Rattle.esi_expr.specs.declared.stop.Halt.TheVariants as halt
+use Rattle.esi_expr.specs.Shown.{Stops, Finds}
 use Rattle.esi_expr.specs.Tree.{Single, Or, Conj, Sole, And, Neg}
-use Rattle.esi_expr.specs.Reading.{after_ws, after_sign, joined_at, conj_with, test_with}
+use Rattle.esi_expr.specs.Reading.{◌>>=◌, Stopped, Found, after_ws, after_sign, joined_at, conj_with, test_with}
 
 -- one more at the end
 pub pushed : {A B C : Type 0} (join : A → B → A) (f : C → B) (front : A) (xs : List C) (x : C) → fold join front (map f (xs ++ x ∷ [])) ≡ join (fold join front (map f xs)) (f x)
@@ -33,13 +38,13 @@ unfolding after_sign
 sign_shorter sign text rest e = omega (arith, byte_shorter sign (after_ws text) rest e, ws_shorter text)
 
 -- what has been read, and that reading on from it gives the whole
-pub record Underway {A B : Type 0} (join : A → B → A) (sign : ℕ) (next : List ℕ → Option (B × List ℕ)) (front : A) (rest : List ℕ) (whole : Option (A × List ℕ)) : Type 0 where
+pub record Underway {A B : Type 0} (join : A → B → A) (sign : ℕ) (next : List ℕ → Found B) (front : A) (rest : List ℕ) (whole : Found A) : Type 0 where
   pub n : ℕ
   pub enough : length rest ≤ n
   pub reads : joined_at join sign next n front rest ≡ whole
 
-step_by : {A B : Type 0} (join : A → B → A) (sign : ℕ) (next : List ℕ → Option (B × List ℕ)) (front : A) (last : B) (rest onward after : List ℕ) (whole : Option (A × List ℕ)) (n : ℕ)
-    → length rest ≤ n → joined_at join sign next n front rest ≡ whole → after_sign sign rest ≡ Some onward → next onward ≡ Some (last, after) → length after ≤ length onward
+step_by : {A B : Type 0} (join : A → B → A) (sign : ℕ) (next : List ℕ → Found B) (front : A) (last : B) (rest onward after : List ℕ) (whole : Found A) (n : ℕ)
+    → length rest ≤ n → joined_at join sign next n front rest ≡ whole → after_sign sign rest ≡ Some onward → next onward ≡ Ok (last, after) → length after ≤ length onward
     → Underway join sign next (join front last) after whole
 unfolding joined_at
 step_by join sign next front last rest onward after whole zero enough reads here found less = absurd (omega (arith, sign_shorter sign rest onward here))
@@ -50,54 +55,78 @@ step_by join sign next front last rest onward after whole (suc n) enough reads h
 }
 
 -- one more is read
-pub underway_step : {A B : Type 0} (join : A → B → A) (sign : ℕ) (next : List ℕ → Option (B × List ℕ)) (front : A) (last : B) (rest onward after : List ℕ) (whole : Option (A × List ℕ))
-    → Underway join sign next front rest whole → after_sign sign rest ≡ Some onward → next onward ≡ Some (last, after) → length after ≤ length onward
+pub underway_step : {A B : Type 0} (join : A → B → A) (sign : ℕ) (next : List ℕ → Found B) (front : A) (last : B) (rest onward after : List ℕ) (whole : Found A)
+    → Underway join sign next front rest whole → after_sign sign rest ≡ Some onward → next onward ≡ Ok (last, after) → length after ≤ length onward
     → Underway join sign next (join front last) after whole
 underway_step join sign next front last rest onward after whole u here found less = step_by join sign next front last rest onward after whole u.n u.enough u.reads here found less
 
 -- the same, where what was read is kept in a list
-pub underway_push : {A B C : Type 0} (join : A → B → A) (f : C → B) (first : A) (sign : ℕ) (next : List ℕ → Option (B × List ℕ)) (items : List C) (x : C) (new : List C) (rest onward after : List ℕ) (whole : Option (A × List ℕ))
-    → new ≡ items ++ x ∷ [] → Underway join sign next (fold join first (map f items)) rest whole → after_sign sign rest ≡ Some onward → next onward ≡ Some (f x, after) → length after ≤ length onward
+pub underway_push : {A B C : Type 0} (join : A → B → A) (f : C → B) (first : A) (sign : ℕ) (next : List ℕ → Found B) (items : List C) (x : C) (new : List C) (rest onward after : List ℕ) (whole : Found A)
+    → new ≡ items ++ x ∷ [] → Underway join sign next (fold join first (map f items)) rest whole → after_sign sign rest ≡ Some onward → next onward ≡ Ok (f x, after) → length after ≤ length onward
     → Underway join sign next (fold join first (map f new)) after whole
 underway_push join f first sign next items x new rest onward after whole is u here found less =
     rw (is, pushed join f first items x) (underway_step join sign next (fold join first (map f items)) (f x) rest onward after whole u here found less)
 
-fail_by : {A B : Type 0} (join : A → B → A) (sign : ℕ) (next : List ℕ → Option (B × List ℕ)) (front : A) (rest onward : List ℕ) (whole : Option (A × List ℕ)) (n : ℕ)
-    → length rest ≤ n → joined_at join sign next n front rest ≡ whole → after_sign sign rest ≡ Some onward → next onward ≡ None → whole ≡ None
+fail_by : {A B : Type 0} (join : A → B → A) (sign : ℕ) (next : List ℕ → Found B) (front : A) (rest onward : List ℕ) (whole : Found A) (n : ℕ) (stop : Halt)
+    → length rest ≤ n → joined_at join sign next n front rest ≡ whole → after_sign sign rest ≡ Some onward → Stops stop (next onward) → Stops stop whole
 unfolding joined_at
-fail_by join sign next front rest onward whole zero enough reads here none = absurd (omega (arith, sign_shorter sign rest onward here))
-fail_by join sign next front rest onward whole (suc n) enough reads here none = sym (rw (here, none) at reads)
+fail_by join sign next front rest onward whole n halt.NoMemory enough reads here stops = stops
+fail_by join sign next front rest onward whole zero (halt.Stopped stop) enough reads here stops = absurd (omega (arith, sign_shorter sign rest onward here))
+fail_by join sign next front rest onward whole (suc n) (halt.Stopped stop) enough reads here stops = sym (rw (here, stops) at reads)
 
 -- nothing can be read behind a sign
-pub underway_fail : {A B : Type 0} (join : A → B → A) (sign : ℕ) (next : List ℕ → Option (B × List ℕ)) (front : A) (rest onward : List ℕ) (whole : Option (A × List ℕ))
-    → Underway join sign next front rest whole → after_sign sign rest ≡ Some onward → next onward ≡ None → whole ≡ None
-underway_fail join sign next front rest onward whole u here none = fail_by join sign next front rest onward whole u.n u.enough u.reads here none
+pub underway_fail : {A B : Type 0} (join : A → B → A) (sign : ℕ) (next : List ℕ → Found B) (front : A) (rest onward : List ℕ) (whole : Found A) (stop : Halt)
+    → Underway join sign next front rest whole → after_sign sign rest ≡ Some onward → Stops stop (next onward) → Stops stop whole
+underway_fail join sign next front rest onward whole stop u here stops = fail_by join sign next front rest onward whole u.n stop u.enough u.reads here stops
 
-end_by : {A B : Type 0} (join : A → B → A) (sign : ℕ) (next : List ℕ → Option (B × List ℕ)) (front : A) (rest : List ℕ) (whole : Option (A × List ℕ)) (n : ℕ)
-    → joined_at join sign next n front rest ≡ whole → after_sign sign rest ≡ None → whole ≡ Some (front, rest)
+end_by : {A B : Type 0} (join : A → B → A) (sign : ℕ) (next : List ℕ → Found B) (front : A) (rest : List ℕ) (whole : Found A) (n : ℕ)
+    → joined_at join sign next n front rest ≡ whole → after_sign sign rest ≡ None → whole ≡ Ok (front, rest)
 unfolding joined_at
 end_by join sign next front rest whole zero reads none = sym reads
 end_by join sign next front rest whole (suc n) reads none = sym (rw none at reads)
 
 -- no sign follows
-pub underway_end : {A B : Type 0} (join : A → B → A) (sign : ℕ) (next : List ℕ → Option (B × List ℕ)) (front : A) (rest : List ℕ) (whole : Option (A × List ℕ))
-    → Underway join sign next front rest whole → after_sign sign rest ≡ None → whole ≡ Some (front, rest)
+pub underway_end : {A B : Type 0} (join : A → B → A) (sign : ℕ) (next : List ℕ → Found B) (front : A) (rest : List ℕ) (whole : Found A)
+    → Underway join sign next front rest whole → after_sign sign rest ≡ None → whole ≡ Ok (front, rest)
 underway_end join sign next front rest whole u none = end_by join sign next front rest whole u.n u.reads none
 
 -- the first has been read
-pub conj_begun : (neg : List ℕ → Option (Neg × List ℕ)) (text rest : List ℕ) (first : Neg) → neg text ≡ Some (first, rest) → Underway And 38 neg (Sole first) rest (conj_with neg text)
+pub conj_begun : (neg : List ℕ → Found Neg) (text rest : List ℕ) (first : Neg) → neg text ≡ Ok (first, rest) → Underway And 38 neg (Sole first) rest (conj_with neg text)
 unfolding conj_with
 conj_begun neg text rest first e = record { n = length rest; enough = omega arith; reads = rw e refl }
 
-pub test_begun : (neg : List ℕ → Option (Neg × List ℕ)) (text rest : List ℕ) (first : Conj) → conj_with neg text ≡ Some (first, rest) → Underway Or 124 (conj_with neg) (Single first) rest (test_with neg text)
+pub test_begun : (neg : List ℕ → Found Neg) (text rest : List ℕ) (first : Conj) → conj_with neg text ≡ Ok (first, rest) → Underway Or 124 (conj_with neg) (Single first) rest (test_with neg text)
 unfolding test_with
 test_begun neg text rest first e = record { n = length rest; enough = omega arith; reads = rw e refl }
 
 -- the first can't be read
-pub conj_none : (neg : List ℕ → Option (Neg × List ℕ)) (text : List ℕ) → neg text ≡ None → conj_with neg text ≡ None
+pub conj_stops : (neg : List ℕ → Found Neg) (text : List ℕ) (stop : Halt) → Stops stop (neg text) → Stops stop (conj_with neg text)
 unfolding conj_with
-conj_none neg text e = rw e refl
+conj_stops neg text halt.NoMemory stops = stops
+conj_stops neg text (halt.Stopped stop) stops = rw stops refl
 
-pub test_none : (neg : List ℕ → Option (Neg × List ℕ)) (text : List ℕ) → conj_with neg text ≡ None → test_with neg text ≡ None
+pub test_stops : (neg : List ℕ → Found Neg) (text : List ℕ) (stop : Halt) → Stops stop (conj_with neg text) → Stops stop (test_with neg text)
 unfolding test_with
-test_none neg text e = rw e refl
+test_stops neg text halt.NoMemory stops = stops
+test_stops neg text (halt.Stopped stop) stops = rw stops refl
+
+-- where a reader stops is handed on as it is
+pub handed_on : {A B : Type 0} (tree : A → B) (r : Result (A × Bor (List ℕ)) Halt) (stop : Halt) (found : Found B) → IsErrAnd r (λ e. e ≡ stop) → Stops stop found → Finds tree r found
+handed_on tree (Ok one) stop found same stops = absurd same
+handed_on tree (Err other) stop found same stops = subst (λ (s : Halt). Stops s found) (sym same) stops
+
+-- a reader that goes on behind another
+pub found_then : {A B P : Type 0} (next : A → Result B Stopped) (first : Result A Stopped) (y : B) → (first >>= next) ≡ Ok y → ((x : A) → first ≡ Ok x → next x ≡ Ok y → P) → P
+found_then next (Ok x) y e k = k x refl e
+found_then next (Err stop) y e k = absurd (cc)
+
+ok_or : {A : Type 0} → A → Result A Stopped → A
+ok_or x (Ok y) = y
+ok_or x (Err stop) = x
+
+pub same_ok : {A : Type 0} (a x : A) → ◌≡◌ {A = Result A Stopped} (Ok a) (Ok x) → a ≡ x
+unfolding ok_or
+same_ok a x e = ap (ok_or a) e
+
+pub ok_parts : {A : Type 0} (a x : A) (rest after : List ℕ) → ◌≡◌ {A = Found A} (Ok (a, rest)) (Ok (x, after)) → (a ≡ x) × (rest ≡ after)
+ok_parts {A} a x rest after e = let p = same_ok {A = A × List ℕ} (a, rest) (x, after) e in (ap (λ (q : A × List ℕ). q.0) p, ap (λ (q : A × List ℕ). q.1) p)

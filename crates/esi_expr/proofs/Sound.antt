@@ -1,15 +1,15 @@
 -- What is read is spelled so.
-use Rattle.std.proofs.Common.{◌≡◌, ℕ, zero, suc, ◌<◌, ◌≤◌, ◌==◌, Bool, true, false, ◌&&◌, cond, List, [], ◌∷◌, ◌++◌, length, take, drop, get_or, length-append, Option, Some, None, codes, refl, sym, ◌∙◌, ap, subst, append_assoc, arith}
+use Rattle.std.proofs.Common.{◌≡◌, ℕ, zero, suc, ◌<◌, ◌≤◌, ◌==◌, Bool, true, false, ◌&&◌, cond, List, [], ◌∷◌, ◌++◌, length, take, drop, get_or, length-append, Option, Some, None, Ok, codes, refl, sym, ◌∙◌, ap, subst, append_assoc, arith}
 use Rattle.std.specs.List.{AllPass, list_all, prefix_len}
 use Rattle.std.specs.Char.{is_ascii_digit}
 use Rattle.std.proofs.lemmas.Bool.{eqb-true}
 use Rattle.std.proofs.lemmas.List.{take-append-drop, get_or-take}
 use Rattle.std.proofs.lemmas.List.Folds.{length-prefix_len}
 use Rattle.std.proofs.lemmas.List.Sums.{list_all-from_AllPass, prefix_len_passes}
-use Rattle.std.proofs.lemmas.Option.{cond_some, option_and_then_some, some_pair_parts}
+use Rattle.std.proofs.lemmas.Option.{cond_some, some_pair_parts}
 use Rattle.esi_vars.specs.declared.reference.Reference.{Reference}
 use Rattle.edge_types.specs.WhiteSpace.{is_ws}
-use Rattle.esi_vars.specs.Reading.{◌>>=◌, after_byte, cut_at, reference_at}
+use Rattle.esi_vars.specs.Reading.{after_byte, cut_at, reference_at}
 use Rattle.esi_vars.proofs.Sound.{Stands, after_sound, cut_sound}
 use Rattle.esi_vars.proofs.Theorems.{reads_references}
 use Rattle.esi_expr.specs.declared.expr.Comparison.{Comparison}
@@ -18,12 +18,17 @@ use Rattle.esi_expr.specs.declared.expr.Operand.{Operand}
 use Rattle.esi_expr.specs.declared.expr.Operand.TheVariants as operand
 use Rattle.esi_expr.specs.Tree.{Test, Single, Or, Conj, Sole, And, Neg, Not, Group, Filled, Compared}
 use Rattle.esi_expr.specs.Numbers.{is_digit_count, are_digits, is_number}
-use Rattle.esi_expr.specs.Reading.{after_ws, after_sign, paired, alone, symbol_at, comparison_at, digits_at, referred, quoted, numbered, operand_in, operand_at, compared, plain_at, behind, joined_at, conj_with, test_with, closed, nested, neg_at}
+use Rattle.esi_expr.specs.Reading.{◌>>=◌, Found, after_ws, after_sign, paired, alone, symbol_at, comparison_at, digits_at, referred, quoted, numbered, operand_in, operand_at, operand_or, wanted_at, compared, plain_at, behind, joined_at, conj_with, test_with, closed, nested, neg_at}
 use Rattle.esi_expr.specs.Spelling.{Padded, symbol, IsOperand, SpellsOperand, Spells, SpellsConj, SpellsNeg, nesting, conj_nesting, neg_nesting}
+use Rattle.esi_expr.proofs.ReadingLemmas.{found_then, ok_parts}
 
 -- a reader that reads what has this fact
 abbrev pub IsSound : {A : Type 0} → (A → List ℕ → Type 0) → (List ℕ → Option (A × List ℕ)) → Type 0
 IsSound {A} P f = (text : List ℕ) (found : A) (rest : List ℕ) → f text ≡ Some (found, rest) → Stands (P found) text rest
+
+-- the same of a reader that says where it stops
+abbrev pub FindsSound : {A : Type 0} → (A → List ℕ → Type 0) → (List ℕ → Found A) → Type 0
+FindsSound {A} P f = (text : List ℕ) (found : A) (rest : List ℕ) → f text ≡ Ok (found, rest) → Stands (P found) text rest
 
 -- the same fact of what is equal
 pub same_stands : {A : Type 0} (P : A → List ℕ → Type 0) (text : List ℕ) (a b : A) (rest after : List ℕ) → (a ≡ b) × (rest ≡ after) → Stands (P a) text rest → Stands (P b) text after
@@ -171,6 +176,14 @@ operand_sound text found rest e =
     let padded = padded_at text s.piece rest s.whole in
     record { piece = padded.piece; is = (s.piece, s.is, padded.is); whole = padded.whole }
 
+wanted_by : (here text rest : List ℕ) (one : Operand) (o : Option (Operand × List ℕ)) → operand_at text ≡ o → operand_or here o ≡ Ok (one, rest) → Stands (SpellsOperand one) text rest
+wanted_by here text rest one None is e = absurd (cc)
+wanted_by here text rest one (Some x) is e =
+    same_stands SpellsOperand text x.0 one x.1 rest (ok_parts x.0 one x.1 rest e) (operand_sound text x.0 x.1 is)
+
+wanted_sound : FindsSound SpellsOperand wanted_at
+wanted_sound text found rest e = wanted_by (after_ws text) text rest found (operand_at text) refl e
+
 -- spelled so, with no more `!` and `(` than this round an operand
 abbrev pub ShallowNeg : ℕ → Neg → List ℕ → Type 0
 ShallowNeg n one piece = SpellsNeg one piece × (neg_nesting one ≤ n)
@@ -186,36 +199,36 @@ three : (text mid late rest a b c : List ℕ) → text ≡ a ++ mid → mid ≡ 
 three text mid late rest a b c e f g = rw (e, f, g) (simp append_assoc)
 
 compared_sound : (n : ℕ) (text : List ℕ) (left : Operand) (after : List ℕ) → Stands (SpellsOperand left) text after
-    → (o : Option (Comparison × List ℕ)) → comparison_at after ≡ o → (found : Neg) (rest : List ℕ) → compared left after o ≡ Some (found, rest) → Stands (ShallowNeg n found) text rest
+    → (o : Option (Comparison × List ℕ)) → comparison_at after ≡ o → (found : Neg) (rest : List ℕ) → compared left after o ≡ Ok (found, rest) → Stands (ShallowNeg n found) text rest
 compared_sound n text left after s None is found rest e =
-    let same = some_pair_parts (Filled left) found after rest e in
+    let same = ok_parts (Filled left) found after rest e in
     same_stands (ShallowNeg n) text (Filled left) found after rest same record { piece = s.piece; is = (s.is, omega arith); whole = s.whole }
-compared_sound n text left after s (Some x) is found rest e = option_and_then_some _ _ _ e (λ right read made.
-    let same = some_pair_parts (Compared left x.0 right.0) found right.1 rest made in
+compared_sound n text left after s (Some x) is found rest e = found_then _ _ _ e (λ right read made.
+    let same = ok_parts (Compared left x.0 right.0) found right.1 rest made in
     let sign = comparison_sound after x.0 x.1 is in
-    let last = operand_sound x.1 right.0 right.1 read in
+    let last = wanted_sound x.1 right.0 right.1 read in
     same_stands (ShallowNeg n) text (Compared left x.0 right.0) found right.1 rest same record {
       piece = s.piece ++ (sign.piece ++ last.piece);
       is = ((s.piece, sign.piece, last.piece, s.is, sign.is, last.is, refl), omega arith);
       whole = three text after x.1 right.1 s.piece sign.piece last.piece s.whole sign.whole last.whole;
     })
 
-plain_sound : (n : ℕ) → IsSound (ShallowNeg n) plain_at
+plain_sound : (n : ℕ) → FindsSound (ShallowNeg n) plain_at
 unfolding plain_at
-plain_sound n text found rest e = option_and_then_some _ _ _ e (λ left read more.
-    compared_sound n text left.0 left.1 (operand_sound text left.0 left.1 read) (comparison_at left.1) refl found rest more)
+plain_sound n text found rest e = found_then _ _ _ e (λ left read more.
+    compared_sound n text left.0 left.1 (wanted_sound text left.0 left.1 read) (comparison_at left.1) refl found rest more)
 
 -- one more behind a sign
 abbrev Glues : {A B : Type 0} → (A → B → A) → ℕ → (A → List ℕ → Type 0) → (B → List ℕ → Type 0) → Type 0
 Glues {A} {B} join sign P Q = (a : A) (b : B) (before mid after : List ℕ) → P a before → Padded (sign ∷ []) mid → Q b after → P (join a b) (before ++ (mid ++ after))
 
-joined_step : {A B : Type 0} (join : A → B → A) (sign : ℕ) (next : List ℕ → Option (B × List ℕ)) (onward : A → List ℕ → Option (A × List ℕ)) (P : A → List ℕ → Type 0) (Q : B → List ℕ → Type 0)
-    → Glues join sign P Q → IsSound Q next → (whole : List ℕ)
-    → ((a : A) (text : List ℕ) → Stands (P a) whole text → (found : A) (rest : List ℕ) → onward a text ≡ Some (found, rest) → Stands (P found) whole rest)
+joined_step : {A B : Type 0} (join : A → B → A) (sign : ℕ) (next : List ℕ → Found B) (onward : A → List ℕ → Found A) (P : A → List ℕ → Type 0) (Q : B → List ℕ → Type 0)
+    → Glues join sign P Q → FindsSound Q next → (whole : List ℕ)
+    → ((a : A) (text : List ℕ) → Stands (P a) whole text → (found : A) (rest : List ℕ) → onward a text ≡ Ok (found, rest) → Stands (P found) whole rest)
     → (a : A) (text : List ℕ) → Stands (P a) whole text → (o : Option (List ℕ)) → after_sign sign text ≡ o
-    → (found : A) (rest : List ℕ) → behind o (a, text) (λ r. next r >>= (λ x. onward (join a x.0) x.1)) ≡ Some (found, rest) → Stands (P found) whole rest
-joined_step join sign next onward P Q glue sound whole ih a text s None is found rest e = same_stands P whole a found text rest (some_pair_parts a found text rest e) s
-joined_step join sign next onward P Q glue sound whole ih a text s (Some r) is found rest e = option_and_then_some _ _ _ e (λ x read more.
+    → (found : A) (rest : List ℕ) → behind o (a, text) (λ r. next r >>= (λ x. onward (join a x.0) x.1)) ≡ Ok (found, rest) → Stands (P found) whole rest
+joined_step join sign next onward P Q glue sound whole ih a text s None is found rest e = same_stands P whole a found text rest (ok_parts a found text rest e) s
+joined_step join sign next onward P Q glue sound whole ih a text s (Some r) is found rest e = found_then _ _ _ e (λ x read more.
     let mid = sign_sound sign text r is in
     let last = sound r x.0 x.1 read in
     ih (join a x.0) x.1 record {
@@ -224,11 +237,11 @@ joined_step join sign next onward P Q glue sound whole ih a text s (Some r) is f
       whole = three whole text r x.1 s.piece mid.piece last.piece s.whole mid.whole last.whole;
     } found rest more)
 
-joined_sound : {A B : Type 0} (join : A → B → A) (sign : ℕ) (next : List ℕ → Option (B × List ℕ)) (P : A → List ℕ → Type 0) (Q : B → List ℕ → Type 0)
-    → Glues join sign P Q → IsSound Q next → (n : ℕ) (whole : List ℕ) (a : A) (text : List ℕ) → Stands (P a) whole text
-    → (found : A) (rest : List ℕ) → joined_at join sign next n a text ≡ Some (found, rest) → Stands (P found) whole rest
+joined_sound : {A B : Type 0} (join : A → B → A) (sign : ℕ) (next : List ℕ → Found B) (P : A → List ℕ → Type 0) (Q : B → List ℕ → Type 0)
+    → Glues join sign P Q → FindsSound Q next → (n : ℕ) (whole : List ℕ) (a : A) (text : List ℕ) → Stands (P a) whole text
+    → (found : A) (rest : List ℕ) → joined_at join sign next n a text ≡ Ok (found, rest) → Stands (P found) whole rest
 unfolding joined_at
-joined_sound join sign next P Q glue sound zero whole a text s found rest e = same_stands P whole a found text rest (some_pair_parts a found text rest e) s
+joined_sound join sign next P Q glue sound zero whole a text s found rest e = same_stands P whole a found text rest (ok_parts a found text rest e) s
 joined_sound join sign next P Q glue sound (suc n) whole a text s found rest e =
     joined_step join sign next (joined_at join sign next n) P Q glue sound whole (joined_sound join sign next P Q glue sound n whole) a text s (after_sign sign text) refl found rest e
 
@@ -238,26 +251,26 @@ and_glues n a b before mid after p sign q = ((before, mid, after, p.0, sign, q.0
 or_glues : (n : ℕ) → Glues Or 124 (Shallow n) (ShallowConj n)
 or_glues n a b before mid after p sign q = ((before, mid, after, p.0, sign, q.0, refl), omega (arith, p.1, q.1))
 
-pub conj_sound : (n : ℕ) (neg : List ℕ → Option (Neg × List ℕ)) → IsSound (ShallowNeg n) neg → IsSound (ShallowConj n) (conj_with neg)
+pub conj_sound : (n : ℕ) (neg : List ℕ → Found Neg) → FindsSound (ShallowNeg n) neg → FindsSound (ShallowConj n) (conj_with neg)
 unfolding conj_with
-conj_sound n neg sound text found rest e = option_and_then_some _ _ _ e (λ x read more.
+conj_sound n neg sound text found rest e = found_then _ _ _ e (λ x read more.
     let s = sound text x.0 x.1 read in
     joined_sound And 38 neg (ShallowConj n) (ShallowNeg n) (and_glues n) sound (length x.1) text (Sole x.0) x.1 record { piece = s.piece; is = s.is; whole = s.whole } found rest more)
 
-pub test_sound : (n : ℕ) (neg : List ℕ → Option (Neg × List ℕ)) → IsSound (ShallowNeg n) neg → IsSound (Shallow n) (test_with neg)
+pub test_sound : (n : ℕ) (neg : List ℕ → Found Neg) → FindsSound (ShallowNeg n) neg → FindsSound (Shallow n) (test_with neg)
 unfolding test_with
-test_sound n neg sound text found rest e = option_and_then_some _ _ _ e (λ x read more.
+test_sound n neg sound text found rest e = found_then _ _ _ e (λ x read more.
     let s = conj_sound n neg sound text x.0 x.1 read in
     joined_sound Or 124 (conj_with neg) (Shallow n) (ShallowConj n) (or_glues n) (conj_sound n neg sound) (length x.1) text (Single x.0) x.1 record { piece = s.piece; is = s.is; whole = s.whole } found rest more)
 
 two : (text mid rest a b : List ℕ) → text ≡ a ++ mid → mid ≡ b ++ rest → text ≡ (a ++ b) ++ rest
 two text mid rest a b e f = rw (e, f) (simp append_assoc)
 
-closed_sound : (n : ℕ) (text r inner_rest : List ℕ) (inner : Test) → Stands (Padded (codes "(")) text r → Stands (Shallow n inner) r inner_rest
-    → (o : Option (List ℕ)) → after_sign 41 inner_rest ≡ o → (found : Neg) (rest : List ℕ) → closed inner o ≡ Some (found, rest) → Stands (ShallowNeg (suc n) found) text rest
-closed_sound n text r inner_rest inner first s None is found rest e = absurd (cc)
-closed_sound n text r inner_rest inner first s (Some after) is found rest e =
-    let same = some_pair_parts (Group inner) found after rest e in
+closed_sound : (n : ℕ) (text r inner_rest here : List ℕ) (inner : Test) → Stands (Padded (codes "(")) text r → Stands (Shallow n inner) r inner_rest
+    → (o : Option (List ℕ)) → after_sign 41 inner_rest ≡ o → (found : Neg) (rest : List ℕ) → closed inner here o ≡ Ok (found, rest) → Stands (ShallowNeg (suc n) found) text rest
+closed_sound n text r inner_rest here inner first s None is found rest e = absurd (cc)
+closed_sound n text r inner_rest here inner first s (Some after) is found rest e =
+    let same = ok_parts (Group inner) found after rest e in
     let last = sign_sound 41 inner_rest after is in
     same_stands (ShallowNeg (suc n)) text (Group inner) found after rest same record {
       piece = first.piece ++ (s.piece ++ last.piece);
@@ -265,10 +278,10 @@ closed_sound n text r inner_rest inner first s (Some after) is found rest e =
       whole = three text r inner_rest after first.piece s.piece last.piece first.whole s.whole last.whole;
     }
 
-nested_sound : (n : ℕ) (neg : List ℕ → Option (Neg × List ℕ)) → IsSound (ShallowNeg n) neg → (text : List ℕ) (o p : Option (List ℕ)) → after_sign 33 text ≡ o → after_sign 40 text ≡ p
-    → (found : Neg) (rest : List ℕ) → nested o p text neg ≡ Some (found, rest) → Stands (ShallowNeg (suc n) found) text rest
-nested_sound n neg sound text (Some r) p is open_is found rest e = option_and_then_some _ _ _ e (λ x read made.
-    let same = some_pair_parts (Not x.0) found x.1 rest made in
+nested_sound : (n : ℕ) (neg : List ℕ → Found Neg) → FindsSound (ShallowNeg n) neg → (text : List ℕ) (o p : Option (List ℕ)) → after_sign 33 text ≡ o → after_sign 40 text ≡ p
+    → (found : Neg) (rest : List ℕ) → nested o p text neg ≡ Ok (found, rest) → Stands (ShallowNeg (suc n) found) text rest
+nested_sound n neg sound text (Some r) p is open_is found rest e = found_then _ _ _ e (λ x read made.
+    let same = ok_parts (Not x.0) found x.1 rest made in
     let sign = sign_sound 33 text r is in
     let s = sound r x.0 x.1 read in
     same_stands (ShallowNeg (suc n)) text (Not x.0) found x.1 rest same record {
@@ -276,11 +289,11 @@ nested_sound n neg sound text (Some r) p is open_is found rest e = option_and_th
       is = ((sign.piece, s.piece, sign.is, s.is.0, refl), omega (arith, s.is.1));
       whole = two text r x.1 sign.piece s.piece sign.whole s.whole;
     })
-nested_sound n neg sound text None (Some r) is open_is found rest e = option_and_then_some _ _ _ e (λ x read made.
-    closed_sound n text r x.1 x.0 (sign_sound 40 text r open_is) (test_sound n neg sound r x.0 x.1 read) (after_sign 41 x.1) refl found rest made)
+nested_sound n neg sound text None (Some r) is open_is found rest e = found_then _ _ _ e (λ x read made.
+    closed_sound n text r x.1 (after_ws x.1) x.0 (sign_sound 40 text r open_is) (test_sound n neg sound r x.0 x.1 read) (after_sign 41 x.1) refl found rest made)
 nested_sound n neg sound text None None is open_is found rest e = plain_sound (suc n) text found rest e
 
-pub neg_sound : (n : ℕ) → IsSound (ShallowNeg n) (neg_at n)
+pub neg_sound : (n : ℕ) → FindsSound (ShallowNeg n) (neg_at n)
 unfolding neg_at
 neg_sound zero text found rest e = plain_sound 0 text found rest e
 neg_sound (suc n) text found rest e = nested_sound n (neg_at n) (neg_sound n) text (after_sign 33 text) (after_sign 40 text) refl refl found rest e
@@ -289,8 +302,8 @@ neg_sound (suc n) text found rest e = nested_sound n (neg_at n) (neg_sound n) te
 stands_shorter : {P : List ℕ → Type 0} (text rest : List ℕ) → Stands P text rest → length rest ≤ length text
 stands_shorter text rest s = omega (arith, ap length s.whole, length-append s.piece rest)
 
-pub neg_shorter : (n : ℕ) (text rest : List ℕ) (found : Neg) → neg_at n text ≡ Some (found, rest) → length rest ≤ length text
+pub neg_shorter : (n : ℕ) (text rest : List ℕ) (found : Neg) → neg_at n text ≡ Ok (found, rest) → length rest ≤ length text
 neg_shorter n text rest found e = stands_shorter text rest (neg_sound n text found rest e)
 
-pub conj_shorter : (n : ℕ) (text rest : List ℕ) (found : Conj) → conj_with (neg_at n) text ≡ Some (found, rest) → length rest ≤ length text
+pub conj_shorter : (n : ℕ) (text rest : List ℕ) (found : Conj) → conj_with (neg_at n) text ≡ Ok (found, rest) → length rest ≤ length text
 conj_shorter n text rest found e = stands_shorter text rest (conj_sound n (neg_at n) (neg_sound n) text found rest e)

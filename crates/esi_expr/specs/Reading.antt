@@ -1,16 +1,19 @@
 -- A test, read from the left of a text.
-use Rattle.std.specs.Prelude.{ℕ, zero, suc, ◌==◌, List, [], ◌∷◌, ◌++◌, length, take, drop, codes, Option, Some, None, if◌then◌else◌}
+use Rattle.std.specs.Prelude.{ℕ, zero, suc, ◌==◌, List, [], ◌∷◌, ◌++◌, length, take, drop, codes, Option, Some, None, Result, Ok, Err, if◌then◌else◌}
 use Rattle.std.specs.Str.{byte}
 use Rattle.std.specs.Char.{is_ascii_digit}
 use Rattle.std.specs.List.{prefix_len}
+use Rattle.std.specs.Result.{result_ok}
 use Rattle.esi_vars.specs.declared.reference.Reference.{Reference}
 use Rattle.edge_types.specs.WhiteSpace.{is_ws}
-use Rattle.esi_vars.specs.Reading.{◌>>=◌, after_byte, cut_at, reference_at}
+use Rattle.esi_vars.specs.Reading.{after_byte, cut_at, reference_at}
 use Rattle.esi_expr.specs.declared.expr.Comparison.{Comparison}
 use Rattle.esi_expr.specs.declared.expr.Comparison.TheVariants as comparison
 use Rattle.esi_expr.specs.declared.expr.Operand.{Operand}
 use Rattle.esi_expr.specs.declared.expr.Operand.TheVariants as operand
 use Rattle.esi_expr.specs.declared.reading.TheConstants.{NESTING_LIMIT}
+use Rattle.esi_expr.specs.declared.stop.Wanted.{Wanted}
+use Rattle.esi_expr.specs.declared.stop.Wanted.TheVariants as wanted
 use Rattle.esi_expr.specs.Numbers.{is_digit_count}
 use Rattle.esi_expr.specs.Tree.{Test, Single, Or, Conj, Sole, And, Neg, Not, Group, Filled, Compared}
 
@@ -86,77 +89,103 @@ operand_in (b ∷ bs) = operand_by b bs (b ∷ bs)
 unfoldable pub operand_at : List ℕ → Option (Operand × List ℕ)
 operand_at text = operand_in (after_ws text)
 
+-- what is wanted where a text can't be read on, and the text from there on
+abbrev pub Stopped : Type 0
+Stopped = Wanted × List ℕ
+
+-- what a reader of tests finds: what it reads and what follows it, or where it stops
+abbrev pub Found : Type 0 → Type 0
+Found A = Result (A × List ℕ) Stopped
+
+-- what another reader gives, if the first goes on
+infixl 10 ◌>>=◌
+abbrev pub ◌>>=◌ : {A B : Type 0} → Result A Stopped → (A → Result B Stopped) → Result B Stopped
+Ok found >>= next = next found
+Err stop >>= next = Err stop
+
+-- an operand, which is wanted here
+abbrev pub operand_or : List ℕ → Option (Operand × List ℕ) → Found Operand
+operand_or here None = Err (wanted.Operand, here)
+operand_or here (Some found) = Ok found
+
+abbrev pub wanted_at : List ℕ → Found Operand
+wanted_at text = operand_or (after_ws text) (operand_at text)
+
 -- an operand alone, or compared with the one behind a comparison
-abbrev pub compared : Operand → List ℕ → Option (Comparison × List ℕ) → Option (Neg × List ℕ)
-compared left text None = Some (Filled left, text)
+abbrev pub compared : Operand → List ℕ → Option (Comparison × List ℕ) → Found Neg
+compared left text None = Ok (Filled left, text)
 compared left text (Some by) = do
-  right ← operand_at by.1
-  Some (Compared left by.0 right.0, right.1)
+  right ← wanted_at by.1
+  Ok (Compared left by.0 right.0, right.1)
 
 -- an operand, alone or compared
-unfoldable pub plain_at : List ℕ → Option (Neg × List ℕ)
+unfoldable pub plain_at : List ℕ → Found Neg
 plain_at text = do
-  left ← operand_at text
+  left ← wanted_at text
   compared left.0 left.1 (comparison_at left.1)
 
 -- reading on behind a sign, where it stands there
-abbrev pub behind : {A : Type 0} → Option (List ℕ) → A → (List ℕ → Option A) → Option A
-behind None here onward = Some here
+abbrev pub behind : {A : Type 0} → Option (List ℕ) → A × List ℕ → (List ℕ → Found A) → Found A
+behind None here onward = Ok here
 behind (Some rest) here onward = onward rest
 
 -- to what has been read, what follows it behind such signs, one after another; as many as the number at most
-unfoldable pub joined_at : {A B : Type 0} → (A → B → A) → ℕ → (List ℕ → Option (B × List ℕ)) → ℕ → A → List ℕ → Option (A × List ℕ)
-joined_at join sign next zero front text = Some (front, text)
+unfoldable pub joined_at : {A B : Type 0} → (A → B → A) → ℕ → (List ℕ → Found B) → ℕ → A → List ℕ → Found A
+joined_at join sign next zero front text = Ok (front, text)
 joined_at join sign next (suc n) front text =
     behind (after_sign sign text) (front, text) (λ rest. next rest >>= (λ found. joined_at join sign next n (join front found.0) found.1))
 
 -- negations with `&` between them, by a reader of negations
-unfoldable pub conj_with : (List ℕ → Option (Neg × List ℕ)) → List ℕ → Option (Conj × List ℕ)
+unfoldable pub conj_with : (List ℕ → Found Neg) → List ℕ → Found Conj
 conj_with neg text = do
   first ← neg text
   joined_at And (byte "&") neg (length first.1) (Sole first.0) first.1
 
 -- conjunctions with bars between them
-unfoldable pub test_with : (List ℕ → Option (Neg × List ℕ)) → List ℕ → Option (Test × List ℕ)
+unfoldable pub test_with : (List ℕ → Found Neg) → List ℕ → Found Test
 test_with neg text = do
   first ← conj_with neg text
   joined_at Or (byte "|") (conj_with neg) (length first.1) (Single first.0) first.1
 
--- a test in parentheses, at its end
-abbrev pub closed : Test → Option (List ℕ) → Option (Neg × List ℕ)
-closed inner None = None
-closed inner (Some rest) = Some (Group inner, rest)
+-- a test in parentheses, at its end, where the second one is wanted
+abbrev pub closed : Test → List ℕ → Option (List ℕ) → Found Neg
+closed inner here None = Err (wanted.Closing, here)
+closed inner here (Some rest) = Ok (Group inner, rest)
 
 -- behind `!`
-abbrev pub not_with : (List ℕ → Option (Neg × List ℕ)) → List ℕ → Option (Neg × List ℕ)
+abbrev pub not_with : (List ℕ → Found Neg) → List ℕ → Found Neg
 not_with neg text = do
   inner ← neg text
-  Some (Not inner.0, inner.1)
+  Ok (Not inner.0, inner.1)
 
 -- behind `(`
-abbrev pub group_with : (List ℕ → Option (Neg × List ℕ)) → List ℕ → Option (Neg × List ℕ)
+abbrev pub group_with : (List ℕ → Found Neg) → List ℕ → Found Neg
 group_with neg text = do
   inner ← test_with neg text
-  closed inner.0 (after_sign (byte ")") inner.1)
+  closed inner.0 (after_ws inner.1) (after_sign (byte ")") inner.1)
 
 -- by what follows `!` and what follows `(`, where they stand there
-abbrev pub nested : Option (List ℕ) → Option (List ℕ) → List ℕ → (List ℕ → Option (Neg × List ℕ)) → Option (Neg × List ℕ)
+abbrev pub nested : Option (List ℕ) → Option (List ℕ) → List ℕ → (List ℕ → Found Neg) → Found Neg
 nested (Some rest) parenthesis text neg = not_with neg rest
 nested None (Some rest) text neg = group_with neg rest
 nested None None text neg = plain_at text
 
 -- a negation with at most as many `!` and `(` round an operand as the number says
-unfoldable pub neg_at : ℕ → List ℕ → Option (Neg × List ℕ)
+unfoldable pub neg_at : ℕ → List ℕ → Found Neg
 neg_at zero text = plain_at text
 neg_at (suc n) text = nested (after_sign (byte "!") text) (after_sign (byte "(") text) text (neg_at n)
 
--- what was read, where nothing follows it
-abbrev pub ended : {A : Type 0} → A → List ℕ → Option A
-ended found [] = Some found
-ended found (b ∷ bs) = None
+-- what was read, where nothing follows it; else an operator is wanted
+abbrev pub ended : Test → List ℕ → Result Test Stopped
+ended found [] = Ok found
+ended found (b ∷ bs) = Err (wanted.Operator, b ∷ bs)
+
+-- the test that a text is, or where its reading stops
+abbrev pub reading : List ℕ → Result Test Stopped
+reading text = do
+  found ← test_with (neg_at NESTING_LIMIT) text
+  ended found.0 (after_ws found.1)
 
 -- the test that a text is
 unfoldable pub read_test : List ℕ → Option Test
-read_test text = do
-  found ← test_with (neg_at NESTING_LIMIT) text
-  ended found.0 (after_ws found.1)
+read_test text = result_ok (reading text)

@@ -1,12 +1,16 @@
 -- What contracts see of a test, which is its tree, and of what the readers return.
-use Rattle.std.specs.Prelude.{ℕ, List, Option, Some, None, fold}
+use Rattle.std.specs.Prelude.{◌≡◌, ℕ, List, Option, Some, None, Result, Ok, Err, fold}
 use Rattle.std.specs.Borrow.{Bor}
 use Rattle.esi_expr.specs.declared.expr.Expr.{Expr}
 use Rattle.esi_expr.specs.declared.expr.Conjunction.{Conjunction}
 use Rattle.esi_expr.specs.declared.expr.Negation.{Negation}
 use Rattle.esi_expr.specs.declared.expr.Negation.TheOpen as layer
 use Rattle.esi_expr.specs.declared.expr.Negation.TheFolds.{fold-Expr, fold-Conjunction, fold-Negation}
+use Rattle.esi_expr.specs.declared.stop.Stop.{Stop}
+use Rattle.esi_expr.specs.declared.stop.Halt.{Halt}
+use Rattle.esi_expr.specs.declared.stop.Halt.TheVariants as halt
 use Rattle.esi_expr.specs.Tree.{Test, Single, Or, Conj, Sole, And, Neg, Not, Group, Filled, Compared}
+use Rattle.esi_expr.specs.Reading.{Stopped, Found}
 
 -- conjunctions with bars between them
 abbrev pub any_of : Conj → List Conj → Test
@@ -38,12 +42,26 @@ conj_of = fold-Conjunction Neg Conj Test negation_step conjunction_step expr_ste
 abbrev pub test_of : Expr → Test
 test_of = fold-Expr Neg Conj Test negation_step conjunction_step expr_step
 
--- what a reader of the code returns: the tree that it read, and what follows it
-abbrev pub shown_by : {A B : Type 0} → (A → B) → Option (A × Bor (List ℕ)) → Option (B × List ℕ)
-shown_by tree None = None
-shown_by tree (Some found) = Some (tree found.0, found.1.now)
-
--- the same, where what was read is shown as it is
+-- what a reader of parts returns: what it read, and what follows it
 abbrev pub shown : {A : Type 0} → Option (A × Bor (List ℕ)) → Option (A × List ℕ)
 shown None = None
 shown (Some found) = Some (found.0, found.1.now)
+
+-- what is wanted, and the text from there on
+abbrev pub shown_stop : Stop → Stopped
+shown_stop stop = (stop.wanted, stop.rest.now)
+
+-- a reading stops just here, unless memory ran out
+abbrev pub Stops : {A : Type 0} → Halt → Result A Stopped → Type 0
+Stops (halt.Stopped stop) found = found ≡ Err (shown_stop stop)
+Stops halt.NoMemory found = Unit {0}
+
+-- what a reader of the code returns is this: the tree that it read, and what follows it
+abbrev pub Finds : {A B : Type 0} → (A → B) → Result (A × Bor (List ℕ)) Halt → Found B → Type 0
+Finds tree (Ok one) found = found ≡ Ok (tree one.0, one.1.now)
+Finds tree (Err stop) found = Stops stop found
+
+-- the same of a whole text
+abbrev pub FindsTest : Result Expr Halt → Result Test Stopped → Type 0
+FindsTest (Ok test) found = found ≡ Ok (test_of test)
+FindsTest (Err stop) found = Stops stop found

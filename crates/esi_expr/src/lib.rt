@@ -5,11 +5,12 @@ mod comparison;
 pub mod expr;
 pub mod laws;
 mod number;
-pub mod part;
+mod part;
 pub mod reading;
+pub mod stop;
 pub mod truth;
 
 pub use expr::{Comparison, Conjunction, Expr, Negation, Operand};
 pub use number::DIGIT_LIMIT;
-pub use part::{after_sign, after_ws, comparison_at, operand_at};
-pub use reading::{NESTING_LIMIT, parse};
+pub use reading::{NESTING_LIMIT, parse, read};
+pub use stop::{Halt, Stop, Wanted};

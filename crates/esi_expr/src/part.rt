@@ -1,4 +1,4 @@
-//! The parts of a test's text, each with the white space before it.
+// The parts of a test's text, each with the white space before it.
 
 ghost use Rattle.std.specs.Prelude.{◌≡◌, ◌≤◌, length, IfOk};
 ghost use Rattle.std.specs.Char.{is_ascii_digit};
@@ -19,7 +19,7 @@ use std::alloc::Global;
 const QUOTE: u8 = b'\'';
 
 /// What follows the white space at the front.
-pub fn after_ws(text: &[u8]) -> &[u8]
+pub(crate) fn after_ws(text: &[u8]) -> &[u8]
     ensures { result.now ≡ after_ws text.now }
 {
     let mut rest = text;
@@ -34,7 +34,7 @@ pub fn after_ws(text: &[u8]) -> &[u8]
 
 /// What follows this sign.
 #[tactic(auto, unfolding(crate::specs::Reading::after_sign))]
-pub fn after_sign(sign: u8, text: &[u8]) -> Option<&[u8]>
+pub(crate) fn after_sign(sign: u8, text: &[u8]) -> Option<&[u8]>
     ensures { option_copied result ≡ after_sign sign text.now }
 {
     after_byte(sign, after_ws(text))
@@ -66,7 +66,7 @@ fn alone(first: u8, rest: &[u8]) -> Option<(Comparison, &[u8])>
 
 /// The longest comparison, and what follows it.
 #[tactic(auto, unfolding(crate::specs::Reading::comparison_at))]
-pub fn comparison_at(text: &[u8]) -> Option<(Comparison, &[u8])>
+pub(crate) fn comparison_at(text: &[u8]) -> Option<(Comparison, &[u8])>
     ensures { shown result ≡ comparison_at text.now }
 {
     match after_ws(text) {
@@ -162,7 +162,7 @@ fn operand_by<'a>(
 
 /// An operand, and what follows it.
 #[tactic(auto, unfolding(crate::specs::Reading::operand_at))]
-pub fn operand_at(alloc: Global, text: &[u8]) -> Result<Option<(Operand, &[u8])>, NoMemory>
+pub(crate) fn operand_at(alloc: Global, text: &[u8]) -> Result<Option<(Operand, &[u8])>, NoMemory>
     ensures { IfOk result (λ found. shown found ≡ operand_at text.now) }
 {
     let text = after_ws(text);

@@ -1,12 +1,12 @@
-//! Reads tests. Each reader gives what it read and what follows it.
+//! Reads tests. Each reader gives what it read and what follows it, or where it stops.
 
-ghost use Rattle.std.specs.Prelude.{◌≡◌, ◌≤◌, suc, length, IfOk, IfSome, option_map};
-ghost use Rattle.std.specs.Option.{option_copied};
-ghost use Rattle.esi_expr.specs.Reading.{compared, plain_at, conj_with, test_with, not_with, group_with, closed, neg_at, ended, read_test, after_sign, after_ws};
-ghost use Rattle.esi_expr.specs.Shown.{shown, shown_by, test_of, conj_of, neg_of};
+ghost use Rattle.std.specs.Prelude.{◌≡◌, suc, IfOk, option_map};
+ghost use Rattle.esi_expr.specs.Reading as spec;
+ghost use Rattle.esi_expr.specs.Shown.{Finds, FindsTest, test_of, conj_of, neg_of};
 
 use crate::expr::{Conjunction, Expr, Negation, Operand};
 use crate::part::{after_sign, after_ws, comparison_at, operand_at};
+use crate::stop::{Halt, Stop, Wanted};
 use edge_types::NoMemory;
 use std::alloc::Global;
 
@@ -15,74 +15,67 @@ use std::alloc::Global;
 /// Our profile.
 pub const NESTING_LIMIT: u8 = 32;
 
+// An operand, which is wanted here.
+fn wanted_at(alloc: Global, text: &[u8]) -> Result<(Operand, &[u8]), Halt>
+    ensures { Finds (λ operand. operand) result (spec.wanted_at text.now) }
+{
+    match operand_at(alloc, text)? {
+        Some(found) => Ok(found),
+        None => Err(Halt::Stopped(Stop {
+            wanted: Wanted::Operand,
+            rest: after_ws(text),
+        })),
+    }
+}
+
 // An operand, alone or compared.
 #[tactic(auto, unfolding(crate::specs::Reading::plain_at))]
-fn plain_at(alloc: Global, text: &[u8]) -> Result<Option<(Negation, &[u8])>, NoMemory>
-    ensures { IfOk result (λ found. shown_by neg_of found ≡ plain_at text.now) }
+fn plain_at(alloc: Global, text: &[u8]) -> Result<(Negation, &[u8]), Halt>
+    ensures { Finds neg_of result (spec.plain_at text.now) }
 {
-    let Some((left, rest)) = operand_at(alloc, text)? else {
-        return Ok(None);
-    };
+    let (left, rest) = wanted_at(alloc, text)?;
     let Some((by, behind)) = comparison_at(rest) else {
-        return Ok(Some((Negation::Filled(left), rest)));
+        return Ok((Negation::Filled(left), rest));
     };
-    match operand_at(alloc, behind)? {
-        Some((right, rest)) => Ok(Some((Negation::Compared(left, by, right), rest))),
-        None => Ok(None),
-    }
+    let (right, rest) = wanted_at(alloc, behind)?;
+    Ok((Negation::Compared(left, by, right), rest))
 }
 
 // Negations with `&` between them.
 #[cycle(reading)]
-fn conjunction_at(
-    alloc: Global,
-    nesting: u8,
-    text: &[u8],
-) -> Result<Option<(Conjunction, &[u8])>, NoMemory>
-    ensures { IfOk result (λ found. shown_by conj_of found ≡ conj_with (neg_at nesting) text.now) }
+fn conjunction_at(alloc: Global, nesting: u8, text: &[u8]) -> Result<(Conjunction, &[u8]), Halt>
+    ensures { Finds conj_of result (spec.conj_with (spec.neg_at nesting) text.now) }
 {
-    let Some((first, mut rest)) = negation_at(alloc, nesting, text)? else {
-        return Ok(None);
-    };
+    let (first, mut rest) = negation_at(alloc, nesting, text)?;
     let mut more = Vec::new(alloc);
     while let Some(behind) = after_sign(b'&', rest) {
-        let Some((next, after)) = negation_at(alloc, nesting, behind)? else {
-            return Ok(None);
-        };
+        let (next, after) = negation_at(alloc, nesting, behind)?;
         more.push(next)?;
         rest = after;
     }
-    Ok(Some((Conjunction::of(first, more), rest)))
+    Ok((Conjunction::of(first, more), rest))
 }
 
 // Conjunctions with bars between them.
 #[cycle(reading)]
-fn test_at(alloc: Global, nesting: u8, text: &[u8]) -> Result<Option<(Expr, &[u8])>, NoMemory>
-    ensures { IfOk result (λ found. shown_by test_of found ≡ test_with (neg_at nesting) text.now) }
+fn test_at(alloc: Global, nesting: u8, text: &[u8]) -> Result<(Expr, &[u8]), Halt>
+    ensures { Finds test_of result (spec.test_with (spec.neg_at nesting) text.now) }
 {
-    let Some((first, mut rest)) = conjunction_at(alloc, nesting, text)? else {
-        return Ok(None);
-    };
+    let (first, mut rest) = conjunction_at(alloc, nesting, text)?;
     let mut more = Vec::new(alloc);
     while let Some(behind) = after_sign(b'|', rest) {
-        let Some((next, after)) = conjunction_at(alloc, nesting, behind)? else {
-            return Ok(None);
-        };
+        let (next, after) = conjunction_at(alloc, nesting, behind)?;
         more.push(next)?;
         rest = after;
     }
-    Ok(Some((Expr::of(first, more), rest)))
+    Ok((Expr::of(first, more), rest))
 }
 
 // A negation with at most so many `!` and `(` round an operand.
 #[cycle(reading)]
 #[tactic(auto, using(crate::proofs::Fuel::above), unfolding(crate::specs::Reading::neg_at))]
-fn negation_at(
-    alloc: Global,
-    nesting: u8,
-    text: &[u8],
-) -> Result<Option<(Negation, &[u8])>, NoMemory>
-    ensures { IfOk result (λ found. shown_by neg_of found ≡ neg_at nesting text.now) }
+fn negation_at(alloc: Global, nesting: u8, text: &[u8]) -> Result<(Negation, &[u8]), Halt>
+    ensures { Finds neg_of result (spec.neg_at nesting text.now) }
 {
     if nesting == 0 {
         plain_at(alloc, text)
@@ -94,8 +87,8 @@ fn negation_at(
 // The same with at most so many behind the first `!` or `(`.
 #[cycle(reading)]
 #[tactic(auto, unfolding(crate::specs::Reading::neg_at))]
-fn nested_at(alloc: Global, nesting: u8, text: &[u8]) -> Result<Option<(Negation, &[u8])>, NoMemory>
-    ensures { IfOk result (λ found. shown_by neg_of found ≡ neg_at (suc nesting) text.now) }
+fn nested_at(alloc: Global, nesting: u8, text: &[u8]) -> Result<(Negation, &[u8]), Halt>
+    ensures { Finds neg_of result (spec.neg_at (suc nesting) text.now) }
 {
     if let Some(rest) = after_sign(b'!', text) {
         not_at(alloc, nesting, rest)
@@ -108,58 +101,59 @@ fn nested_at(alloc: Global, nesting: u8, text: &[u8]) -> Result<Option<(Negation
 
 // Behind `!`.
 #[cycle(reading)]
-fn not_at(alloc: Global, nesting: u8, text: &[u8]) -> Result<Option<(Negation, &[u8])>, NoMemory>
-    ensures { IfOk result (λ found. shown_by neg_of found ≡ not_with (neg_at nesting) text.now) }
+fn not_at(alloc: Global, nesting: u8, text: &[u8]) -> Result<(Negation, &[u8]), Halt>
+    ensures { Finds neg_of result (spec.not_with (spec.neg_at nesting) text.now) }
 {
-    match negation_at(alloc, nesting, text)? {
-        Some((inner, rest)) => Ok(Some((Negation::Not(Box::new(alloc, inner)?), rest))),
-        None => Ok(None),
-    }
+    let (inner, rest) = negation_at(alloc, nesting, text)?;
+    Ok((Negation::Not(Box::new(alloc, inner)?), rest))
 }
 
 // Behind `(`.
 #[cycle(reading)]
-fn group_at(alloc: Global, nesting: u8, text: &[u8]) -> Result<Option<(Negation, &[u8])>, NoMemory>
-    ensures { IfOk result (λ found. shown_by neg_of found ≡ group_with (neg_at nesting) text.now) }
+fn group_at(alloc: Global, nesting: u8, text: &[u8]) -> Result<(Negation, &[u8]), Halt>
+    ensures { Finds neg_of result (spec.group_with (spec.neg_at nesting) text.now) }
 {
-    match test_at(alloc, nesting, text)? {
-        Some((inner, rest)) => closed(alloc, inner, after_sign(b')', rest)),
-        None => Ok(None),
+    let (inner, rest) = test_at(alloc, nesting, text)?;
+    match after_sign(b')', rest) {
+        Some(behind) => Ok((Negation::Group(Box::new(alloc, inner)?), behind)),
+        None => Err(Halt::Stopped(Stop {
+            wanted: Wanted::Closing,
+            rest: after_ws(rest),
+        })),
     }
 }
 
-// A test in parentheses, by what follows the second one.
-fn closed<'a>(
-    alloc: Global,
-    inner: Expr,
-    rest: Option<&'a [u8]>,
-) -> Result<Option<(Negation, &'a [u8])>, NoMemory>
-    ensures { IfOk result (λ found. shown_by neg_of found ≡ closed (test_of inner) (option_copied rest.entry)) }
-{
-    match rest {
-        Some(rest) => Ok(Some((Negation::Group(Box::new(alloc, inner)?), rest))),
-        None => Ok(None),
-    }
-}
-
-/// Reads the test that a text is; `None` where it is none.
+/// Reads the test that a text is, or says where its reading stops.
 ///
 /// At most `NESTING_LIMIT` `(` and `!` may stand round an operand, and a number has at most `DIGIT_LIMIT` digits.
 ///
-/// `NoMemory` where a growth is refused; no test is made then.
-///
 /// Source: ESI Language Specification 1.0, "Expressions" and "Operators"; the spelling of operands and the limits are
 /// our profile.
+pub fn read(alloc: Global, text: &[u8]) -> Result<Expr, Halt>
+    ensures { FindsTest result (spec.reading text.now) }
+{
+    let (found, rest) = test_at(alloc, NESTING_LIMIT, text)?;
+    let rest = after_ws(rest);
+    if rest.is_empty() {
+        Ok(found)
+    } else {
+        Err(Halt::Stopped(Stop {
+            wanted: Wanted::Operator,
+            rest,
+        }))
+    }
+}
+
+/// The test that a text is, as `read` reads it; `None` where it is none.
+///
+/// `NoMemory` where an allocation fails; no test is made then.
 #[tactic(auto, unfolding(crate::specs::Reading::read_test))]
 pub fn parse(alloc: Global, text: &[u8]) -> Result<Option<Expr>, NoMemory>
-    ensures { IfOk result (λ found. option_map test_of found ≡ read_test text.now) }
+    ensures { IfOk result (λ found. option_map test_of found ≡ spec.read_test text.now) }
 {
-    let Some((found, rest)) = test_at(alloc, NESTING_LIMIT, text)? else {
-        return Ok(None);
-    };
-    if after_ws(rest).is_empty() {
-        Ok(Some(found))
-    } else {
-        Ok(None)
+    match read(alloc, text) {
+        Ok(test) => Ok(Some(test)),
+        Err(Halt::Stopped(_)) => Ok(None),
+        Err(Halt::NoMemory) => Err(NoMemory),
     }
 }

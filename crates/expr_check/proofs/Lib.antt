@@ -1,3 +1,1 @@
-pub mod Agreement
-pub mod Fuel
-pub mod WalkLemmas
+pub mod Needs

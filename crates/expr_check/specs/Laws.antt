@@ -2,8 +2,8 @@
 use Rattle.std.specs.Prelude.{◌≡◌, ◌↔◌, ℕ, List, [], Some}
 use Rattle.esi_expr.specs.Tree.{Test}
 use Rattle.esi_expr.specs.Reading.{read_test}
-use Rattle.expr_check.specs.declared.stop.Wanted.TheVariants.{Operator}
-use Rattle.expr_check.specs.Walks.{stop_of}
+use Rattle.esi_expr.specs.declared.stop.Wanted.TheVariants.{Operator}
+use Rattle.expr_check.specs.Stops.{stop_of}
 
 -- a text can be read as a test
 pub record IsTest (text : List ℕ) : Type 0 where

@@ -1,4 +1,3 @@
-pub mod Walks
+pub mod Stops
 pub mod Troubles
-pub mod Shown
 pub mod Laws

@@ -1,10 +1,11 @@
 // What is wrong with a test.
 ghost use Rattle.std.specs.Prelude.{◌≡◌, IfOk};
+ghost use Rattle.esi_expr.specs.Shown.{shown_stop};
+ghost use Rattle.expr_check.specs.Stops as stops;
 ghost use Rattle.expr_check.specs.Troubles as spec;
 
-use crate::stop::Wanted;
-use crate::walk::stop_of;
 use edge_types::NoMemory;
+use esi_expr::{Halt, Stop, Wanted, read};
 use std::alloc::Global;
 use std::fmt;
 
@@ -103,6 +104,21 @@ fn problem_of(wanted: Wanted, rest: &[u8]) -> TestProblem
         (_, Some(first)) => operator_problem(*first),
         (Wanted::Operator, None) => TestProblem::NoOperator,
         (Wanted::Closing, None) => TestProblem::NoClosing,
+    }
+}
+
+// Where the reading of a text as a test stops: at the end of a test, where an operator could go on.
+#[tactic(auto, unfolding(crate::specs::Stops::stop_of))]
+fn stop_of(alloc: Global, text: &[u8]) -> Result<Stop, NoMemory>
+    ensures { IfOk result (λ stop. shown_stop stop ≡ stops.stop_of text.now) }
+{
+    match read(alloc, text) {
+        Ok(_) => Ok(Stop {
+            wanted: Wanted::Operator,
+            rest: &[],
+        }),
+        Err(Halt::Stopped(stop)) => Ok(stop),
+        Err(Halt::NoMemory) => Err(NoMemory),
     }
 }
 
