@@ -117,7 +117,7 @@ opened-inverts tag state next e =
     option_and_then_some (λ within. cond tag.closed (left tag.name within) (Some within)) (entered tag.name tag.attributes state) next e
     (λ within into rest. (within, entered-inverts tag.name tag.attributes state within into, rest))
 
-same-self : (name : ElementName) → is_same name name ≡ true
+pub same-self : (name : ElementName) → is_same name name ≡ true
 same-self element.Include = refl
 same-self element.Inline = refl
 same-self element.Choose = refl
@@ -130,7 +130,7 @@ same-self element.Comment = refl
 same-self element.Remove = refl
 same-self element.Vars = refl
 
-same-is : (a b : ElementName) → is_same a b ≡ true → a ≡ b
+pub same-is : (a b : ElementName) → is_same a b ≡ true → a ≡ b
 same-is element.Include element.Include e = refl
 same-is element.Inline element.Inline e = refl
 same-is element.Choose element.Choose e = refl

@@ -19,6 +19,7 @@ pub mod tree;
 
 pub use fault::TreeFault;
 pub use node::{Branch, Node};
+pub use open_element::stands_in_run;
 pub use open_elements::OPEN_LIMIT;
 pub use parts::Parts;
 pub use reader::template;

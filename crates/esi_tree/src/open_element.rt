@@ -47,8 +47,8 @@ pub(crate) fn push_node(run: &mut Vec<Node>, node: Node) -> Result<(), NoMemory>
     Ok(())
 }
 
-// Whether an element of this name may stand in a run.
-pub(crate) fn stands_in_run(name: ElementName) -> bool
+/// Whether an element of this name may stand where any element may.
+pub fn stands_in_run(name: ElementName) -> bool
     ensures { result ≡ stands_in_run name }
 {
     matches!(

@@ -9,38 +9,11 @@ use Rattle.esi_tree.specs.Tree as tree
 use Rattle.esi_tree.specs.Tree.{Element, Elements}
 use Rattle.esi_tree.specs.Shown.{row, Branch, branch_row}
 use Rattle.esi_tree.specs.Reading.{Halves, Neither, AttemptAlone, ExceptAlone, Both, Frame, InInclude, InComment, InInline, InVars, InChoose, InWhen, InOtherwise, InTry, InAttempt, InExcept, Child, AnElement, ABranch, AnAttempt, AnExcept, with_element, with_half, with_attempt, with_except, grown, is_otherwise, is_when, stands_in_run, opened_by, name_of, is_same, child_of}
-use Rattle.esi_tree.proofs.Runs.{chosen_some}
+use Rattle.esi_tree.proofs.Runs.{chosen_some, same-is}
 use Rattle.esi_tree.proofs.Places.{emptied}
 use Rattle.esi_tree.proofs.Ends.{fresh}
 use Rattle.template_check.specs.Reasons.{is_branch, is_half, stands_in, is_single}
 use Rattle.template_check.specs.Refusals.{has_branch, has_half, has}
-
-pub same-self : (name : ElementName) → is_same name name ≡ true
-same-self element.Include = refl
-same-self element.Inline = refl
-same-self element.Choose = refl
-same-self element.When = refl
-same-self element.Otherwise = refl
-same-self element.Try = refl
-same-self element.Attempt = refl
-same-self element.Except = refl
-same-self element.Comment = refl
-same-self element.Remove = refl
-same-self element.Vars = refl
-
-pub same-is : (a b : ElementName) → is_same a b ≡ true → a ≡ b
-same-is element.Include element.Include e = refl
-same-is element.Inline element.Inline e = refl
-same-is element.Choose element.Choose e = refl
-same-is element.When element.When e = refl
-same-is element.Otherwise element.Otherwise e = refl
-same-is element.Try element.Try e = refl
-same-is element.Attempt element.Attempt e = refl
-same-is element.Except element.Except e = refl
-same-is element.Comment element.Comment e = refl
-same-is element.Remove element.Remove e = refl
-same-is element.Vars element.Vars e = refl
-same-is _ _ e = absurd (cc)
 
 disjoint : (name : ElementName) → is_single name ≡ true → stands_in_run name ≡ true → ⊥
 disjoint element.Otherwise single run = absurd (cc)

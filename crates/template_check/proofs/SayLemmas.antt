@@ -7,13 +7,13 @@ use Rattle.esi_scanner.specs.declared.token.Kind.TheVariants as kinds
 use Rattle.esi_scanner.specs.declared.token.Token.{Token}
 use Rattle.esi_tree.specs.Shown.{Branch}
 use Rattle.esi_tree.specs.Reading.{Halves, Neither, AttemptAlone, ExceptAlone, Both, Frame, InInclude, InComment, InInline, InVars, InChoose, InWhen, InOtherwise, InTry, InAttempt, InExcept, State, put_in, stands_in_choose, stands_in_try, may_stand, name_of, is_same, is_when, lacks_attempt, lacks_except, child_of, left}
+use Rattle.esi_tree.proofs.Runs.{same-self, same-is}
 use Rattle.template_check.specs.declared.elements.Opened.{Opened}
 use Rattle.template_check.specs.declared.reason.Reason.TheVariants as why
 use Rattle.template_check.specs.OpenElements.{innermost, has_part}
 use Rattle.template_check.specs.Reasons.{stands_in, is_single, ending, close_in, close_reason, ending_by}
 use Rattle.template_check.specs.Refusals.{open_behind, first, has, has_branch, has_half, lacks, Ends, Says}
 use Rattle.template_check.proofs.OpenLemmas.{innermost-is, first-is}
-use Rattle.template_check.proofs.PartLemmas.{same-self, same-is}
 use Rattle.template_check.proofs.ReadLemmas.{StandsIn, Known, has_at}
 
 not-true : (b : Bool) → not b ≡ false → b ≡ true

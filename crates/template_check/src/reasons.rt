@@ -1,32 +1,16 @@
 // Tells why no template goes on with a token.
 ghost use Rattle.std.specs.Prelude.{◌≡◌, ◌≤◌, length, reverse, IfOk};
-ghost use Rattle.esi_tree.specs.Reading.{stands_in_run};
 ghost use Rattle.template_check.specs.Reasons as spec;
 
 use crate::elements::{Opened, has_part, innermost, open_count};
 use crate::reason::Reason;
 use edge_types::NoMemory;
 use esi_scanner::{Attributes, ElementName, Kind, KnownAttribute, Tag, Token};
-use esi_tree::OPEN_LIMIT;
+use esi_tree::{OPEN_LIMIT, stands_in_run};
 use expr_check::trouble_of;
 use std::alloc::Global;
 
-// Whether an element of this name may stand where any element may.
-fn stands_in_run(name: ElementName) -> bool
-    ensures { result ≡ stands_in_run name }
-{
-    matches!(
-        name,
-        ElementName::Include
-            | ElementName::Inline
-            | ElementName::Choose
-            | ElementName::Try
-            | ElementName::Comment
-            | ElementName::Vars
-    )
-}
-
-// Whether it may stand directly in an element of that name.
+// Whether an element of this name may stand directly in an element of that name.
 fn stands_in(name: ElementName, outer: ElementName) -> bool
     ensures { result ≡ spec.stands_in name outer }
 {
