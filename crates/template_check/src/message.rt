@@ -62,9 +62,26 @@ fn word_at(text: &[u8], place: usize) -> &str {
     str::from_utf8(word).unwrap_or("")
 }
 
+// An element that was opened, by its name and the line of its tag.
+#[derive(Clone, Copy, Drop)]
+struct OpenedAt {
+    name: &'static str,
+    line: usize,
+}
+
+impl fmt::Display for OpenedAt {
+    fn fmt<W: fmt::Write>(&self, f: &mut fmt::Formatter<W>) -> fmt::Result {
+        let OpenedAt { name, line } = *self;
+        write!(f, "<esi:{name}> from line {line}")
+    }
+}
+
 impl<'a> Message<'a> {
-    fn line_of(&self, opened: Opened) -> usize {
-        position_of(self.text, opened.place).line
+    fn opened_at(&self, opened: Opened) -> OpenedAt {
+        OpenedAt {
+            name: element(opened.name),
+            line: position_of(self.text, opened.place).line,
+        }
     }
 
     fn write_trouble<W: fmt::Write>(
@@ -105,62 +122,41 @@ impl<'a> Message<'a> {
         within: Option<Opened>,
     ) -> fmt::Result {
         let inner = element(name);
-        if let Some(opened) = within {
-            let outer = element(opened.name);
-            let line = self.line_of(opened);
-            return write!(
-                f,
-                "<esi:{inner}> can't stand directly in <esi:{outer}> from line {line}: is </esi:{outer}> missing before it?"
-            );
-        }
-        match name {
-            ElementName::When | ElementName::Otherwise => {
-                write!(f, "<esi:{inner}> can stand in <esi:choose> alone")
-            }
-            _ => write!(f, "<esi:{inner}> can stand in <esi:try> alone"),
-        }
-    }
-
-    fn write_run<W: fmt::Write>(
-        &self,
-        f: &mut fmt::Formatter<W>,
-        within: Option<Opened>,
-    ) -> fmt::Result {
-        match within {
-            Some(opened) => {
-                let outer = element(opened.name);
-                let line = self.line_of(opened);
-                match parts_of(opened.name) {
-                    Some(parts) => write!(
-                        f,
-                        "only {parts} can stand directly in <esi:{outer}> from line {line}: move this into one of them, or out of <esi:{outer}>"
-                    ),
-                    None => write!(
-                        f,
-                        "<esi:{outer}> from line {line} is still open here: end its tag with `/>`"
-                    ),
-                }
-            }
-            None => write!(f, "nothing can stand here"),
-        }
-    }
-
-    fn write_ends<W: fmt::Write>(
-        &self,
-        f: &mut fmt::Formatter<W>,
-        within: Option<Opened>,
-    ) -> fmt::Result {
-        match within {
-            Some(opened) => {
-                let outer = element(opened.name);
-                let line = self.line_of(opened);
+        match (within, name) {
+            (Some(opened), _) => {
+                let within = self.opened_at(opened);
+                let outer = within.name;
                 write!(
                     f,
-                    "the text ends, and <esi:{outer}> from line {line} is still open: </esi:{outer}> is missing"
+                    "<esi:{inner}> can't stand directly in {within}: is </esi:{outer}> missing before it?"
                 )
             }
-            None => write!(f, "the text ends too early"),
+            (None, ElementName::When | ElementName::Otherwise) => {
+                write!(f, "<esi:{inner}> can stand in <esi:choose> alone")
+            }
+            (None, _) => write!(f, "<esi:{inner}> can stand in <esi:try> alone"),
         }
+    }
+
+    fn write_run<W: fmt::Write>(&self, f: &mut fmt::Formatter<W>, opened: Opened) -> fmt::Result {
+        let within = self.opened_at(opened);
+        let outer = within.name;
+        match parts_of(opened.name) {
+            Some(parts) => write!(
+                f,
+                "only {parts} can stand directly in {within}: move this into one of them, or out of <esi:{outer}>"
+            ),
+            None => write!(f, "{within} is still open here: end its tag with `/>`"),
+        }
+    }
+
+    fn write_ends<W: fmt::Write>(&self, f: &mut fmt::Formatter<W>, opened: Opened) -> fmt::Result {
+        let within = self.opened_at(opened);
+        let outer = within.name;
+        write!(
+            f,
+            "the text ends, and {within} is still open: </esi:{outer}> is missing"
+        )
     }
 
     fn write_ending<W: fmt::Write>(
@@ -169,10 +165,9 @@ impl<'a> Message<'a> {
         opened: Opened,
         lacked: ElementName,
     ) -> fmt::Result {
-        let outer = element(opened.name);
-        let line = self.line_of(opened);
+        let outer = self.opened_at(opened);
         let inner = part(lacked);
-        write!(f, "<esi:{outer}> from line {line} has no {inner}")
+        write!(f, "{outer} has no {inner}")
     }
 
     fn write_closing<W: fmt::Write>(
@@ -182,16 +177,14 @@ impl<'a> Message<'a> {
         within: Option<Opened>,
     ) -> fmt::Result {
         let ends = element(name);
-        match within {
-            Some(opened) => {
-                let inner = element(opened.name);
-                let line = self.line_of(opened);
-                write!(
-                    f,
-                    "</esi:{ends}> closes nothing here: <esi:{inner}> from line {line} is still open, so close that first"
-                )
-            }
-            None => write!(f, "</esi:{ends}> closes nothing: no element is open"),
+        if let Some(opened) = within {
+            let inner = self.opened_at(opened);
+            write!(
+                f,
+                "</esi:{ends}> closes nothing here: {inner} is still open, so close that first"
+            )
+        } else {
+            write!(f, "</esi:{ends}> closes nothing: no element is open")
         }
     }
 
@@ -202,38 +195,41 @@ impl<'a> Message<'a> {
         within: Option<Opened>,
     ) -> fmt::Result {
         let inner = element(name);
-        match within {
-            Some(opened) => {
-                let outer = element(opened.name);
-                let line = self.line_of(opened);
-                write!(
-                    f,
-                    "<esi:{outer}> from line {line} has an <esi:{inner}> already"
-                )
-            }
-            None => write!(f, "a second <esi:{inner}>"),
+        if let Some(opened) = within {
+            let outer = self.opened_at(opened);
+            write!(f, "{outer} has an <esi:{inner}> already")
+        } else {
+            write!(f, "a second <esi:{inner}>")
         }
+    }
+
+    fn write_lack<W: fmt::Write>(
+        &self,
+        f: &mut fmt::Formatter<W>,
+        name: ElementName,
+        lacked: KnownAttribute,
+    ) -> fmt::Result {
+        let inner = element(name);
+        let needed = attribute(lacked);
+        let example = example_of(lacked);
+        write!(
+            f,
+            "<esi:{inner}> needs the attribute `{needed}`, such as {example}"
+        )
     }
 
     fn write_reason<W: fmt::Write>(&self, f: &mut fmt::Formatter<W>) -> fmt::Result {
         match self.fault.reason {
             Reason::Malformed(trouble) => self.write_trouble(f, trouble),
-            Reason::NoRun(within) => self.write_run(f, within),
+            Reason::NoRun(Some(opened)) => self.write_run(f, opened),
+            Reason::NoRun(None) => write!(f, "nothing can stand here"),
             Reason::TooDeep => write!(f, "32 elements are open here, and no more may be"),
             Reason::Misplaced { name, within } => self.write_misplaced(f, name, within),
             Reason::Second { name, within } => self.write_second(f, name, within),
             Reason::Lacks {
                 name,
                 attribute: lacked,
-            } => {
-                let inner = element(name);
-                let needed = attribute(lacked);
-                let example = example_of(lacked);
-                write!(
-                    f,
-                    "<esi:{inner}> needs the attribute `{needed}`, such as {example}"
-                )
-            }
+            } => self.write_lack(f, name, lacked),
             Reason::BadTest(TestTrouble { problem, place }) => {
                 let byte = place.saturating_add(1);
                 write!(
@@ -248,7 +244,8 @@ impl<'a> Message<'a> {
             } => self.write_ending(f, opened, lacked),
             Reason::Unopened(name) => self.write_closing(f, name, None),
             Reason::Crossed { name, opened } => self.write_closing(f, name, Some(opened)),
-            Reason::Ends(within) => self.write_ends(f, within),
+            Reason::Ends(Some(opened)) => self.write_ends(f, opened),
+            Reason::Ends(None) => write!(f, "the text ends too early"),
         }
     }
 }
