@@ -1,6 +1,6 @@
 //! Where connections come from.
 
-use crate::exchange::{Exchange, Limits};
+use crate::client_stream::{ClientStream, Limits};
 use std::io;
 use std::io::ErrorKind;
 use std::net::{Shutdown, TcpListener, TcpStream};
@@ -48,10 +48,10 @@ impl Sockets {
 }
 
 impl<R: Clock + Wait + Clone + Drop + Send> Accept<R> for Sockets {
-    type Io = Exchange<R>;
+    type Io = ClientStream<R>;
 
     // A limit of reads bounds accepts too: that nobody came in this time is no failure.
-    fn accept(&self, rt: &R) -> Option<Exchange<R>> {
+    fn accept(&self, rt: &R) -> Option<ClientStream<R>> {
         for _ in rt.forever() {
             match self.listener.accept() {
                 Ok((socket, _)) => return begun(rt, socket, self.limits),
@@ -71,6 +71,6 @@ fn begun<R: Clock + Clone + Drop>(
     rt: &R,
     socket: TcpStream,
     limits: Limits,
-) -> Option<Exchange<R>> {
-    Exchange::new(socket, rt.clone().ok()?, limits).ok()
+) -> Option<ClientStream<R>> {
+    ClientStream::new(socket, rt.clone().ok()?, limits).ok()
 }

@@ -1,10 +1,10 @@
 //! The threads that serve.
 
 use crate::accept::Accept;
+use crate::connection::{Seat, serve_journaled};
 use crate::desk::{Desk, ServeEnd};
 use crate::journal::Journal;
 use crate::service::EdgeService;
-use crate::serving::{Seat, serve_told};
 use fetch_workers::Source;
 use std::alloc::AllocGlobal;
 use std::random::RandomSource;
@@ -188,6 +188,6 @@ where
         *seat = Seat::new(rt).ok();
     }
     if let (Some(seat), Ok(own)) = (seat, service.share()) {
-        serve_told(rt, seat, io, own, journal);
+        serve_journaled(rt, seat, io, own, journal);
     }
 }

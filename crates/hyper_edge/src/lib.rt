@@ -5,19 +5,19 @@
 #![tactic(auto)]
 
 mod accept;
+mod client_stream;
+mod connection;
 mod crew;
 mod desk;
-mod exchange;
 mod journal;
 mod responding;
 mod service;
-mod serving;
 
 pub use accept::{Accept, Sockets};
+pub use client_stream::{ClientStream, Limits};
+pub use connection::{Seat, serve_io};
 pub use crew::serve_accepts;
 pub use desk::ServeEnd;
-pub use exchange::{Exchange, Limits};
 pub use journal::{Journal, NoJournal, Record};
 pub use responding::{Assembling, respond};
 pub use service::EdgeService;
-pub use serving::{Seat, serve_io};

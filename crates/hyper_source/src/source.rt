@@ -2,11 +2,11 @@
 
 ghost use Rattle.std.specs.Prelude.{◌≡◌, IfOk};
 
-use crate::asking::Asking;
-use crate::exchange::exchange;
 use crate::fields::{content_type_of, control_of};
 use crate::gathered::Lost;
 use crate::origin::{Origin, address_of};
+use crate::origin_stream::OriginStream;
+use crate::round_trip::round_trip;
 use crate::seats::Seats;
 use bytes::Bytes;
 use edge_types::{Answer, NoMemory, Octets, PageUrl, SharedBytes};
@@ -79,7 +79,7 @@ impl HyperSource {
         let Some(mut seat) = self.seats.take(rt) else {
             return Err(Lost::Fault);
         };
-        let got = exchange(rt, alloc, &mut seat, self.keys, io, request);
+        let got = round_trip(rt, alloc, &mut seat, self.keys, io, request);
         self.seats.leave(rt, seat);
         got
     }
@@ -124,19 +124,19 @@ fn answer_of(alloc: Global, url: &PageUrl, head: &Parts, body: Vec<u8>) -> Resul
 }
 
 // A connection to an origin, for a fetch that has to end by the limit, where there is one.
-fn connected<R>(rt: &R, address: SocketAddr, limit: Option<Duration>) -> io::Result<Asking<R>>
+fn connected<R>(rt: &R, address: SocketAddr, limit: Option<Duration>) -> io::Result<OriginStream<R>>
 where
     R: Net<Stream = TcpStream> + Clock + Clone + Drop,
 {
     let Some(limit) = limit else {
         let socket = TcpStream::connect(rt, &address)?;
-        return Ok(Asking::new(socket, rt.clone()?, None));
+        return Ok(OriginStream::new(socket, rt.clone()?, None));
     };
     let Some(deadline) = Instant::now(rt)?.checked_add(limit) else {
         return Err(io::ErrorKind::InvalidInput.into());
     };
     let socket = TcpStream::connect_timeout(rt, &address, limit)?;
-    Ok(Asking::new(socket, rt.clone()?, Some(deadline)))
+    Ok(OriginStream::new(socket, rt.clone()?, Some(deadline)))
 }
 
 // The request for a URL: it says nothing of the client.

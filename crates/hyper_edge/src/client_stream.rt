@@ -22,14 +22,49 @@ pub struct Limits {
     pub response: Option<Duration>,
 }
 
-/// One exchange with a client. Past its deadlines, where it has some, each read and write fails.
-///
-/// Once something was written, the client's input counts as ended: nothing that it sends later is
-/// read, and no answer waits for it.
+/// A connection to a client. Past the deadlines of its exchange, where that has some, each read and
+/// write fails.
 #[derive(Drop)]
-pub struct Exchange<R> {
+pub struct ClientStream<R> {
     socket: TcpStream,
     clock: R,
+    exchange: Exchange,
+}
+
+impl<R: Clock + Drop> ClientStream<R> {
+    /// A connection whose exchange begins now.
+    pub(crate) fn new(socket: TcpStream, clock: R, limits: Limits) -> io::Result<ClientStream<R>> {
+        let exchange = Exchange::new(&clock, limits)?;
+        Ok(ClientStream {
+            socket,
+            clock,
+            exchange,
+        })
+    }
+
+    fn read(&mut self, buf: &mut [u8]) -> io::Result<usize>
+        ensures { ReadsAtMost result buf.new }
+    {
+        if !self.exchange.may_read(&self.clock)? {
+            return Ok(0);
+        }
+        (&self.socket).read(buf)
+    }
+
+    fn write(&mut self, buf: &[u8]) -> io::Result<usize>
+        ensures { WritesAtMost result buf.now }
+    {
+        self.exchange.may_write(&self.clock)?;
+        (&self.socket).write(buf)
+    }
+}
+
+// One request and its response: when the client has to have sent the one and received the other.
+//
+// Once something was written, the client's input counts as ended: nothing that it sends later is
+// read, and no answer waits for it.
+#[derive(Drop)]
+struct Exchange {
     request_by: Option<Instant>,
     // The limit of the response, and when it ends, once something was written.
     response: Option<Duration>,
@@ -38,14 +73,11 @@ pub struct Exchange<R> {
     has_written: bool,
 }
 
-impl<R: Clock + Drop> Exchange<R> {
-    /// An exchange that begins now.
-    pub(crate) fn new(socket: TcpStream, clock: R, limits: Limits) -> io::Result<Exchange<R>> {
-        let request_by = deadline(&clock, limits.request)?;
+impl Exchange {
+    // An exchange that begins now.
+    fn new(clock: &impl Clock, limits: Limits) -> io::Result<Exchange> {
         Ok(Exchange {
-            socket,
-            clock,
-            request_by,
+            request_by: deadline(clock, limits.request)?,
             response: limits.response,
             response_by: None,
             has_read: false,
@@ -53,39 +85,39 @@ impl<R: Clock + Drop> Exchange<R> {
         })
     }
 
-    fn is_late(&self, deadline: Option<Instant>) -> io::Result<bool> {
-        match deadline {
-            Some(deadline) => Ok(Instant::now(&self.clock)? > deadline),
-            None => Ok(false),
-        }
-    }
-
-    // The first read needs no look at the clock: the socket's own limit bounds it.
-    fn read(&mut self, buf: &mut [u8]) -> io::Result<usize>
-        ensures { ReadsAtMost result buf.new }
-    {
+    // Whether there is input left to read. The first read needs no look at the clock: the socket's
+    // own limit bounds it.
+    fn may_read(&mut self, clock: &impl Clock) -> io::Result<bool> {
         if self.has_written {
-            return Ok(0);
+            return Ok(false);
         }
-        if self.has_read && self.is_late(self.request_by)? {
-            return Err(ErrorKind::TimedOut.into());
+        if self.has_read {
+            in_time(clock, self.request_by)?;
         }
         self.has_read = true;
-        (&self.socket).read(buf)
+        Ok(true)
     }
 
     // The time of the response begins with the first write, which the socket's own limit bounds too.
-    fn write(&mut self, buf: &[u8]) -> io::Result<usize>
-        ensures { WritesAtMost result buf.now }
-    {
-        if !self.has_written {
-            self.response_by = deadline(&self.clock, self.response)?;
-            self.has_written = true;
-        } else if self.is_late(self.response_by)? {
-            return Err(ErrorKind::TimedOut.into());
+    fn may_write(&mut self, clock: &impl Clock) -> io::Result<()> {
+        if self.has_written {
+            return in_time(clock, self.response_by);
         }
-        (&self.socket).write(buf)
+        self.response_by = deadline(clock, self.response)?;
+        self.has_written = true;
+        Ok(())
     }
+}
+
+// Refused once a deadline is past.
+fn in_time(clock: &impl Clock, deadline: Option<Instant>) -> io::Result<()> {
+    let Some(deadline) = deadline else {
+        return Ok(());
+    };
+    if Instant::now(clock)? > deadline {
+        return Err(ErrorKind::TimedOut.into());
+    }
+    Ok(())
 }
 
 // When a limit that begins now ends; never, where the clock doesn't reach so far.
@@ -96,7 +128,7 @@ fn deadline(clock: &impl Clock, limit: Option<Duration>) -> io::Result<Option<In
     }
 }
 
-impl<R: Clock + Drop> AsyncRead for Exchange<R> {
+impl<R: Clock + Drop> AsyncRead for ClientStream<R> {
     ghost reads = { λ _ _ _. ⊤ };
 
     ghost is_at_end = { λ _. ⊤ };
@@ -110,7 +142,7 @@ impl<R: Clock + Drop> AsyncRead for Exchange<R> {
     }
 }
 
-impl<R: Clock + Drop> AsyncWrite for Exchange<R> {
+impl<R: Clock + Drop> AsyncWrite for ClientStream<R> {
     ghost writes = { λ _ _ _. ⊤ };
 
     ghost writes_nothing = { λ _. tt };

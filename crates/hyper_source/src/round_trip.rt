@@ -15,7 +15,7 @@ use std::sync::Wait;
 use tokio::io::{AsyncRead, AsyncWrite};
 
 /// Sends a request over a stream, and gathers the response.
-pub(crate) fn exchange<R, I>(
+pub(crate) fn round_trip<R, I>(
     rt: &R,
     alloc: Global,
     seat: &mut LocalPool<Ready<()>>,
@@ -34,7 +34,7 @@ where
         .send_request(request)
         .map_err(|_| Lost::Fault)
         .and_then(move |response| Rest::of(alloc, response));
-    // The connection ends with this exchange.
+    // The connection ends with this response.
     drop(sender);
     match seat.run_until(rt, join(page, connection)) {
         Ok((page, _)) => page,

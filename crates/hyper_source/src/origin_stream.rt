@@ -10,20 +10,20 @@ use std::net::TcpStream;
 use std::time::{Clock, Duration, Instant};
 use tokio::io::{AsyncRead, AsyncWrite};
 
-/// One exchange with an origin. Past its deadline, where it has one, each read and write fails.
+/// A connection to an origin, for one fetch. Past its deadline, where it has one, each read and write fails.
 ///
 /// A client reads before it writes: until something was written, a read asks to be polled again.
 #[derive(Drop)]
-pub(crate) struct Asking<R> {
+pub(crate) struct OriginStream<R> {
     socket: TcpStream,
     clock: R,
     deadline: Option<Instant>,
     has_written: bool,
 }
 
-impl<R: Clock> Asking<R> {
-    pub(crate) fn new(socket: TcpStream, clock: R, deadline: Option<Instant>) -> Asking<R> {
-        Asking {
+impl<R: Clock> OriginStream<R> {
+    pub(crate) fn new(socket: TcpStream, clock: R, deadline: Option<Instant>) -> OriginStream<R> {
+        OriginStream {
             socket,
             clock,
             deadline,
@@ -58,7 +58,7 @@ impl<R: Clock> Asking<R> {
     }
 }
 
-impl<R: Clock + Drop> AsyncRead for Asking<R> {
+impl<R: Clock + Drop> AsyncRead for OriginStream<R> {
     ghost reads = { λ _ _ _. ⊤ };
 
     ghost is_at_end = { λ _. ⊤ };
@@ -75,7 +75,7 @@ impl<R: Clock + Drop> AsyncRead for Asking<R> {
     }
 }
 
-impl<R: Clock + Drop> AsyncWrite for Asking<R> {
+impl<R: Clock + Drop> AsyncWrite for OriginStream<R> {
     ghost writes = { λ _ _ _. ⊤ };
 
     ghost writes_nothing = { λ _. tt };

@@ -1,4 +1,4 @@
-//! One exchange over one stream.
+//! One connection, over whose stream one request is answered.
 
 use crate::journal::{Journal, Note};
 use crate::responding::Responded;
@@ -49,11 +49,11 @@ where
     S: Source<Q> + Sync + Drop,
     Q: Wait + Threads + Clock + Sync + Drop,
 {
-    exchange(rt, seat, io, service, None);
+    serve_connection(rt, seat, io, service, None);
 }
 
 /// The same, and then a journal is told of the request, where it is to be told and was answered.
-pub(crate) fn serve_told<R, I, S, Q, J>(
+pub(crate) fn serve_journaled<R, I, S, Q, J>(
     rt: &R,
     seat: &mut Seat,
     io: I,
@@ -68,19 +68,19 @@ where
     J: Journal<R>,
 {
     if !journal.is_kept() {
-        return exchange(rt, seat, io, service, None);
+        return serve_connection(rt, seat, io, service, None);
     }
     match Note::pair(service.alloc()) {
         Ok((note, same)) => {
-            exchange(rt, seat, io, service, Some(same));
+            serve_connection(rt, seat, io, service, Some(same));
             note.tell(rt, journal);
         }
-        Err(_) => exchange(rt, seat, io, service, None),
+        Err(_) => serve_connection(rt, seat, io, service, None),
     }
 }
 
-// The exchange itself.
-fn exchange<R, I, S, Q>(
+// The same, and what was answered is left on the note, where there is one.
+fn serve_connection<R, I, S, Q>(
     rt: &R,
     seat: &mut Seat,
     io: I,
