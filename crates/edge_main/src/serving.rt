@@ -6,7 +6,7 @@ use edge_setup::{Origin, Pages, Setup};
 use edge_types::NoMemory;
 use fetch_workers::Cache;
 use hyper_edge::{
-    Assembling, EdgeService, Journal, Limits, Record, ServeEnd, Sockets, serve_accepts,
+    Assembling, EdgeService, Journal, Limits, RequestRecord, ServeEnd, Sockets, serve_accepts,
 };
 use hyper_source::HyperSource;
 use std::alloc::AllocGlobal;
@@ -72,7 +72,7 @@ where
     let (sockets, address) = listening(rt, listen, client)?;
     println!(rt; "listening on {address}")?;
     let threads = u16::try_from(serving.threads).unwrap_or(u16::MAX);
-    let log = Log {
+    let log = AccessLog {
         is_kept: serving.logs,
     };
     Ok(serve_accepts(rt, &sockets, &service, &log, threads, serving.accept))
@@ -167,17 +167,17 @@ impl<R: Clock> fetch_workers::Clock<R> for Seconds {
 
 /// What is told of each request, where that is asked for.
 #[derive(Clone, Copy)]
-struct Log {
+struct AccessLog {
     is_kept: bool,
 }
 
-impl<R: AllocGlobal + Clock + Eprint> Journal<R> for Log {
+impl<R: AllocGlobal + Clock + Eprint> Journal<R> for AccessLog {
     fn is_kept(&self) -> bool {
         self.is_kept
     }
 
     // One write for the line, so that threads don't mix theirs. Where it can't be told, it isn't.
-    fn served(&self, rt: &R, record: &Record) {
+    fn served(&self, rt: &R, record: &RequestRecord) {
         let second = match rt.since_1970() {
             Ok(time) => time.as_secs(),
             Err(_) => 0,

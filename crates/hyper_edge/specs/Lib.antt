@@ -1,2 +1,2 @@
-pub mod Desk
+pub mod Roster
 pub mod Responses

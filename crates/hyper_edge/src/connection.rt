@@ -1,39 +1,21 @@
 //! One connection, over whose stream one request is answered.
 
+use crate::executor::Executor;
 use crate::journal::{Journal, Note};
 use crate::responding::Responded;
 use crate::service::EdgeService;
 use edge_types::NoMemory;
 use fetch_workers::Source;
-use futures::executor::LocalPool;
 use futures::future;
-use futures::future::Ready;
 use hyper::body::Incoming;
 use hyper::service::service_fn;
 use hyper::{Request, Response, server};
 use hyper_edge_head::EdgeBody;
-use std::alloc::{AllocError, AllocGlobal};
-use std::io;
-use std::random::RandomSource;
+use std::alloc::AllocError;
 use std::sync::{Arc, Wait};
 use std::thread::Threads;
 use std::time::Clock;
 use tokio::io::{AsyncRead, AsyncWrite};
-
-/// Where one thread serves, one connection at a time. To make one costs more than to keep it.
-#[derive(Drop)]
-pub struct Seat {
-    queue: LocalPool<Ready<()>>,
-}
-
-impl Seat {
-    /// A seat. Refused where the system has no random bytes for it, or memory lacks.
-    pub fn new<R: RandomSource + AllocGlobal>(rt: &R) -> io::Result<Seat> {
-        Ok(Seat {
-            queue: LocalPool::new(rt)?,
-        })
-    }
-}
 
 /// Serves one request over one stream, and ends the connection. What goes wrong ends it too: a fault
 /// of the stream, a head that isn't HTTP/1, and want of memory for the response.
@@ -42,20 +24,20 @@ impl Seat {
 /// after its request is never answered.
 ///
 /// Source: RFC 9112, "Persistence" and "Tear-down".
-pub fn serve_io<R, I, S, Q>(rt: &R, seat: &mut Seat, io: I, service: EdgeService<S, Q>)
+pub fn serve_io<R, I, S, Q>(rt: &R, executor: &mut Executor, io: I, service: EdgeService<S, Q>)
 where
     R: Wait,
     I: AsyncRead + AsyncWrite,
     S: Source<Q> + Sync + Drop,
     Q: Wait + Threads + Clock + Sync + Drop,
 {
-    serve_connection(rt, seat, io, service, None);
+    serve_connection(rt, executor, io, service, None);
 }
 
 /// The same, and then a journal is told of the request, where it is to be told and was answered.
 pub(crate) fn serve_journaled<R, I, S, Q, J>(
     rt: &R,
-    seat: &mut Seat,
+    executor: &mut Executor,
     io: I,
     service: EdgeService<S, Q>,
     journal: &J,
@@ -68,21 +50,21 @@ where
     J: Journal<R>,
 {
     if !journal.is_kept() {
-        return serve_connection(rt, seat, io, service, None);
+        return serve_connection(rt, executor, io, service, None);
     }
     match Note::pair(service.alloc()) {
         Ok((note, same)) => {
-            serve_connection(rt, seat, io, service, Some(same));
+            serve_connection(rt, executor, io, service, Some(same));
             note.tell(rt, journal);
         }
-        Err(_) => serve_connection(rt, seat, io, service, None),
+        Err(_) => serve_connection(rt, executor, io, service, None),
     }
 }
 
 // The same, and what was answered is left on the note, where there is one.
 fn serve_connection<R, I, S, Q>(
     rt: &R,
-    seat: &mut Seat,
+    executor: &mut Executor,
     io: I,
     service: EdgeService<S, Q>,
     note: Option<Arc<Note>>,
@@ -100,7 +82,9 @@ where
     let answer = service_fn(move |request: Request<Incoming<I>>| {
         future::ready(answered(service.answer(&request, note.as_deref())))
     });
-    let _ = seat.queue.run_until(rt, http.serve_connection(io, answer));
+    let _ = executor
+        .pool
+        .run_until(rt, http.serve_connection(io, answer));
 }
 
 // What the HTTP library takes for want of memory.

@@ -15,7 +15,7 @@ pub trait Journal<R> {
     fn is_kept(&self) -> bool;
 
     /// A request was answered, and its connection has ended.
-    fn served(&self, rt: &R, record: &Record);
+    fn served(&self, rt: &R, record: &RequestRecord);
 }
 
 /// No journal. It costs nothing.
@@ -27,12 +27,12 @@ impl<R> Journal<R> for NoJournal {
         false
     }
 
-    fn served(&self, _rt: &R, _record: &Record) {}
+    fn served(&self, _rt: &R, _record: &RequestRecord) {}
 }
 
 /// A request, and how it was answered. Where memory lacks for a text, it is empty.
 #[derive(Drop)]
-pub struct Record {
+pub struct RequestRecord {
     /// The method.
     pub method: Vec<u8>,
     /// The URL of the page; where none was assembled, the target of the request.
@@ -50,7 +50,7 @@ pub struct Record {
 /// Where the service of one connection leaves what it answered, for who waits for its end.
 #[derive(Drop)]
 pub(crate) struct Note {
-    left: Mutex<Option<(Instant, Record)>>,
+    left: Mutex<Option<(Instant, RequestRecord)>>,
 }
 
 impl Note {
@@ -75,7 +75,7 @@ impl Note {
         request: &Request<B>,
         responded: &Responded,
     ) {
-        let record = Record {
+        let record = RequestRecord {
             method: copy(alloc, request.method().as_str().as_bytes()),
             url: url_of(alloc, request, responded),
             status: responded.response.status().as_u16(),

@@ -7,17 +7,19 @@
 mod accept;
 mod client_stream;
 mod connection;
-mod crew;
-mod desk;
+mod executor;
 mod journal;
 mod responding;
+mod roster;
 mod service;
+mod threads;
 
 pub use accept::{Accept, Sockets};
 pub use client_stream::{ClientStream, Limits};
-pub use connection::{Seat, serve_io};
-pub use crew::serve_accepts;
-pub use desk::ServeEnd;
-pub use journal::{Journal, NoJournal, Record};
+pub use connection::serve_io;
+pub use executor::Executor;
+pub use journal::{Journal, NoJournal, RequestRecord};
 pub use responding::{Assembling, respond};
+pub use roster::ServeEnd;
 pub use service::EdgeService;
+pub use threads::serve_accepts;

@@ -3,12 +3,12 @@
 //! Source: RFC 9110, "HTTP Semantics", and RFC 9112, "HTTP/1.1".
 #![tactic(auto)]
 
+mod executors;
 mod fields;
 mod gathered;
 mod origin;
 mod origin_stream;
 mod round_trip;
-mod seats;
 mod source;
 
 pub use origin::Origin;

@@ -1,10 +1,10 @@
 //! One request and its response over one connection.
 
+use crate::executors::Executor;
 use crate::gathered::{Lost, Rest};
 use bytes::Bytes;
 use futures::TryFutureExt;
-use futures::executor::LocalPool;
-use futures::future::{Ready, join};
+use futures::future::join;
 use http::Request;
 use http::response::Parts;
 use http_body_util::Empty;
@@ -18,7 +18,7 @@ use tokio::io::{AsyncRead, AsyncWrite};
 pub(crate) fn round_trip<R, I>(
     rt: &R,
     alloc: Global,
-    seat: &mut LocalPool<Ready<()>>,
+    executor: &mut Executor,
     keys: RandomState,
     io: I,
     request: Request<Empty<Bytes>>,
@@ -36,7 +36,7 @@ where
         .and_then(move |response| Rest::of(alloc, response));
     // The connection ends with this response.
     drop(sender);
-    match seat.run_until(rt, join(page, connection)) {
+    match executor.run_until(rt, join(page, connection)) {
         Ok((page, _)) => page,
         Err(_) => Err(Lost::Fault),
     }

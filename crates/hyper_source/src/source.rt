@@ -2,12 +2,12 @@
 
 ghost use Rattle.std.specs.Prelude.{◌≡◌, IfOk};
 
+use crate::executors::IdleExecutors;
 use crate::fields::{content_type_of, control_of};
 use crate::gathered::Lost;
 use crate::origin::{Origin, address_of};
 use crate::origin_stream::OriginStream;
 use crate::round_trip::round_trip;
-use crate::seats::Seats;
 use bytes::Bytes;
 use edge_types::{Answer, NoMemory, Octets, PageUrl, SharedBytes};
 use fetch_workers::Source;
@@ -41,7 +41,7 @@ pub struct HyperSource {
     origins: Vec<Origin>,
     limit: Option<Duration>,
     keys: RandomState,
-    seats: Seats,
+    executors: IdleExecutors,
 }
 
 impl HyperSource {
@@ -60,7 +60,7 @@ impl HyperSource {
             origins,
             limit,
             keys: RandomState::new(rt)?,
-            seats: Seats::new(alloc),
+            executors: IdleExecutors::new(alloc),
         })
     }
 
@@ -76,11 +76,11 @@ impl HyperSource {
         let Ok(io) = connected(rt, address, self.limit) else {
             return Err(Lost::Fault);
         };
-        let Some(mut seat) = self.seats.take(rt) else {
+        let Some(mut executor) = self.executors.take(rt) else {
             return Err(Lost::Fault);
         };
-        let got = round_trip(rt, alloc, &mut seat, self.keys, io, request);
-        self.seats.leave(rt, seat);
+        let got = round_trip(rt, alloc, &mut executor, self.keys, io, request);
+        self.executors.leave(rt, executor);
         got
     }
 }

@@ -9,8 +9,8 @@ use std::sync::Arc;
 use std::sync::atomic::{AtomicU64, Ordering};
 
 mod caching;
+mod failing;
 mod fetching;
-mod serving;
 
 fn url(rt: &impl Abort, alloc: Global, path: &str) -> Result<PageUrl, NoMemory> {
     let mut text = String::new(alloc);

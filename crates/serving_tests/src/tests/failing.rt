@@ -6,7 +6,7 @@ use super::source_of;
 use fetch_workers::TableSource;
 use futures::task::{Context, Poll};
 use hyper_edge::{
-    Accept, Assembling, EdgeService, NoJournal, Seat, ServeEnd, serve_accepts, serve_io,
+    Accept, Assembling, EdgeService, Executor, NoJournal, ServeEnd, serve_accepts, serve_io,
 };
 use std::alloc::AllocGlobal;
 use std::io;
@@ -108,7 +108,7 @@ where
 }
 
 // How many bytes a client in memory is sent whose reads and writes fail after so many.
-fn written<R>(rt: &R, seat: &mut Seat, moves: u64) -> Result<u64, Fail>
+fn written<R>(rt: &R, executor: &mut Executor, moves: u64) -> Result<u64, Fail>
 where
     R: Wait + Threads + Clock + RandomSource + AllocGlobal + Abort + Clone + Drop + Sync,
 {
@@ -119,19 +119,19 @@ where
         moves,
         written: count.clone()?,
     };
-    serve_io(rt, seat, io, service);
+    serve_io(rt, executor, io, service);
     Ok(count.load(Ordering::SeqCst))
 }
 
 #[test]
 fn a_stream_that_fails_ends_its_exchange_alone(rt: HostRuntime) -> Result<(), Fail> {
-    let mut seat = Seat::new(&rt)?;
-    let whole = written(&rt, &mut seat, 100)?;
+    let mut executor = Executor::new(&rt)?;
+    let whole = written(&rt, &mut executor, 100)?;
     assert!(rt; whole > 3);
     for moves in 0..6 {
-        let sent = written(&rt, &mut seat, moves)?;
+        let sent = written(&rt, &mut executor, moves)?;
         assert!(rt; sent <= whole, "{moves}");
-        assert!(rt; written(&rt, &mut seat, 100)? == whole, "{moves}");
+        assert!(rt; written(&rt, &mut executor, 100)? == whole, "{moves}");
     }
     Ok(())
 }
@@ -188,8 +188,8 @@ where
 
 #[test]
 fn sixteen_failed_accepts_end_a_server(rt: HostRuntime) -> Result<(), Fail> {
-    let mut seat = Seat::new(&rt)?;
-    let whole = written(&rt, &mut seat, 100)?;
+    let mut executor = Executor::new(&rt)?;
+    let whole = written(&rt, &mut executor, 100)?;
     ends(&rt, 15, 32, whole)?;
     ends(&rt, 16, 16, 0)
 }

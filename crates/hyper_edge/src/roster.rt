@@ -2,8 +2,8 @@
 //! when the work has ended.
 
 ghost use Rattle.std.specs.Prelude.{◌≡◌, ◌↔◌, ◌-◌, false, true, IsTrue, MatchBool};
-ghost use Rattle.hyper_edge.specs.Desk as spec;
-ghost use Rattle.hyper_edge.specs.declared.desk.ServeEnd.TheVariants as ended;
+ghost use Rattle.hyper_edge.specs.Roster as spec;
+ghost use Rattle.hyper_edge.specs.declared.roster.ServeEnd.TheVariants as ended;
 
 /// So many failed accepts in succession end a server.
 pub(crate) const MAX_FAILED: u32 = 16;
@@ -19,7 +19,7 @@ pub enum ServeEnd {
 
 /// What lies under the lock that serving threads share.
 #[derive(Drop)]
-pub(crate) struct Desk {
+pub(crate) struct Roster {
     // How many accepts nobody has begun yet.
     left: u64,
     // How many threads there are, how many there may be, and how many of them serve.
@@ -32,10 +32,10 @@ pub(crate) struct Desk {
     wanted: bool,
 }
 
-impl Desk {
+impl Roster {
     /// So many accepts are to be made, by at most so many threads, of which the first is wanted.
-    pub(crate) fn new(count: u64, most: u16) -> Desk {
-        Desk {
+    pub(crate) fn new(count: u64, most: u16) -> Roster {
+        Roster {
             left: count,
             threads: 0,
             most,
@@ -62,8 +62,8 @@ impl Desk {
     /// A thread has accepted, and serves from now on. `true`: so a further one is wanted.
     pub(crate) fn accepted(&mut self) -> bool
         ensures { MatchBool result
-            (spec.WantsThread (spec.serving self.old) × (self.new ≡ record (spec.serving self.old) { wanted = true }))
-            (¬ (spec.WantsThread (spec.serving self.old)) × (self.new ≡ spec.serving self.old)) }
+            (spec.WantsThread (spec.succeeded self.old) × (self.new ≡ record (spec.succeeded self.old) { wanted = true }))
+            (¬ (spec.WantsThread (spec.succeeded self.old)) × (self.new ≡ spec.succeeded self.old)) }
     {
         self.failed = 0;
         self.serving = self.serving.saturating_add(1);

@@ -1,9 +1,10 @@
 //! The threads that serve.
 
 use crate::accept::Accept;
-use crate::connection::{Seat, serve_journaled};
-use crate::desk::{Desk, ServeEnd};
+use crate::connection::serve_journaled;
+use crate::executor::Executor;
 use crate::journal::Journal;
+use crate::roster::{Roster, ServeEnd};
 use crate::service::EdgeService;
 use fetch_workers::Source;
 use std::alloc::AllocGlobal;
@@ -14,20 +15,20 @@ use std::thread::Threads;
 use std::time::Clock;
 use tokio::io::{AsyncRead, AsyncWrite};
 
-/// A desk under its lock. Nothing is accepted or served under it.
+/// A roster under its lock. Nothing is accepted or served under it.
 #[derive(Drop)]
-struct SharedDesk {
-    desk: Mutex<Desk>,
+struct SharedRoster {
+    roster: Mutex<Roster>,
     // A thread is wanted, or the work is over.
     moved: Condvar,
 }
 
-impl SharedDesk {
+impl SharedRoster {
     fn may_accept(&self, rt: &impl Wait) -> bool {
-        let mut desk = self.desk.lock(rt);
-        let may = desk.may_accept();
-        let over = desk.is_over();
-        drop(desk);
+        let mut roster = self.roster.lock(rt);
+        let may = roster.may_accept();
+        let over = roster.is_over();
+        drop(roster);
         if over {
             self.moved.notify_all();
         }
@@ -35,34 +36,34 @@ impl SharedDesk {
     }
 
     fn accepted(&self, rt: &impl Wait) {
-        if self.desk.lock(rt).accepted() {
+        if self.roster.lock(rt).accepted() {
             self.moved.notify_all();
         }
     }
 
     fn served(&self, rt: &impl Wait) {
-        self.desk.lock(rt).served();
+        self.roster.lock(rt).served();
     }
 
     fn accept_failed(&self, rt: &impl Wait) -> bool {
-        self.desk.lock(rt).accept_failed()
+        self.roster.lock(rt).accept_failed()
     }
 
     fn not_started(&self, rt: &impl Wait) -> bool {
-        self.desk.lock(rt).not_started()
+        self.roster.lock(rt).not_started()
     }
 
     // Waits until a further thread is wanted, and counts it. `false`: none will be.
     fn wait_for_wanted(&self, rt: &impl Wait) -> bool {
-        let mut desk = self.desk.lock(rt);
+        let mut roster = self.roster.lock(rt);
         for _ in rt.forever() {
-            if desk.is_over() {
+            if roster.is_over() {
                 return false;
             }
-            if desk.take_wanted() {
+            if roster.take_wanted() {
                 return true;
             }
-            desk = self.moved.wait(rt, desk);
+            roster = self.moved.wait(rt, roster);
         }
         unreachable!()
     }
@@ -97,12 +98,12 @@ where
     S: Source<R> + Send + Sync + Drop,
     J: Journal<R> + Sync,
 {
-    let shared = SharedDesk {
-        desk: Mutex::new(Desk::new(count, threads)),
+    let shared = SharedRoster {
+        roster: Mutex::new(Roster::new(count, threads)),
         moved: Condvar::new(),
     };
     start_all(rt, acceptor, service, journal, &shared);
-    shared.desk.into_inner().end()
+    shared.roster.into_inner().end()
 }
 
 // Starts threads as they are wanted, and joins them.
@@ -111,7 +112,7 @@ fn start_all<R, A, S, J>(
     acceptor: &A,
     service: &EdgeService<S, R>,
     journal: &J,
-    shared: &SharedDesk,
+    shared: &SharedRoster,
 )
 where
     R: Wait + Threads + Clock + RandomSource + AllocGlobal + Clone + Sync + Drop,
@@ -143,7 +144,7 @@ fn work<R, A, S, J>(
     acceptor: &A,
     service: &EdgeService<S, R>,
     journal: &J,
-    shared: &SharedDesk,
+    shared: &SharedRoster,
 )
 where
     R: Wait + Threads + Clock + RandomSource + AllocGlobal + Clone + Sync + Drop,
@@ -152,7 +153,7 @@ where
     S: Source<R> + Sync + Drop,
     J: Journal<R>,
 {
-    let mut seat = None;
+    let mut executor = None;
     for _ in rt.forever() {
         if !shared.may_accept(rt) {
             return;
@@ -164,7 +165,7 @@ where
             continue;
         };
         shared.accepted(rt);
-        serve(rt, &mut seat, io, service, journal);
+        serve(rt, &mut executor, io, service, journal);
         shared.served(rt);
     }
     unreachable!()
@@ -173,7 +174,7 @@ where
 // Serves a connection; where there is no room for that, drops it.
 fn serve<R, I, S, J>(
     rt: &R,
-    seat: &mut Option<Seat>,
+    executor: &mut Option<Executor>,
     io: I,
     service: &EdgeService<S, R>,
     journal: &J,
@@ -184,10 +185,10 @@ where
     S: Source<R> + Sync + Drop,
     J: Journal<R>,
 {
-    if seat.is_none() {
-        *seat = Seat::new(rt).ok();
+    if executor.is_none() {
+        *executor = Executor::new(rt).ok();
     }
-    if let (Some(seat), Ok(own)) = (seat, service.share()) {
-        serve_journaled(rt, seat, io, own, journal);
+    if let (Some(executor), Ok(own)) = (executor, service.share()) {
+        serve_journaled(rt, executor, io, own, journal);
     }
 }

@@ -1,0 +1,38 @@
+//! What runs the futures of fetches.
+
+use futures::executor::LocalPool;
+use futures::future::Ready;
+use std::alloc::{AllocGlobal, Global};
+use std::random::RandomSource;
+use std::sync::{Mutex, Wait};
+
+/// Runs the futures of one fetch at a time.
+pub(crate) type Executor = LocalPool<Ready<()>>;
+
+/// Executors that no fetch needs now. To make one costs more than to keep it.
+#[derive(Drop)]
+pub(crate) struct IdleExecutors {
+    free: Mutex<Vec<Executor>>,
+}
+
+impl IdleExecutors {
+    pub(crate) fn new(alloc: Global) -> IdleExecutors {
+        IdleExecutors {
+            free: Mutex::new(Vec::new(alloc)),
+        }
+    }
+
+    /// A free executor, or a new one.
+    pub(crate) fn take<R: Wait + RandomSource + AllocGlobal>(&self, rt: &R) -> Option<Executor> {
+        let free = self.free.lock(rt).pop();
+        match free {
+            Some(executor) => Some(executor),
+            None => LocalPool::new(rt).ok(),
+        }
+    }
+
+    /// Leaves an executor to the next fetch, where there is room to keep it.
+    pub(crate) fn leave<R: Wait>(&self, rt: &R, executor: Executor) {
+        let _ = self.free.lock(rt).push(executor);
+    }
+}
