@@ -7,9 +7,9 @@ use Rattle.edge_types.specs.declared.request.Request.{Request}
 use Rattle.esi_meaning.specs.Ahead.{IsLegal}
 use Rattle.fetch_workers.specs.Given.{AllGiven}
 use Rattle.fetch_workers.specs.Rests.{RestsOn}
-use Rattle.hyper_edge_head.specs.Head.{served, Asks, NamesHost}
-use Rattle.hyper_edge_head.specs.Sent.{Sent, Tells, refusal}
-use Rattle.hyper_edge_head.specs.declared.field.Field.{Field}
+use Rattle.page_http.specs.Head.{served, Asks, NamesHost}
+use Rattle.page_http.specs.Sent.{Sent, Tells, refusal}
+use Rattle.page_http.specs.declared.field.Field.{Field}
 
 -- a target and fields ask for no page
 abbrev pub AsksNothing : List ℕ → List Field → Type 0

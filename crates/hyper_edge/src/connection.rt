@@ -10,7 +10,7 @@ use futures::future;
 use hyper::body::Incoming;
 use hyper::service::service_fn;
 use hyper::{Request, Response, server};
-use hyper_edge_head::EdgeBody;
+use page_http::EdgeBody;
 use std::alloc::AllocError;
 use std::sync::{Arc, Wait};
 use std::thread::Threads;

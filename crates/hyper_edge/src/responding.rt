@@ -3,14 +3,14 @@
 ghost use Rattle.std.specs.Prelude.{◌≡◌, ◌≤◌, ◌⊎◌, IfOk};
 ghost use Rattle.esi_meaning.specs.Meaning.{AreLevels};
 ghost use Rattle.fetch_workers.specs.Rests.{AreWorkers};
-ghost use Rattle.hyper_edge_head.specs.Sent.{IsRefusal, refusal, sent};
+ghost use Rattle.page_http.specs.Sent.{IsRefusal, refusal, sent};
 ghost use Rattle.plan_runner.specs.declared.page.TheConstants.{MAX_AHEAD};
 ghost use Rattle.hyper_edge.specs.Responses as spec;
 
 use edge_types::{Answer, NoMemory, PageUrl, Request};
 use fetch_workers::{Source, assemble};
 use http::Response;
-use hyper_edge_head::{EdgeBody, Field, HeadFault, answer_head, refusal_of, response_of};
+use page_http::{EdgeBody, Field, HeadFault, answer_head, refusal_of, response_of};
 use std::alloc::Global;
 use std::sync::{Arc, Wait};
 use std::thread::Threads;

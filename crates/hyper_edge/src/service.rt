@@ -6,7 +6,7 @@ use edge_types::NoMemory;
 use fetch_workers::Source;
 use http::header::HeaderValue;
 use http::{HeaderMap, Request};
-use hyper_edge_head::Field;
+use page_http::Field;
 use std::alloc::{AllocError, Global};
 use std::hash::RandomState;
 use std::io;

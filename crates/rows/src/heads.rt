@@ -2,7 +2,7 @@
 
 use crate::row::{Line, number, pair};
 use edge_types::{PageUrl, Request, around};
-use hyper_edge_head::Field;
+use page_http::Field;
 use std::alloc::Global;
 use std::str;
 
@@ -11,7 +11,7 @@ pub fn answer_head(alloc: Global, row: &[u8], line: &mut Line) -> Option<()> {
     let (method, row) = pair(row);
     let (target, lines) = around(b'|', row).unwrap_or((row, b""));
     let fields = fields(alloc, lines)?;
-    match &hyper_edge_head::answer_head(alloc, method, target, fields.as_slice()) {
+    match &page_http::answer_head(alloc, method, target, fields.as_slice()) {
         Ok((url, request)) => push_asked(line, url, &request.copy(alloc).ok()?),
         Err(fault) => line.debug(fault),
     }
@@ -62,5 +62,5 @@ fn is_host(alloc: Global, value: &[u8]) -> bool {
         name: b"host",
         value,
     }];
-    hyper_edge_head::answer_head(alloc, b"GET", b"http://b.test/", &fields).is_ok()
+    page_http::answer_head(alloc, b"GET", b"http://b.test/", &fields).is_ok()
 }

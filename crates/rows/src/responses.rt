@@ -8,7 +8,7 @@ use futures::task::{Context, Poll};
 use futures::{Future, FutureExt};
 use http::Response;
 use http_body::{Body, Frame};
-use hyper_edge_head::EdgeBody;
+use page_http::EdgeBody;
 use std::alloc::{AllocError, Global};
 use std::str;
 use std::sync::Arc;
@@ -16,7 +16,7 @@ use std::sync::Arc;
 /// A row is `fault` and a fault's name; or a status, a type, and the pieces of a body, with a bar before each.
 pub fn response_of(rt: &HostRuntime, row: &[u8], line: &mut Line) -> Option<()> {
     let outcome = Arc::new(rt.alloc(), outcome(rt.alloc(), row)?).ok()?;
-    let response = hyper_edge_head::response_of(rt.alloc(), outcome).ok()?;
+    let response = page_http::response_of(rt.alloc(), outcome).ok()?;
     push_response(rt, line, response)
 }
 
@@ -106,7 +106,7 @@ pub fn refusal_of(rt: &HostRuntime, row: &[u8], line: &mut Line) -> Option<()> {
     let status: u16 = number(row)?;
     match status {
         400 | 405 | 503 => {
-            let response = hyper_edge_head::refusal_of(rt.alloc(), status).ok()?;
+            let response = page_http::refusal_of(rt.alloc(), status).ok()?;
             push_response(rt, line, response)
         }
         _ => None,
@@ -117,7 +117,7 @@ pub fn refusal_of(rt: &HostRuntime, row: &[u8], line: &mut Line) -> Option<()> {
 /// counted, and their bytes.
 pub fn frames(rt: &HostRuntime, row: &[u8], line: &mut Line) -> Option<()> {
     let outcome = Arc::new(rt.alloc(), shared_page(rt.alloc(), row)?).ok()?;
-    let response = hyper_edge_head::response_of(rt.alloc(), outcome).ok()?;
+    let response = page_http::response_of(rt.alloc(), outcome).ok()?;
     push_counts(rt, line, &mut response.into_body())
 }
 

@@ -1,7 +1,7 @@
 -- The relation is put together of what each step found.
 use Rattle.std.proofs.Common.{rules, ◌≡◌, inl, inr}
 use Rattle.std.proofs.lemmas.Result.{IfOk-weaker}
-use Rattle.hyper_edge_head.specs.Head.{served}
+use Rattle.page_http.specs.Head.{served}
 use Rattle.hyper_edge.specs.Responses as spec
 use Rattle.hyper_edge.proofs.Heads.{is_served}
 use Rattle.hyper_edge.proofs.responding.respond_with_log.Goals as goal

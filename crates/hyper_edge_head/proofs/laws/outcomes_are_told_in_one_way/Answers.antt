@@ -1,5 +1,0 @@
-use Rattle.hyper_edge_head.proofs.SentLemmas.{tells_one_thing}
-use Rattle.hyper_edge_head.proofs.laws.outcomes_are_told_in_one_way.Goals as goal
-
-pub returns : goal.returns
-returns c = tells_one_thing

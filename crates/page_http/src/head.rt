@@ -1,0 +1,163 @@
+//! What the head of a request asks for.
+ghost use Rattle.std.specs.Prelude.{◌≡◌, ◌≢◌, ◌↔◌, ◌∷◌, ◌++◌, [], List, ℕ, IsTrue, IfOk, IfSome, IsErrOf, IsNone, MatchOption};
+ghost use Rattle.std.specs.List.{flat_map, join_by};
+ghost use Rattle.edge_types.specs.Asked.{asked};
+ghost use Rattle.edge_types.specs.declared.request.Request.{Request};
+ghost use Rattle.page_http.specs.declared.head.HeadFault.TheVariants as fault;
+ghost use Rattle.page_http.specs.Head as spec;
+
+use crate::field::{Field, first_value, next_value};
+use edge_types::{NoMemory, Octets, PageUrl, Request, query_of};
+use std::alloc::Global;
+use thiserror::Error;
+
+/// Why a head asks for no page.
+#[derive(Clone, Copy, Debug, Drop, PartialEq, Eq, Error)]
+pub enum HeadFault {
+    /// The method is another than `GET`.
+    #[error("the method isn't GET: ask for pages by GET")]
+    Method,
+    /// There isn't exactly one `Host`, or it isn't a host's, or the target names no URL that is
+    /// asked.
+    #[error("the request names no page: send one Host, and a target that names an http URL")]
+    Unreadable,
+    /// A growth was refused.
+    #[error("out of memory: try again with more of it")]
+    NoMemory,
+}
+
+impl From<NoMemory> for HeadFault {
+    ghost from_gives = { λ _ e. e ≡ fault.NoMemory };
+
+    fn from(_: NoMemory) -> HeadFault {
+        HeadFault::NoMemory
+    }
+}
+
+/// Reads the head of a request: the URL of the page that it asks for, and what the page's templates
+/// may ask of the request.
+///
+/// `target` is the request's target as it was sent, `fields` its lines in order. A target that
+/// begins with `/` is a path at the host, any other is a whole URL. Several `Cookie` lines count as
+/// one, joined by `; `; of `Referer`, `User-Agent` and `Accept-Language` the first line counts. The
+/// query is the target's.
+///
+/// Refused in this order: another method than `GET` (`Method`); not exactly one `Host`, one that is
+/// empty or has a byte other than letters, digits and `.-_:[]`, or a target that stands for no URL
+/// that the edge asks (`Unreadable`); a growth (`NoMemory`), which comes behind the test of method
+/// and `Host`.
+///
+/// Source: RFC 9112, "Request Line" and "Reconstructing the Target URI"; RFC 9110, "Host and
+/// :authority"; RFC 6265, "The Cookie Header"; our profile.
+pub fn answer_head(
+    alloc: Global,
+    method: &[u8],
+    target: &[u8],
+    fields: &[Field<'_>],
+) -> Result<(PageUrl, Request), HeadFault>
+    ensures asks { IfOk result (λ (url, request).
+        (method.now ≡ spec.served) × spec.Asks target.now fields.now url request) }
+    ensures method { IsErrOf result fault.Method ↔ (method.now ≢ spec.served) }
+    ensures unreadable { IsErrOf result fault.Unreadable →
+        (url : List ℕ) (request : Request) → ¬ (spec.Asks target.now fields.now url request) }
+    ensures no_memory { IsErrOf result fault.NoMemory →
+        (method.now ≡ spec.served) × (host : List ℕ) × spec.NamesHost fields.now host }
+{
+    if !is_served(method) {
+        return Err(HeadFault::Method);
+    }
+    let Some(host) = only_host(fields) else {
+        return Err(HeadFault::Unreadable);
+    };
+    let Some(url) = url_of(alloc, host, target)? else {
+        return Err(HeadFault::Unreadable);
+    };
+    let request = request_of(alloc, host, target, fields)?;
+    Ok((url, request))
+}
+
+fn is_served(method: &[u8]) -> bool
+    ensures { IsTrue result ↔ (method.now ≡ spec.served) }
+{
+    method == b"GET".as_slice()
+}
+
+// What a request says, once its host is known.
+fn request_of(
+    alloc: Global,
+    host: &[u8],
+    target: &[u8],
+    fields: &[Field<'_>],
+) -> Result<Request, NoMemory>
+    ensures { IfOk result (λ request. request ≡ spec.said host.now target.now fields.now) }
+{
+    Ok(Request {
+        host: Octets::copy_of(alloc, host)?,
+        cookie: cookies_of(alloc, fields)?,
+        referer: Octets::copy_of(alloc, first_value(b"referer", fields))?,
+        user_agent: Octets::copy_of(alloc, first_value(b"user-agent", fields))?,
+        accept_language: Octets::copy_of(alloc, first_value(b"accept-language", fields))?,
+        query: Octets::copy_of(alloc, query_of(target))?,
+    })
+}
+
+// The value of the one `Host`.
+fn only_host<'a>(fields: &[Field<'a>]) -> Option<&'a [u8]>
+    ensures some { IfSome result (λ host. spec.NamesHost fields.now host.now) }
+    ensures none { IsNone result → (host : List ℕ) → ¬ (spec.NamesHost fields.now host) }
+{
+    let (host, rest) = next_value(b"host", fields)?;
+    if next_value(b"host", rest).is_some() || !is_host(host) {
+        return None;
+    }
+    Some(host)
+}
+
+// Whether the bytes are a host's, with or without a port.
+#[tactic(auto, unfolding(crate::specs::Head::is_host))]
+fn is_host(text: &[u8]) -> bool
+    ensures { result ≡ spec.is_host text.now }
+{
+    !text.is_empty() && text.iter().all(|byte| is_host_byte(*byte))
+}
+
+// The bytes of a host beside letters and digits.
+const HOST_MARKS: &[u8] = b".-_:[]";
+
+#[tactic(auto, unfolding(crate::specs::Head::is_host_byte))]
+fn is_host_byte(byte: u8) -> bool
+    ensures { result ≡ spec.is_host_byte byte }
+{
+    byte.is_ascii_alphanumeric() || HOST_MARKS.contains(&byte)
+}
+
+// The URL of the page that a target names at a host.
+fn url_of(alloc: Global, host: &[u8], target: &[u8]) -> Result<Option<PageUrl>, NoMemory>
+    ensures { IfOk result (λ url. url ≡ asked None (spec.absolute_form host.now target.now)) }
+{
+    let [b'/', ..] = target else {
+        return PageUrl::parse(alloc, target);
+    };
+    let mut text = b"http://".to_vec(alloc)?;
+    text.extend_from_slice(host)?;
+    text.extend_from_slice(target)?;
+    PageUrl::parse(alloc, text.as_slice())
+}
+
+// The lines of `Cookie`, joined.
+fn cookies_of(alloc: Global, fields: &[Field<'_>]) -> Result<Octets, NoMemory>
+    ensures { IfOk result (λ cookie. cookie ≡ spec.cookies_of fields.now) }
+{
+    let Some((first, mut left)) = next_value(COOKIE, fields) else {
+        return Ok(Octets::empty(alloc));
+    };
+    let mut cookie = first.to_vec(alloc)?;
+    while let Some((line, rest)) = next_value(COOKIE, left) {
+        cookie.extend_from_slice(b"; ")?;
+        cookie.extend_from_slice(line)?;
+        left = rest;
+    }
+    Ok(Octets::of(cookie))
+}
+
+const COOKIE: &[u8] = b"cookie";

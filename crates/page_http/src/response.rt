@@ -1,0 +1,150 @@
+//! What is sent for an outcome, and for a request that asks for no page.
+ghost use Rattle.std.specs.Prelude.{◌≡◌, ◌∷◌, [], IfOk, MatchOption, codes, ◌≤◌};
+ghost use Rattle.std.specs.Arc.{arc_value};
+ghost use Rattle.page_http.specs.Sent as spec;
+
+use crate::body::EdgeBody;
+use edge_types::{MAX_STATUS, MIN_STATUS, NoMemory, Outcome};
+use http::header::{ALLOW, CONTENT_TYPE, HeaderValue, HeaderValueError};
+use http::response::Parts;
+use http::{Response, StatusCode};
+use std::alloc::Global;
+use std::sync::Arc;
+
+/// Tells an outcome as a response.
+///
+/// A page has its status, its content type where that isn't empty, and a frame for each piece of
+/// its body; under 204 and 304 none. A fault is told as 502 with a text of the edge's own, and so
+/// is a page whose status isn't 200 to 599 or whose content type is no field's value.
+///
+/// The one refusal is want of memory; the outcome is dropped then.
+///
+/// Source: RFC 9110, "Status Codes" and "Field Values"; our profile.
+pub fn response_of(alloc: Global, outcome: Arc<Outcome>) -> Result<Response<EdgeBody>, NoMemory>
+    ensures { IfOk result (λ response. spec.Tells (arc_value outcome) (spec.sent response)) }
+{
+    let (status, head) = match &*outcome {
+        Outcome::Page {
+            status,
+            content_type,
+            ..
+        } => (*status, page_head(alloc, *status, content_type.as_bytes())?),
+        Outcome::Fault(_) => (0, None),
+    };
+    let Some(head) = head else {
+        let head = own_head(alloc, StatusCode::BAD_GATEWAY)?;
+        return Ok(Response::from_parts(head, EdgeBody::text(UNASSEMBLED)));
+    };
+    if is_bodiless(status) {
+        return Ok(Response::from_parts(head, EdgeBody::nothing()));
+    }
+    Ok(Response::from_parts(head, EdgeBody::of(outcome)))
+}
+
+const UNASSEMBLED: &str = "The page could not be assembled.\n";
+
+/// Tells a refusal as a response: 400 for a head that can't be read, 405 for a method that isn't
+/// served, with the one that is, and 503 for want of room.
+///
+/// The one refusal of the call itself is want of memory.
+///
+/// Source: RFC 9110, "400 Bad Request", "405 Method Not Allowed", "503 Service Unavailable"; the
+/// texts are our profile.
+pub fn refusal_of(alloc: Global, status: u16) -> Result<Response<EdgeBody>, NoMemory>
+    requires { spec.IsRefusal status }
+    ensures { IfOk result (λ response. spec.sent response ≡ spec.refusal status) }
+{
+    match status {
+        400 => own_response(alloc, StatusCode::BAD_REQUEST, UNREADABLE),
+        405 => only_get(alloc),
+        _ => own_response(alloc, StatusCode::SERVICE_UNAVAILABLE, NO_ROOM),
+    }
+}
+
+const UNREADABLE: &str = "The request can't be read.\n";
+
+const ONLY_GET: &str = "Only GET is served.\n";
+
+const NO_ROOM: &str = "The edge has no room for the page.\n";
+
+// The refusal of another method.
+fn only_get(alloc: Global) -> Result<Response<EdgeBody>, NoMemory>
+    ensures { IfOk result (λ response. spec.sent response ≡ spec.refusal 405) }
+{
+    let mut head = own_head(alloc, StatusCode::METHOD_NOT_ALLOWED)?;
+    let get = HeaderValue::from_static("GET");
+    if head.headers.insert(ALLOW, get).is_err() {
+        return Err(NoMemory);
+    }
+    Ok(Response::from_parts(head, EdgeBody::text(ONLY_GET)))
+}
+
+// A response with a text of the edge's own.
+fn own_response(
+    alloc: Global,
+    status: StatusCode,
+    text: &'static str,
+) -> Result<Response<EdgeBody>, NoMemory>
+    ensures { IfOk result (λ response. spec.sent response ≡ spec.own status text.now []) }
+{
+    let head = own_head(alloc, status)?;
+    Ok(Response::from_parts(head, EdgeBody::text(text)))
+}
+
+// The head of a response with a text of the edge's own.
+fn own_head(alloc: Global, status: StatusCode) -> Result<Parts, NoMemory>
+    ensures status { IfOk result (λ head. head.status ≡ status) }
+    ensures fields { IfOk result (λ head. head.headers
+        ≡ spec.field (codes "content-type") (codes "text/plain") ∷ []) }
+{
+    let mut head = Parts::new(alloc);
+    head.status = status;
+    let plain = HeaderValue::from_static("text/plain");
+    if head.headers.insert(CONTENT_TYPE, plain).is_err() {
+        return Err(NoMemory);
+    }
+    Ok(head)
+}
+
+// The head of a page's response; none where HTTP can't carry it.
+fn page_head(alloc: Global, status: u16, content_type: &[u8]) -> Result<Option<Parts>, NoMemory>
+    ensures { IfOk result (λ head. MatchOption head (¬ (spec.IsSendable status content_type.now))
+        (λ head. spec.IsSendable status content_type.now × (head.status ≡ status)
+        × (head.headers ≡ spec.type_field content_type.now))) }
+{
+    let Some(status) = final_status(status) else {
+        return Ok(None);
+    };
+    let mut head = Parts::new(alloc);
+    head.status = status;
+    if content_type.is_empty() {
+        return Ok(Some(head));
+    }
+    let value = match HeaderValue::from_bytes(alloc, content_type) {
+        Ok(value) => value,
+        Err(HeaderValueError::Invalid) => return Ok(None),
+        Err(HeaderValueError::OutOfMemory) => return Err(NoMemory),
+    };
+    if head.headers.insert(CONTENT_TYPE, value).is_err() {
+        return Err(NoMemory);
+    }
+    Ok(Some(head))
+}
+
+// A status that ends an exchange.
+fn final_status(status: u16) -> Option<StatusCode>
+    ensures { MatchOption result (¬ ((200 ≤ status) × (status ≤ 599)))
+        (λ code. (200 ≤ status) × (status ≤ 599) × (code ≡ status)) }
+{
+    if status < MIN_STATUS || MAX_STATUS < status {
+        return None;
+    }
+    StatusCode::from_u16(status).ok()
+}
+
+// Whether no body is sent under the status.
+fn is_bodiless(status: u16) -> bool
+    ensures { result ≡ spec.is_bodiless status }
+{
+    status == 204 || status == 304
+}
