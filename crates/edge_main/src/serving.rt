@@ -4,10 +4,8 @@ ghost use Rattle.edge_setup.specs.Words.{IsWithin};
 use crate::status::Status;
 use edge_setup::{Origin, Pages, Setup};
 use edge_types::NoMemory;
-use fetch_workers::Cache;
-use hyper_edge::{
-    Assembling, EdgeService, Journal, Limits, RequestRecord, ServeEnd, Sockets, serve_accepts,
-};
+use fetch_workers::{Assembling, Cache};
+use hyper_edge::{EdgeService, Journal, Limits, RequestRecord, ServeEnd, Sockets, serve_accepts};
 use hyper_source::HyperSource;
 use std::alloc::AllocGlobal;
 use std::io::{Eprint, Print};

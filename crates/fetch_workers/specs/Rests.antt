@@ -4,8 +4,10 @@ use Rattle.edge_types.specs.declared.request.Request.{Request}
 use Rattle.edge_types.specs.Answered.{Answered}
 use Rattle.edge_types.specs.Outcome.{Shown}
 use Rattle.edge_types.specs.Table.{Agrees}
+use Rattle.esi_meaning.specs.Ahead.{IsLegal}
 use Rattle.esi_meaning.specs.Meaning.{outcome}
 use Rattle.esi_meaning.specs.State.{Done, state}
+use Rattle.fetch_workers.specs.Given.{AllGiven}
 use Rattle.fetch_workers.specs.declared.assembler.TheConstants.{MAX_WORKERS}
 
 -- how many threads may work for a page
@@ -19,3 +21,10 @@ pub record RestsOn (request : Request) (levels : ℕ) (url : List ℕ) (log : Li
   pub alone : state request log levels url ≡ Done result
   -- over every table that agrees with them, whatever else it has
   pub over_every_table : (table : List Answered) → Agrees log table → outcome request table levels url ≡ result
+
+-- a page that was assembled of a source's answers: what it logged, and its outcome
+pub record IsAssembled (gives : List ℕ → Answered → Type 0) (request : Request) (levels : ℕ) (url : List ℕ) (log : List Answered) (result : Shown) : Type 0 where
+  -- each logged answer is one that the source gives for its URL
+  pub given : AllGiven gives log
+  pub legal : IsLegal request url log
+  pub outcome : RestsOn request levels url log result

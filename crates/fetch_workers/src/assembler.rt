@@ -6,9 +6,9 @@ ghost use Rattle.edge_types.specs.Outcome.{shown};
 ghost use Rattle.esi_meaning.specs.Ahead.{IsLegal};
 ghost use Rattle.esi_meaning.specs.Meaning.{AreLevels};
 ghost use Rattle.answer_board.specs.Board.{log_of};
+ghost use Rattle.plan_runner.specs.declared.page.TheConstants.{MAX_AHEAD};
 ghost use Rattle.fetch_workers.specs.declared.log.Own.{Own};
-ghost use Rattle.fetch_workers.specs.Given.{AllGiven};
-ghost use Rattle.fetch_workers.specs.Rests.{AreWorkers, RestsOn};
+ghost use Rattle.fetch_workers.specs.Rests.{AreWorkers, IsAssembled, RestsOn};
 
 use crate::crew::run_workers;
 use crate::fault::AssembleFault;
@@ -18,7 +18,7 @@ use crate::same::same_request;
 use crate::shared_desk::SharedDesk;
 use crate::source::Source;
 use edge_types::{Answer, Outcome, PageUrl, Request};
-use plan_runner::{MAX_AHEAD, Page, State};
+use plan_runner::{Page, State};
 use std::alloc::Global;
 use std::sync::{Arc, Wait};
 use std::thread::Threads;
@@ -27,6 +27,22 @@ use std::thread::Threads;
 ///
 /// Our profile.
 pub const MAX_WORKERS: u8 = 16;
+
+/// How pages are assembled: the numbers of `assemble`, each within its limits.
+///
+/// Our profile.
+#[derive(Clone, Copy)]
+pub struct Assembling {
+    /// How many slots may be opened ahead.
+    pub ahead: u16,
+    /// How many threads may work for a page.
+    pub workers: u8,
+    /// How many levels of fragments there may be.
+    pub levels: u8,
+    ghost ahead_few: { ahead ≤ MAX_AHEAD },
+    ghost workers_few: { AreWorkers workers },
+    ghost levels_few: { AreLevels levels },
+}
 
 /// An outcome, and what it rests on.
 #[derive(Drop)]
@@ -60,13 +76,15 @@ where
     requires ahead { ahead ≤ MAX_AHEAD }
     requires workers { AreWorkers workers }
     requires levels { AreLevels levels }
-    ensures given { IfOk result (λ page. AllGiven (S.gives source.now) (map arc_value page.log.items)) }
-    ensures legal { IfOk result (λ page. IsLegal request url (map arc_value page.log.items)) }
-    ensures outcome { IfOk result (λ page. RestsOn request levels url (map arc_value page.log.items) (shown (arc_value page.outcome))) }
+    ensures { IfOk result (λ page.
+        IsAssembled (S.gives source.now) request levels url (map arc_value page.log.items) (shown (arc_value page.outcome))) }
 {
-    assemble_gated(
-        rt, alloc, source, &OpenGate, url, request, ahead, workers, levels,
-    )
+    let how = Assembling {
+        ahead,
+        workers,
+        levels,
+    };
+    how.assemble(rt, alloc, source, &OpenGate, url, request)
 }
 
 /// The same, with a gate that is passed before each fetch.
@@ -90,15 +108,65 @@ where
     requires ahead { ahead ≤ MAX_AHEAD }
     requires workers { AreWorkers workers }
     requires levels { AreLevels levels }
-    ensures given { IfOk result (λ page. AllGiven (S.gives source.now) (map arc_value page.log.items)) }
-    ensures legal { IfOk result (λ page. IsLegal request url (map arc_value page.log.items)) }
-    ensures outcome { IfOk result (λ page. RestsOn request levels url (map arc_value page.log.items) (shown (arc_value page.outcome))) }
+    ensures { IfOk result (λ page.
+        IsAssembled (S.gives source.now) request levels url (map arc_value page.log.items) (shown (arc_value page.outcome))) }
 {
-    let page = Page::accept(alloc, url.share()?, request.copy(alloc)?, ahead, levels)?;
-    let shared = SharedDesk::new(alloc, page, workers);
-    let mut own = run_workers(rt, alloc, source, gate, &shared, workers)?;
-    own.sort_unstable_by_key(|o| o.place);
-    compared(alloc, shared.into_page(), own, &url, &request, levels)
+    let how = Assembling {
+        ahead,
+        workers,
+        levels,
+    };
+    how.assemble(rt, alloc, source, gate, url, request)
+}
+
+impl Assembling {
+    /// With these numbers.
+    pub fn new(ahead: u16, workers: u8, levels: u8) -> Assembling
+        requires ahead { ahead ≤ MAX_AHEAD }
+        requires workers { AreWorkers workers }
+        requires levels { AreLevels levels }
+        ensures ahead { result.ahead ≡ ahead }
+        ensures workers { result.workers ≡ workers }
+        ensures levels { result.levels ≡ levels }
+    {
+        Assembling {
+            ahead,
+            workers,
+            levels,
+        }
+    }
+
+    /// Assembles a page by these numbers, as `assemble_gated` does.
+    ///
+    /// Our profile.
+    pub fn assemble<R, S, G>(
+        self,
+        rt: &R,
+        alloc: Global,
+        source: &S,
+        gate: &G,
+        url: PageUrl,
+        request: Request,
+    ) -> Result<Assembled, AssembleFault>
+    where
+        R: Wait + Threads + Sync,
+        S: Source<R> + Sync,
+        G: Gate<R> + Sync,
+        ensures { IfOk result (λ page.
+            IsAssembled (S.gives source.now) request self.levels url (map arc_value page.log.items) (shown (arc_value page.outcome))) }
+    {
+        let page = Page::accept(
+            alloc,
+            url.share()?,
+            request.copy(alloc)?,
+            self.ahead,
+            self.levels,
+        )?;
+        let shared = SharedDesk::new(alloc, page, self.workers);
+        let mut own = run_workers(rt, alloc, source, gate, &shared, self.workers)?;
+        own.sort_unstable_by_key(|o| o.place);
+        compared(alloc, shared.into_page(), own, &url, &request, self.levels)
+    }
 }
 
 // The page that was worked for, where it is done, it is the one that was asked for, and its log has

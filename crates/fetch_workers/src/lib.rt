@@ -18,7 +18,7 @@ mod source;
 mod table_source;
 mod worker;
 
-pub use assembler::{Assembled, MAX_WORKERS, assemble, assemble_gated};
+pub use assembler::{Assembled, Assembling, MAX_WORKERS, assemble, assemble_gated};
 pub use cache::{Cache, SHARDS};
 pub use clock::Clock;
 pub use fault::AssembleFault;

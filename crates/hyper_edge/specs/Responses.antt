@@ -4,9 +4,7 @@ use Rattle.edge_types.specs.Answered.{Answered}
 use Rattle.edge_types.specs.Outcome.{shown}
 use Rattle.edge_types.specs.declared.outcome.Outcome.{Outcome}
 use Rattle.edge_types.specs.declared.request.Request.{Request}
-use Rattle.esi_meaning.specs.Ahead.{IsLegal}
-use Rattle.fetch_workers.specs.Given.{AllGiven}
-use Rattle.fetch_workers.specs.Rests.{RestsOn}
+use Rattle.fetch_workers.specs.Rests.{IsAssembled}
 use Rattle.page_http.specs.Head.{served, Asks, NamesHost}
 use Rattle.page_http.specs.Sent.{Sent, Tells, refusal}
 use Rattle.page_http.specs.declared.field.Field.{Field}
@@ -23,10 +21,8 @@ NamesSomeHost fields = (host : List ℕ) × NamesHost fields host
 -- so over every table that agrees with them, is what is told
 pub record TellsPageAt (gives : List ℕ → Answered → Type 0) (url : List ℕ) (request : Request) (levels : ℕ) (response : Sent) : Type 0 where
   pub log : List Answered
-  pub given : AllGiven gives log
-  pub legal : IsLegal request url log
   pub outcome : Outcome
-  pub rests : RestsOn request levels url log (shown outcome)
+  pub assembled : IsAssembled gives request levels url log (shown outcome)
   pub told : Tells outcome response
 
 -- the page that is asked for

@@ -19,7 +19,7 @@ pub use client_stream::{ClientStream, Limits};
 pub use connection::serve_io;
 pub use executor::Executor;
 pub use journal::{Journal, NoJournal, RequestRecord};
-pub use responding::{Assembling, respond};
+pub use responding::respond;
 pub use roster::ServeEnd;
 pub use service::EdgeService;
 pub use threads::serve_accepts;

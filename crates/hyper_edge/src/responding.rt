@@ -1,53 +1,16 @@
 //! From the head of a request to its response.
 
-ghost use Rattle.std.specs.Prelude.{◌≡◌, ◌≤◌, ◌⊎◌, IfOk};
-ghost use Rattle.esi_meaning.specs.Meaning.{AreLevels};
-ghost use Rattle.fetch_workers.specs.Rests.{AreWorkers};
+ghost use Rattle.std.specs.Prelude.{◌≡◌, ◌⊎◌, IfOk};
 ghost use Rattle.page_http.specs.Sent.{IsRefusal, refusal, sent};
-ghost use Rattle.plan_runner.specs.declared.page.TheConstants.{MAX_AHEAD};
 ghost use Rattle.hyper_edge.specs.Responses as spec;
 
 use edge_types::{Answer, NoMemory, PageUrl, Request};
-use fetch_workers::{Source, assemble};
+use fetch_workers::{Assembling, OpenGate, Source};
 use http::Response;
 use page_http::{EdgeBody, Field, HeadFault, answer_head, refusal_of, response_of};
 use std::alloc::Global;
 use std::sync::{Arc, Wait};
 use std::thread::Threads;
-
-/// How pages are assembled: the numbers of `assemble`, each within its limits.
-///
-/// Our profile.
-#[derive(Clone, Copy)]
-pub struct Assembling {
-    /// How many slots may be opened ahead.
-    pub ahead: u16,
-    /// How many threads may work for a page.
-    pub workers: u8,
-    /// How many levels of fragments there may be.
-    pub levels: u8,
-    ghost ahead_few: { ahead ≤ MAX_AHEAD },
-    ghost workers_few: { AreWorkers workers },
-    ghost levels_few: { AreLevels levels },
-}
-
-impl Assembling {
-    /// With these numbers.
-    pub fn new(ahead: u16, workers: u8, levels: u8) -> Assembling
-        requires ahead { ahead ≤ MAX_AHEAD }
-        requires workers { AreWorkers workers }
-        requires levels { AreLevels levels }
-        ensures ahead { result.ahead ≡ ahead }
-        ensures workers { result.workers ≡ workers }
-        ensures levels { result.levels ≡ levels }
-    {
-        Assembling {
-            ahead,
-            workers,
-            levels,
-        }
-    }
-}
 
 /// The response to the head of a request: the page that it asks for, of answers that the source
 /// gives.
@@ -125,17 +88,7 @@ where
         (sent responded.response ≡ refusal 503)
         ⊎ spec.TellsPageAt (S.gives source.now) url request how.levels (sent responded.response)) }
 {
-    let page = assemble(
-        rt,
-        alloc,
-        source,
-        url,
-        request,
-        how.ahead,
-        how.workers,
-        how.levels,
-    );
-    match page {
+    match how.assemble(rt, alloc, source, &OpenGate, url, request) {
         Ok(page) => Ok(Responded {
             response: response_of(alloc, page.outcome)?,
             log: page.log,

@@ -1,9 +1,9 @@
 //! What answers the requests of a connection.
 
 use crate::journal::Note;
-use crate::responding::{Assembling, Responded, no_room, respond_with_log};
+use crate::responding::{Responded, no_room, respond_with_log};
 use edge_types::NoMemory;
-use fetch_workers::Source;
+use fetch_workers::{Assembling, Source};
 use http::header::HeaderValue;
 use http::{HeaderMap, Request};
 use page_http::Field;

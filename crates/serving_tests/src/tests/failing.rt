@@ -3,11 +3,9 @@ ghost use Rattle.std.specs.Prelude.{⊤};
 ghost use Rattle.std.specs.Io.{ReadsAtMost, WritesAtMost};
 
 use super::source_of;
-use fetch_workers::TableSource;
+use fetch_workers::{Assembling, TableSource};
 use futures::task::{Context, Poll};
-use hyper_edge::{
-    Accept, Assembling, EdgeService, Executor, NoJournal, ServeEnd, serve_accepts, serve_io,
-};
+use hyper_edge::{Accept, EdgeService, Executor, NoJournal, ServeEnd, serve_accepts, serve_io};
 use std::alloc::AllocGlobal;
 use std::io;
 use std::io::{ErrorKind, Read};
