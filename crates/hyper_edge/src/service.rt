@@ -5,9 +5,10 @@ use crate::responding::{Responded, no_room, respond_with_log};
 use edge_types::NoMemory;
 use fetch_workers::{Assembling, Source};
 use http::header::HeaderValue;
-use http::{HeaderMap, Request};
+use http::{HeaderMap, Request, Uri};
 use page_http::Field;
 use std::alloc::{AllocError, Global};
+use std::borrow::CowStr;
 use std::hash::RandomState;
 use std::io;
 use std::random::RandomSource;
@@ -80,33 +81,20 @@ where
 
     // The response to a request, on a copy of its head; 503 where there is no room for the copy.
     fn respond_to<B>(&self, request: &Request<B>) -> Result<Responded, NoMemory> {
-        let method = request.method().as_str().as_bytes();
-        let Ok(fields) = fields_of(self.alloc, request.headers()) else {
-            return no_room(self.alloc);
+        let alloc = self.alloc;
+        let Ok(fields) = fields_of(alloc, request.headers()) else {
+            return no_room(alloc);
         };
-        let uri = request.uri();
-        if let (None, Some(target)) = (uri.authority(), uri.path_and_query()) {
-            return self.respond(method, target.as_str().as_bytes(), fields.as_slice());
-        }
-        let Ok(target) = format!(in self.alloc; "{uri}") else {
-            return no_room(self.alloc);
+        let Ok(target) = target_of(alloc, request.uri()) else {
+            return no_room(alloc);
         };
-        self.respond(method, target.as_bytes(), fields.as_slice())
-    }
-
-    fn respond(
-        &self,
-        method: &[u8],
-        target: &[u8],
-        fields: &[Field<'_>],
-    ) -> Result<Responded, NoMemory> {
         respond_with_log(
             &self.rt,
-            self.alloc,
+            alloc,
             &*self.source,
-            method,
-            target,
-            fields,
+            request.method().as_str().as_bytes(),
+            target.as_bytes(),
+            fields.as_slice(),
             self.how,
         )
     }
@@ -135,4 +123,15 @@ fn fields_of(alloc: Global, headers: &HeaderMap<HeaderValue>) -> Result<Vec<Fiel
         })?;
     }
     Ok(fields)
+}
+
+// The target of a request, as it was sent.
+fn target_of(alloc: Global, uri: &Uri) -> Result<CowStr<'_>, NoMemory> {
+    if let (None, Some(target)) = (uri.authority(), uri.path_and_query()) {
+        return Ok(CowStr::Borrowed(target.as_str()));
+    }
+    match format!(in alloc; "{uri}") {
+        Ok(target) => Ok(CowStr::Owned(target)),
+        Err(_) => Err(NoMemory),
+    }
 }
