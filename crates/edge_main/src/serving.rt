@@ -5,14 +5,15 @@ use crate::status::Status;
 use edge_setup::{Origin, Pages, Setup};
 use edge_types::NoMemory;
 use fetch_workers::{Assembling, Cache};
-use hyper_edge::{EdgeService, Journal, Limits, RequestRecord, ServeEnd, Sockets, serve_accepts};
+use hyper_edge::{
+    EdgeService, Journal, Limits, RequestRecord, ServeEnd, ServerRuntime, Sockets, serve_accepts,
+};
 use hyper_source::HyperSource;
 use std::alloc::AllocGlobal;
 use std::io::{Eprint, Print};
 use std::net::{Net, SocketAddr, TcpListener, TcpStream};
 use std::random::RandomSource;
-use std::sync::{Arc, Wait};
-use std::thread::Threads;
+use std::sync::Arc;
 use std::time::{Clock, Duration};
 use std::{io, str};
 
@@ -22,17 +23,7 @@ type Kept = Cache<HyperSource, Seconds>;
 /// Serves as it is set up, until so many connections as that names were accepted and have ended.
 pub(crate) fn serve<R>(rt: &R, setup: Setup) -> Status
 where
-    R: Wait
-        + Threads
-        + Clock
-        + RandomSource
-        + AllocGlobal
-        + Print
-        + Eprint
-        + Clone
-        + Send
-        + Sync
-        + Drop,
+    R: ServerRuntime + Print + Eprint + Send + Sync,
     R: Net<Stream = TcpStream, Listener = TcpListener>,
     requires { IsWithin setup.pages }
 {
@@ -45,17 +36,7 @@ where
 
 fn served<R>(rt: &R, setup: Setup) -> Result<ServeEnd, Status>
 where
-    R: Wait
-        + Threads
-        + Clock
-        + RandomSource
-        + AllocGlobal
-        + Print
-        + Eprint
-        + Clone
-        + Send
-        + Sync
-        + Drop,
+    R: ServerRuntime + Print + Eprint + Send + Sync,
     R: Net<Stream = TcpStream, Listener = TcpListener>,
     requires { IsWithin setup.pages }
 {

@@ -49,16 +49,16 @@ where
     Q: Wait + Threads + Clock + Sync + Drop,
     J: Journal<R>,
 {
-    if !journal.is_kept() {
+    let notes = if journal.is_kept() {
+        Note::pair(service.alloc()).ok()
+    } else {
+        None
+    };
+    let Some((note, same)) = notes else {
         return serve_connection(rt, executor, io, service, None);
-    }
-    match Note::pair(service.alloc()) {
-        Ok((note, same)) => {
-            serve_connection(rt, executor, io, service, Some(same));
-            note.tell(rt, journal);
-        }
-        Err(_) => serve_connection(rt, executor, io, service, None),
-    }
+    };
+    serve_connection(rt, executor, io, service, Some(same));
+    note.tell(rt, journal);
 }
 
 // The same, and what was answered is left on the note, where there is one.

@@ -11,6 +11,7 @@ mod executor;
 mod journal;
 mod responding;
 mod roster;
+mod runtime;
 mod service;
 mod threads;
 
@@ -21,5 +22,6 @@ pub use executor::Executor;
 pub use journal::{Journal, NoJournal, RequestRecord};
 pub use responding::respond;
 pub use roster::ServeEnd;
+pub use runtime::ServerRuntime;
 pub use service::EdgeService;
 pub use threads::serve_accepts;

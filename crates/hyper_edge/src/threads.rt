@@ -5,14 +5,11 @@ use crate::connection::serve_journaled;
 use crate::executor::Executor;
 use crate::journal::Journal;
 use crate::roster::{Roster, ServeEnd};
+use crate::runtime::ServerRuntime;
 use crate::service::EdgeService;
 use fetch_workers::Source;
-use std::alloc::AllocGlobal;
-use std::random::RandomSource;
 use std::sync::{Condvar, Mutex, Wait};
 use std::thread;
-use std::thread::Threads;
-use std::time::Clock;
 use tokio::io::{AsyncRead, AsyncWrite};
 
 /// A roster under its lock. Nothing is accepted or served under it.
@@ -92,7 +89,7 @@ pub fn serve_accepts<R, A, S, J>(
     count: u64,
 ) -> ServeEnd
 where
-    R: Wait + Threads + Clock + RandomSource + AllocGlobal + Clone + Sync + Drop,
+    R: ServerRuntime + Sync,
     A: Accept<R> + Sync,
     A::Io: AsyncRead + AsyncWrite,
     S: Source<R> + Send + Sync + Drop,
@@ -115,7 +112,7 @@ fn start_all<R, A, S, J>(
     shared: &SharedRoster,
 )
 where
-    R: Wait + Threads + Clock + RandomSource + AllocGlobal + Clone + Sync + Drop,
+    R: ServerRuntime + Sync,
     A: Accept<R> + Sync,
     A::Io: AsyncRead + AsyncWrite,
     S: Source<R> + Send + Sync + Drop,
@@ -147,7 +144,7 @@ fn work<R, A, S, J>(
     shared: &SharedRoster,
 )
 where
-    R: Wait + Threads + Clock + RandomSource + AllocGlobal + Clone + Sync + Drop,
+    R: ServerRuntime + Sync,
     A: Accept<R>,
     A::Io: AsyncRead + AsyncWrite,
     S: Source<R> + Sync + Drop,
@@ -180,7 +177,7 @@ fn serve<R, I, S, J>(
     journal: &J,
 )
 where
-    R: Wait + Threads + Clock + RandomSource + AllocGlobal + Clone + Sync + Drop,
+    R: ServerRuntime + Sync,
     I: AsyncRead + AsyncWrite,
     S: Source<R> + Sync + Drop,
     J: Journal<R>,
