@@ -1,5 +1,5 @@
 -- From a page's own answer to where it waits or is done.
-use Rattle.std.proofs.Common.{◌≡◌, ℕ, ◌+◌, min, Bool, true, false, List, [], ◌∷◌, length, Option, Some, None, is_none, Ok, Err, refl, sym, ◌∙◌, ap, subst, arith, option_and_then}
+use Rattle.std.proofs.Common.{◌≡◌, inl, inr, ℕ, ◌+◌, min, Bool, true, false, List, [], ◌∷◌, length, Option, Some, None, is_none, Ok, Err, refl, sym, ◌∙◌, ap, subst, arith, option_and_then}
 use Rattle.edge_types.specs.declared.request.Request.{Request}
 use Rattle.edge_types.specs.declared.answer.Reply.{Reply}
 use Rattle.edge_types.specs.declared.answer.Reply.TheVariants.{Failed, Got}
@@ -117,10 +117,10 @@ module _ (r : Request) (log : List Answered) (L : ℕ) (u : List ℕ) (k : ℕ) 
 pub plain_done : (r : Request) (L : ℕ) (u : List ℕ) (b : board.State) (a : Answered) → answer_of (log_of b) u ≡ Some a → processed a.reply ≡ false → (o : Shown) → o ≡ plain_outcome a.reply → IsDone r L u b 0 o
 plain_done r L u b a found plain o is =
     let none : last_step o ≡ 0 = ap last_step is ∙ plain_last a.reply in
-    record { count = 0; tells = plain_told r (log_of b) L u 0 a found plain o is; steps_are = omega (arith, none) }
+    record { count = 0; tells = plain_told r (log_of b) L u 0 a found plain o is; planned = inr refl; steps_are = omega (arith, none) }
 
 pub bad_done : (r : Request) (L : ℕ) (u : List ℕ) (b : board.State) (a : Answered) → answer_of (log_of b) u ≡ Some a → (place : ℕ) → (processed a.reply ≡ true) × (tree_of (body_of a.reply) ≡ Err place) → IsDone r L u b 0 (Fault (BadTemplate place))
-bad_done r L u b a found place bad = record { count = 0; tells = bad_told r (log_of b) L u 0 a found place bad; steps_are = omega arith }
+bad_done r L u b a found place bad = record { count = 0; tells = bad_told r (log_of b) L u 0 a found place bad; planned = inr refl; steps_are = omega arith }
 
 -- the page's own answer, where it is a template
 page_of : (log : List Answered) (u : List ℕ) (t : Elements) (a : Answered) (reply : Reply) → a.reply ≡ reply → answer_of log u ≡ Some a → processed reply ≡ true → tree_of (body_of reply) ≡ Ok t → IsTemplate log u
@@ -172,6 +172,7 @@ module _ (r : Request) (L : ℕ) (u : List ℕ) (b : board.State) where
   too_many p tree status content_type page s full steps is = record {
     count = s.count;
     tells = template_told r (log_of b) L u s.count tree status content_type page _ s.there ∙ ap (told_by status content_type (shown_machine b p.machine)) full;
+    planned = inl (record { tree = tree; status = status; content_type = content_type; page = page });
     steps_are = omega (arith, is, s.steps);
   }
 
@@ -189,5 +190,6 @@ module _ (r : Request) (L : ℕ) (u : List ℕ) (b : board.State) where
         tells =
             template_told r (log_of b) L u s.count tree status content_type page _ s.there ∙ ap (told_by status content_type (shown_machine b p.machine)) rests
             ∙ ap (λ (x : Shown). Some (Done x)) (sym is);
+        planned = inl (record { tree = tree; status = status; content_type = content_type; page = page });
         steps_are = omega (arith, same, s.steps, none);
       }

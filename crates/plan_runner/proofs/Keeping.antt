@@ -1,5 +1,5 @@
 -- What holds of a page goes on holding when its board has more slots or more answers.
-use Rattle.std.proofs.Common.{◌≡◌, ◌≤◌, ℕ, ◌+◌, ◌-◌, List, [], ◌∷◌, ◌++◌, length, slice_get, true, Option, Some, None, is_none, refl, sym, ◌∙◌, ap, subst, arith}
+use Rattle.std.proofs.Common.{◌≡◌, ◌≤◌, ◌⊎◌, inl, inr, ℕ, ◌+◌, ◌-◌, List, [], ◌∷◌, ◌++◌, length, slice_get, true, Option, Some, None, is_none, refl, sym, ◌∙◌, ap, subst, arith}
 use Rattle.std.proofs.lemmas.List.{append-nil, length-map}
 use Rattle.std.proofs.lemmas.List.Elements.{Contains-push}
 use Rattle.std.specs.List.{Contains}
@@ -33,7 +33,7 @@ use Rattle.plan_runner.specs.Page as page
 use Rattle.plan_runner.specs.Page.{Page, Standing}
 use Rattle.plan_runner.specs.Kept.{standing_of, seen, IsStage, IsKept}
 use Rattle.plan_runner.specs.Resumed.{StandsAt}
-use Rattle.plan_runner.specs.Running.{IsRunning, IsDone}
+use Rattle.plan_runner.specs.Running.{IsTemplate, IsRunning, IsDone}
 use Rattle.plan_runner.specs.Shown.{url_in, tree_in, shown_frame, shown_frames, shown_machine, IsPlaced, ArePlaced}
 use Rattle.plan_runner.proofs.Boards.{claim_urls, fill_urls, whole_same, whole_filled, whole_opens, whole_opened, whole_few, may_come, legal_on}
 use Rattle.plan_runner.proofs.Done.{done_stays}
@@ -71,12 +71,19 @@ module _ (b c : State) (more : List Answered) (keeps : KeepsFilled b c) (log : l
     steps = s.steps;
   }
 
+  page_moves : (u : List ℕ) (t : Elements) (status : ℕ) (content_type : List ℕ) → IsPage (log_of b) u t status content_type → IsPage (log_of c) u t status content_type
+  page_moves u t status content_type p = subst (λ (l : List Answered). IsPage l u t status content_type) (sym log) (page_grows u t status content_type (answer_of (log_of b) u) refl p)
+
+  template_moves : (u : List ℕ) (count : ℕ) → IsTemplate (log_of b) u ⊎ (count ≡ 0) → IsTemplate (log_of c) u ⊎ (count ≡ 0)
+  template_moves u count (inl t) = inl (record { tree = t.tree; status = t.status; content_type = t.content_type; page = page_moves u t.tree t.status t.content_type t.page })
+  template_moves u count (inr none) = inr none
+
   running_moves : (r : Request) (L : ℕ) (u : List ℕ) (p : Progress) → IsRunning r L u b p → IsRunning r L u c p
   running_moves r L u p h = record {
     tree = h.tree;
     status = h.status;
     content_type = h.content_type;
-    page = subst (λ (l : List Answered). IsPage l u h.tree h.status h.content_type) (sym log) (page_grows u h.tree h.status h.content_type (answer_of (log_of b) u) refl h.page);
+    page = page_moves u h.tree h.status h.content_type h.page;
     stands = stands_moves r _ p h.placed h.stands;
     placed = all_placed_move p.machine.frames h.placed;
     ready = subst (λ (fs : List Frame). Ready p.machine.failed fs) (frames_stay p.machine.frames h.placed) h.ready;
@@ -86,6 +93,7 @@ module _ (b c : State) (more : List Answered) (keeps : KeepsFilled b c) (log : l
   done_moves r L u steps o h = record {
     count = h.count;
     tells = ap (λ (l : List Answered). told r l L u h.count) log ∙ done_stays r (log_of b) more L u h.count o h.tells;
+    planned = template_moves u h.count h.planned;
     steps_are = h.steps_are;
   }
 

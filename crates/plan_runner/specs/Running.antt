@@ -1,5 +1,5 @@
 -- How far a page is, over the answers that are logged.
-use Rattle.std.specs.Prelude.{◌≡◌, ℕ, ◌+◌, min, List, Some, None}
+use Rattle.std.specs.Prelude.{◌≡◌, ◌⊎◌, ℕ, ◌+◌, min, List, Some, None}
 use Rattle.edge_types.specs.declared.request.Request.{Request}
 use Rattle.edge_types.specs.declared.outcome.PageFault.TheVariants.{PageFetch, BadTemplate, IncludeFailed, TooManyLegs}
 use Rattle.edge_types.specs.Answered.{Answered}
@@ -50,6 +50,8 @@ module _ (r : Request) (L : ℕ) (u : List ℕ) (b : State) where
   pub record IsDone (steps : ℕ) (outcome : Shown) : Type 0 where
     pub count : ℕ
     pub tells : told r (log_of b) L u count ≡ Some (Done outcome)
+    -- a page without a plan makes none
+    pub planned : IsTemplate (log_of b) u ⊎ (count ≡ 0)
     pub steps_are : steps ≡ min (count + last_step outcome) 18446744073709551615
 
   -- what the page's own answer comes to

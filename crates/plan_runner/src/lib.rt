@@ -10,6 +10,7 @@ mod events;
 mod frames;
 mod hand;
 mod handlers;
+pub mod laws;
 mod leg;
 mod machine;
 mod outcome;

@@ -1,6 +1,6 @@
 //! Pages. Clauses see a page's URL, request and levels, its board, the room that is left for slots
 //! ahead, the count of steps, and how far it is. `specs/Headline.antt` is what a page promises.
-ghost use Rattle.std.specs.Prelude.{◌≡◌, ◌≤◌, ◌+◌, length, List, ◌++◌, ◌∷◌, [], Some, None, IfOk, IfErr, OnOk, OnErr, option_and_then, option_map, slice_get};
+ghost use Rattle.std.specs.Prelude.{◌≡◌, ◌≤◌, ◌+◌, length, List, ◌++◌, ◌∷◌, [], Some, None, Err, IfOk, IfErr, OnOk, OnErr, option_and_then, option_map, slice_get};
 ghost use Rattle.std.specs.Arc.{arc_value};
 ghost use Rattle.std.specs.List.{AllByRecursion};
 ghost use Rattle.std.specs.Option.{option_copied};
@@ -315,6 +315,7 @@ impl Page {
         ensures standing { IfOk result (λ s. self.new.standing ≡ standing_after s) }
         ensures done { (outcome : Shown) → self.old.standing ≡ Finished outcome → self.new ≡ self.old }
         ensures errs { IfErr result (λ e. Errs e self.old self.new) }
+        ensures broken { self.old.standing ≡ Broken → result ≡ Err PageError.Broken }
         ensures log { log_of self.new.board ≡ log_of self.old.board }
         ensures same { (self.new.url ≡ self.old.url) × (self.new.request ≡ self.old.request) × (self.new.levels ≡ self.old.levels) × (self.new.room ≡ self.old.room) }
         ensures moves { IfOk result (λ s. Moves s self.old.levels (waits_at self.old.request (log_of self.old.board) self.old.levels self.old.url) self.old.board self.new.board) }
