@@ -1,7 +1,7 @@
 -- The command line of the program, by `clap`'s definitions of commands.
 use Rattle.std.specs.Prelude.{◌≡◌, ◌≢◌, ◌≤◌, ℕ, Bool, true, nat_le, List, [], codes, Option, Some, None, option_and_then, option_map, if◌then◌else◌}
 use Rattle.std.specs.Str.{bytes_eq}
-use Rattle.clap.specs.Words.{App, Row, Text, HasKind, fault_of, first_of, new_app, subcommand_of, with_rule, with_subcommand}
+use Rattle.clap.specs.Words.{App, Row, Text, HasKind, fault_of, first_of, new_app, subcommand_of, with_subcommand}
 use Rattle.clap.specs.Simple.{on_top}
 use Rattle.esi_meaning.specs.declared.limits.TheConstants.{MIN_LEVELS, MAX_LEVELS}
 use Rattle.esi_meaning.specs.Meaning.{AreLevels}
@@ -9,8 +9,9 @@ use Rattle.plan_runner.specs.declared.events.Event.{Event}
 use Rattle.plan_runner.specs.declared.page.TheConstants.{MAX_AHEAD}
 use Rattle.edge_case.specs.Decimal.{decimal_of}
 use Rattle.edge_case.specs.Order.{events_of}
+use Rattle.edge_setup.specs.Case.{case_command}
 use Rattle.edge_setup.specs.Check.{check_command, SaysChecking}
-use Rattle.edge_setup.specs.Command.{named_flag, named_option, serve_command, with_default}
+use Rattle.edge_setup.specs.Command.{serve_command}
 use Rattle.edge_setup.specs.Words.{IsWithin as IsWithinPages, IsWrong, SaysSetup, is_set}
 use Rattle.edge_setup.specs.declared.check.Checking.{Checking}
 use Rattle.edge_setup.specs.declared.setup.Setup.{Setup}
@@ -20,16 +21,6 @@ use Rattle.edge_main.specs.declared.asked.Refusal.{Refusal}
 use Rattle.edge_main.specs.declared.asked.Refusal.TheVariants as refusal
 
 -- ---- the command
-
--- the subcommand `case`: `--order`, `--ahead`, which says 16, and `--levels`, which says 4 where it isn't there, and
--- the flag `--why`
-abbrev pub case_command : App
-case_command =
-    with_rule (with_rule (with_rule (with_rule (new_app (codes "case"))
-    (named_option (codes "order")))
-    (with_default (codes "16") (named_option (codes "ahead"))))
-    (with_default (codes "4") (named_option (codes "levels"))))
-    (named_flag (codes "why"))
 
 -- the program, which wants a subcommand: `case`, `serve` or `check`
 abbrev pub program : App

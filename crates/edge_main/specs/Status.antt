@@ -7,8 +7,8 @@ use Rattle.edge_case.specs.declared.ending.CaseEnd.TheVariants.{PagePrinted, Fau
 use Rattle.edge_case.specs.declared.ending.CaseFault.{CaseFault}
 use Rattle.edge_case.specs.declared.ending.CaseFault.TheVariants as fault
 use Rattle.clap.specs.Words.{kind_of}
-use Rattle.edge_setup.specs.declared.setup.Named.{Named}
-use Rattle.edge_setup.specs.declared.setup.Named.TheVariants as named
+use Rattle.edge_setup.specs.Numbers.{ahead, levels}
+use Rattle.edge_setup.specs.Words.{refusal_of}
 use Rattle.edge_main.specs.declared.asked.Refusal.{Refusal}
 use Rattle.edge_main.specs.declared.asked.Refusal.TheVariants as refusal
 use Rattle.edge_main.specs.declared.status.Status.{Status}
@@ -31,19 +31,6 @@ code_of BadCase = 3
 code_of NoMemory = 4
 code_of InputOutput = 5
 
--- what an option of `serve` takes, as standard error is told
-abbrev pub text_of : Named → List ℕ
-text_of named.Listen = codes "error: --listen takes an address with a port, as 127.0.0.1:8080"
-text_of named.Origin = codes "error: --origin takes AUTHORITY=ADDR, each authority once, as a.test=127.0.0.1:8080"
-text_of named.Workers = codes "error: --workers takes a number from 1 to 16"
-text_of named.Ahead = codes "error: --ahead takes a number from 0 to 256"
-text_of named.Levels = codes "error: --levels takes a number from 1 to 8"
-text_of named.Capacity = codes "error: --capacity takes a number from 1 to 1024"
-text_of named.Accept = codes "error: --accept takes a number below 2 to the power of 64"
-text_of named.Timeout = codes "error: --timeout takes milliseconds, from 0 to 86400000"
-text_of named.ClientTimeout = codes "error: --client-timeout takes milliseconds, from 0 to 86400000"
-text_of named.Threads = codes "error: --threads takes a number from 1 to 64"
-
 -- the line on standard error, where the program itself writes one
 abbrev pub line_of : Status → Option (List ℕ)
 line_of Page = None
@@ -53,9 +40,9 @@ line_of Checked = None
 line_of FaultFound = None
 line_of Usage = None
 line_of BadOrder = Some (codes "error: --order takes events with commas between: c, a, or p and one to four digits")
-line_of BadAhead = Some (codes "error: --ahead takes a number from 0 to 256")
-line_of BadLevels = Some (codes "error: --levels takes a number from 1 to 8")
-line_of (BadServe option) = Some (text_of option)
+line_of BadAhead = Some ahead.refusal
+line_of BadLevels = Some levels.refusal
+line_of (BadServe option) = Some (refusal_of option)
 line_of NotText = Some (codes "error: a word of the command line isn't UTF-8")
 line_of BadCase = Some (codes "bad case text")
 line_of NoMemory = Some (codes "no memory")

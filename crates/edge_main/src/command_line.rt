@@ -1,58 +1,19 @@
 //! The command line, judged whole before anything is read.
-ghost use Rattle.std.specs.Prelude.{◌≡◌, ◌≤◌, false, map, string_bytes, option_map, Some, ◌≢◌, IfNone, IfOk, IfSome, MatchResult};
+ghost use Rattle.std.specs.Prelude.{◌≡◌, ◌≤◌, map, string_bytes, option_map, Some, ◌≢◌, IfNone, IfOk, IfSome, MatchResult};
 ghost use Rattle.esi_meaning.specs.Meaning.{AreLevels};
 ghost use Rattle.clap.specs.Words.{app_of, found_of, rows_of, subcommand_rows_of};
-ghost use Rattle.clap.specs.declared.builder.command.Command.TheViews.{out-Command as fields_of};
-ghost use Rattle.edge_main.specs.CommandLine.{program, case_command, word_of, order_of, ahead_of, levels_of, name_of, Asks, IsRefused, IsOfCase, IsAsked, IsAskedToCheck, IsAskedToServe, IsRefusedBy, IsRefusedToCheck, IsRefusedToServe, IsWithin};
+ghost use Rattle.edge_main.specs.CommandLine.{program, word_of, order_of, ahead_of, levels_of, name_of, Asks, IsRefused, IsOfCase, IsAsked, IsAskedToCheck, IsAskedToServe, IsRefusedBy, IsRefusedToCheck, IsRefusedToServe, IsWithin};
 
 use crate::asked::{Asked, Refusal};
 use clap::{ArgMatches, Command};
 use edge_case::{decimal_of, read_events};
 use edge_setup::{
-    SetupFault, check_command, checking_of, flag, is_set, option, serve_command, setup_of,
+    SetupFault, case_command, check_command, checking_of, is_set, serve_command, setup_of,
 };
 use edge_types::NoMemory;
 use esi_meaning::{MAX_LEVELS, are_levels};
 use plan_runner::{Event, MAX_AHEAD};
 use std::alloc::{AllocError, Global};
-
-// The subcommand `case`.
-fn case_command<'a>(alloc: Global) -> Result<Command<'a>, AllocError>
-    ensures app { IfOk result (λ command. app_of command ≡ case_command) }
-    ensures local { IfOk result (λ command. (fields_of command).has_globals ≡ false) }
-{
-    let order = option(
-        alloc,
-        "order",
-        "LIST",
-        "Events that run first: c, a, or p and a place, with commas between",
-    );
-    let ahead = option(
-        alloc,
-        "ahead",
-        "N",
-        "Slots that posts may open ahead, from 0 to 256",
-    )
-    .default_value("16");
-    let levels = option(
-        alloc,
-        "levels",
-        "N",
-        "Levels of includes under the page, from 1 to 8",
-    )
-    .default_value("4");
-    let why = flag(
-        alloc,
-        "why",
-        "Tells on standard error what is wrong with templates, where the page has a fault",
-    );
-    Command::new(alloc, "case")
-        .about("Reads a case text from standard input and prints what its page comes to")
-        .arg(order)?
-        .arg(ahead)?
-        .arg(levels)?
-        .arg(why)
-}
 
 // The program's command line, by `clap`.
 fn command<'a>(alloc: Global) -> Result<Command<'a>, AllocError>

@@ -50,11 +50,17 @@ where
     let client = limit_of(serving.client_timeout);
     let (sockets, address) = listening(rt, listen, client)?;
     println!(rt; "listening on {address}")?;
-    let threads = u16::try_from(serving.threads).unwrap_or(u16::MAX);
     let log = AccessLog {
         is_kept: serving.logs,
     };
-    Ok(serve_accepts(rt, &sockets, &service, &log, threads, serving.accept))
+    Ok(serve_accepts(
+        rt,
+        &sockets,
+        &service,
+        &log,
+        serving.threads,
+        serving.accept,
+    ))
 }
 
 // A number of milliseconds; 0 is no limit.
@@ -108,8 +114,8 @@ where
         }
     }
     let source = HyperSource::new(rt, alloc, asked, limit)?;
-    let kept = Cache::new(alloc, source, Seconds, pages.capacity as usize)?;
-    let how = Assembling::new(pages.ahead as u16, pages.workers as u8, pages.levels as u8);
+    let kept = Cache::new(alloc, source, Seconds, usize::from(pages.capacity))?;
+    let how = Assembling::new(pages.ahead, pages.workers, pages.levels);
     let Ok(shared) = Arc::new(alloc, kept) else {
         return Err(Status::NoMemory);
     };

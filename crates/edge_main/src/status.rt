@@ -1,10 +1,10 @@
 //! Exit statuses.
 ghost use Rattle.std.specs.Prelude.{◌≡◌, option_map};
 ghost use Rattle.std.specs.Process.{exit_status};
-ghost use Rattle.edge_main.specs.Status.{code_of, help_status, line_of, status_of, text_of};
+ghost use Rattle.edge_main.specs.Status.{code_of, help_status, line_of, status_of};
 
 use edge_case::{CaseEnd, CaseFault};
-use edge_setup::Named;
+use edge_setup::{AHEAD, LEVELS, Named};
 use std::io;
 use std::process::ExitCode;
 
@@ -93,9 +93,9 @@ impl Status {
             Status::BadOrder => Some(
                 "error: --order takes events with commas between: c, a, or p and one to four digits",
             ),
-            Status::BadAhead => Some("error: --ahead takes a number from 0 to 256"),
-            Status::BadLevels => Some("error: --levels takes a number from 1 to 8"),
-            Status::BadServe(option) => Some(text_of(option)),
+            Status::BadAhead => Some(AHEAD.refusal),
+            Status::BadLevels => Some(LEVELS.refusal),
+            Status::BadServe(option) => Some(option.refusal()),
             Status::BadCase => Some("bad case text"),
             Status::NoMemory => Some("no memory"),
             Status::InputOutput => Some("input or output failed"),
@@ -106,25 +106,5 @@ impl Status {
             | Status::FaultFound
             | Status::Usage => None,
         }
-    }
-}
-
-// What an option of `serve` takes.
-fn text_of(option: Named) -> &'static str
-    ensures { result.now ≡ text_of option }
-{
-    match option {
-        Named::Listen => "error: --listen takes an address with a port, as 127.0.0.1:8080",
-        Named::Origin => {
-            "error: --origin takes AUTHORITY=ADDR, each authority once, as a.test=127.0.0.1:8080"
-        }
-        Named::Workers => "error: --workers takes a number from 1 to 16",
-        Named::Ahead => "error: --ahead takes a number from 0 to 256",
-        Named::Levels => "error: --levels takes a number from 1 to 8",
-        Named::Capacity => "error: --capacity takes a number from 1 to 1024",
-        Named::Accept => "error: --accept takes a number below 2 to the power of 64",
-        Named::Timeout => "error: --timeout takes milliseconds, from 0 to 86400000",
-        Named::ClientTimeout => "error: --client-timeout takes milliseconds, from 0 to 86400000",
-        Named::Threads => "error: --threads takes a number from 1 to 64",
     }
 }

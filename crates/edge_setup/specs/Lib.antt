@@ -1,5 +1,8 @@
 pub mod Decimal
+pub mod Rules
+pub mod Numbers
 pub mod Command
+pub mod Case
 pub mod Words
 pub mod Origins
 pub mod Check

@@ -1,5 +1,5 @@
 -- What the options of `serve` say, by the rows of `clap`'s matches.
-use Rattle.std.specs.Prelude.{◌≡◌, ◌≤◌, ℕ, Bool, false, nat_le, ◌||◌, bytes_eq, List, [], ◌∷◌, map, codes, Option, Some, None, option_and_then, if◌then◌else◌}
+use Rattle.std.specs.Prelude.{◌≡◌, ◌≤◌, ℕ, Bool, false, ◌||◌, bytes_eq, List, [], ◌∷◌, map, codes, Option, Some, None}
 use Rattle.std.specs.Str.{byte}
 use Rattle.std.specs.List.{list_any}
 use Rattle.std.specs.Option.{option_map_or}
@@ -8,6 +8,7 @@ use Rattle.std.specs.declared.net.socket_addr.SocketAddr.{SocketAddr}
 use Rattle.clap.specs.Words.{Row, Text, all_of, first_of}
 use Rattle.edge_types.specs.Halves.{around}
 use Rattle.edge_setup.specs.Decimal.{decimal_of}
+use Rattle.edge_setup.specs.Numbers.{ahead, capacity, client_timeout, levels, said_of, threads, timeout, workers}
 use Rattle.edge_setup.specs.declared.setup.Origin.{Origin}
 use Rattle.edge_setup.specs.declared.setup.Pages.{Pages}
 use Rattle.edge_setup.specs.declared.setup.Serving.{Serving}
@@ -18,14 +19,6 @@ use Rattle.edge_setup.specs.declared.setup.SetupFault.{SetupFault}
 use Rattle.edge_setup.specs.declared.setup.SetupFault.TheVariants as fault
 
 -- ---- numbers
-
--- a number that is at least so large
-abbrev pub at_least : ℕ → Option ℕ → Option ℕ
-at_least least number = option_and_then (λ n. if nat_le least n then Some n else None) number
-
--- the number from `least` to `most` that a word writes
-abbrev pub number_in : ℕ → ℕ → Option Text → Option ℕ
-number_in least most word = at_least least (option_and_then (λ w. decimal_of w most) word)
 
 -- the largest number of connections
 abbrev pub most_accepts : ℕ
@@ -82,17 +75,17 @@ SayNoOrigins words = (origins : List Origin) → SayOrigins words origins → �
 
 -- how pages are assembled and kept
 pub record SaysPages (rows : List Row) (pages : Pages) : Type 0 where
-  pub workers_are : number_in 1 16 (first_of (codes "workers") rows) ≡ Some pages.workers
-  pub ahead_is : number_in 0 256 (first_of (codes "ahead") rows) ≡ Some pages.ahead
-  pub levels_are : number_in 1 8 (first_of (codes "levels") rows) ≡ Some pages.levels
-  pub capacity_is : number_in 1 1024 (first_of (codes "capacity") rows) ≡ Some pages.capacity
+  pub workers_are : said_of workers rows ≡ Some pages.workers
+  pub ahead_is : said_of ahead rows ≡ Some pages.ahead
+  pub levels_are : said_of levels rows ≡ Some pages.levels
+  pub capacity_is : said_of capacity rows ≡ Some pages.capacity
 
--- how connections are served: a limit of time is at most a day
+-- how connections are served
 pub record SaysServing (rows : List Row) (serving : Serving) : Type 0 where
   pub accepts_are : accepts_of (first_of (codes "accept") rows) ≡ Some serving.accept
-  pub timeout_is : number_in 0 86400000 (first_of (codes "timeout") rows) ≡ Some serving.timeout
-  pub client_timeout_is : number_in 0 86400000 (first_of (codes "client-timeout") rows) ≡ Some serving.client_timeout
-  pub threads_are : number_in 1 64 (first_of (codes "threads") rows) ≡ Some serving.threads
+  pub timeout_is : said_of timeout rows ≡ Some serving.timeout
+  pub client_timeout_is : said_of client_timeout rows ≡ Some serving.client_timeout
+  pub threads_are : said_of threads rows ≡ Some serving.threads
   pub logs_is : is_set (first_of (codes "log") rows) ≡ serving.logs
 
 -- what the options ask for
@@ -106,14 +99,27 @@ pub record SaysSetup (rows : List Row) (setup : Setup) : Type 0 where
 abbrev pub IsWrong : List Row → Named → Type 0
 IsWrong rows named.Listen = (address : SocketAddr) → IsAddress (first_of (codes "listen") rows) address → ⊥
 IsWrong rows named.Origin = SayNoOrigins (all_of (codes "origin") rows)
-IsWrong rows named.Workers = number_in 1 16 (first_of (codes "workers") rows) ≡ None
-IsWrong rows named.Ahead = number_in 0 256 (first_of (codes "ahead") rows) ≡ None
-IsWrong rows named.Levels = number_in 1 8 (first_of (codes "levels") rows) ≡ None
-IsWrong rows named.Capacity = number_in 1 1024 (first_of (codes "capacity") rows) ≡ None
+IsWrong rows named.Workers = said_of workers rows ≡ None
+IsWrong rows named.Ahead = said_of ahead rows ≡ None
+IsWrong rows named.Levels = said_of levels rows ≡ None
+IsWrong rows named.Capacity = said_of capacity rows ≡ None
 IsWrong rows named.Accept = accepts_of (first_of (codes "accept") rows) ≡ None
-IsWrong rows named.Timeout = number_in 0 86400000 (first_of (codes "timeout") rows) ≡ None
-IsWrong rows named.ClientTimeout = number_in 0 86400000 (first_of (codes "client-timeout") rows) ≡ None
-IsWrong rows named.Threads = number_in 1 64 (first_of (codes "threads") rows) ≡ None
+IsWrong rows named.Timeout = said_of timeout rows ≡ None
+IsWrong rows named.ClientTimeout = said_of client_timeout rows ≡ None
+IsWrong rows named.Threads = said_of threads rows ≡ None
+
+-- the line for an option whose words are no use
+abbrev pub refusal_of : Named → Text
+refusal_of named.Listen = codes "error: --listen takes an address with a port, as 127.0.0.1:8080"
+refusal_of named.Origin = codes "error: --origin takes AUTHORITY=ADDR, each authority once, as a.test=127.0.0.1:8080"
+refusal_of named.Workers = workers.refusal
+refusal_of named.Ahead = ahead.refusal
+refusal_of named.Levels = levels.refusal
+refusal_of named.Capacity = capacity.refusal
+refusal_of named.Accept = codes "error: --accept takes a number below 2 to the power of 64"
+refusal_of named.Timeout = timeout.refusal
+refusal_of named.ClientTimeout = client_timeout.refusal
+refusal_of named.Threads = threads.refusal
 
 -- why the options ask for nothing
 abbrev pub IsRefusedBy : List Row → SetupFault → Type 0

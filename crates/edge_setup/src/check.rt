@@ -24,12 +24,12 @@ pub fn check_command<'a>(alloc: Global) -> Result<Command<'a>, AllocError>
     ensures local { IfOk result (λ command. (fields_of command).has_globals ≡ false) }
 {
     let command = Command::new(alloc, "check").about(
-        "Tells what is wrong with templates, by file, line and column",
+        "Reports what is wrong with templates, by file, line and column",
     );
     let strict = flag(
         alloc,
         "strict",
-        "Ends with status 1 where a warning is told, too",
+        "Ends with status 1 also where there is a warning",
     );
     let command = with_option(command, strict)?;
     with_option(command, file_names(alloc))

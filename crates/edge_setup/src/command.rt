@@ -1,11 +1,12 @@
 //! The subcommand `serve`.
 ghost use Rattle.std.specs.Prelude.{◌≡◌, false, IfOk};
-ghost use Rattle.clap.specs.Words.{app_of, rule_of};
+ghost use Rattle.clap.specs.Words.{app_of};
 ghost use Rattle.clap.specs.declared.builder.command.Command.TheViews.{out-Command as fields_of};
-ghost use Rattle.edge_setup.specs.Command.{named_option, repeated, serve_command, wanted, with_addresses, with_default, with_pages, with_serving};
+ghost use Rattle.edge_setup.specs.Command.{serve_command, with_addresses, with_pages, with_serving};
 
+use crate::number::{AHEAD, CAPACITY, CLIENT_TIMEOUT, LEVELS, THREADS, TIMEOUT, WORKERS};
 use crate::options::{flag, option, with_option};
-use clap::{Arg, ArgAction, Command};
+use clap::{ArgAction, Command};
 use std::alloc::{AllocError, Global};
 
 /// The subcommand `serve`.
@@ -21,16 +22,8 @@ pub fn serve_command<'a>(alloc: Global) -> Result<Command<'a>, AllocError>
     let command = with_serving(alloc, command)?;
     with_option(
         command,
-        flag(alloc, "log", "Tells each request on standard error"),
+        flag(alloc, "log", "Reports each request on standard error"),
     )
-}
-
-// A number, with what it is where the option isn't there.
-fn number<'a>(alloc: Global, name: &'a str, help: &'a str, default: &'a str) -> Arg<'a>
-    ensures rule { rule_of result ≡ with_default default.entry.now (named_option name.entry.now) }
-    ensures local { result.global ≡ false }
-{
-    option(alloc, name, "N", help).default_value(default)
 }
 
 // Where the server listens, and which origins it asks.
@@ -49,7 +42,7 @@ fn with_addresses<'a>(alloc: Global, command: Command<'a>) -> Result<Command<'a>
         alloc,
         "origin",
         "AUTHORITY=ADDR",
-        "Where an authority is asked; * stands for each that has no line of its own",
+        "Address for requests to an authority; * for each that has no --origin of its own",
     )
     .action(ArgAction::Append);
     let command = with_option(command, listen)?;
@@ -61,25 +54,10 @@ fn with_pages<'a>(alloc: Global, command: Command<'a>) -> Result<Command<'a>, Al
     ensures app { IfOk result (λ more. app_of more ≡ with_pages (app_of command.entry)) }
     ensures local { IfOk result (λ more. (fields_of more).has_globals ≡ (fields_of command.entry).has_globals) }
 {
-    let workers = number(alloc, "workers", "Threads for a page, from 1 to 16", "4");
-    let ahead = number(
-        alloc,
-        "ahead",
-        "Slots that posts may open ahead, from 0 to 256",
-        "16",
-    );
-    let levels = number(
-        alloc,
-        "levels",
-        "Levels of includes under a page, from 1 to 8",
-        "4",
-    );
-    let capacity = number(
-        alloc,
-        "capacity",
-        "Answers that each of 8 shards keeps, from 1 to 1024",
-        "128",
-    );
+    let workers = WORKERS.arg(alloc);
+    let ahead = AHEAD.arg(alloc);
+    let levels = LEVELS.arg(alloc);
+    let capacity = CAPACITY.arg(alloc);
     let command = with_option(command, workers)?;
     let command = with_option(command, ahead)?;
     let command = with_option(command, levels)?;
@@ -91,25 +69,10 @@ fn with_serving<'a>(alloc: Global, command: Command<'a>) -> Result<Command<'a>, 
     ensures app { IfOk result (λ more. app_of more ≡ with_serving (app_of command.entry)) }
     ensures local { IfOk result (λ more. (fields_of more).has_globals ≡ (fields_of command.entry).has_globals) }
 {
-    let accept = option(alloc, "accept", "N", "Ends after so many connections");
-    let timeout = number(
-        alloc,
-        "timeout",
-        "Milliseconds that a fetch may take; 0 for no limit",
-        "10000",
-    );
-    let client_timeout = number(
-        alloc,
-        "client-timeout",
-        "Milliseconds that a client may take; 0 for no limit",
-        "60000",
-    );
-    let threads = number(
-        alloc,
-        "threads",
-        "Connections that are served at once, from 1 to 64",
-        "64",
-    );
+    let accept = option(alloc, "accept", "N", "Ends after this many connections");
+    let timeout = TIMEOUT.arg(alloc);
+    let client_timeout = CLIENT_TIMEOUT.arg(alloc);
+    let threads = THREADS.arg(alloc);
     let command = with_option(command, accept)?;
     let command = with_option(command, timeout)?;
     let command = with_option(command, client_timeout)?;

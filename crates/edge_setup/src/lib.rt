@@ -1,18 +1,21 @@
-//! What the words of `serve` and of `check` say: which command lines they have, the addresses, origins and
+//! The subcommands `case`, `serve` and `check`: which command lines they have, the addresses, origins and
 //! numbers that the options of `serve` name, and the files that are to be checked.
 #![tactic(auto)]
 
+mod case;
 mod check;
 mod command;
 mod decimal;
+mod number;
 mod options;
 mod origins;
 mod setup;
 mod words;
 
+pub use case::case_command;
 pub use check::{Checking, check_command, checking_of};
 pub use command::serve_command;
 pub use decimal::decimal_of;
-pub use options::{flag, option, with_option};
+pub use number::{AHEAD, LEVELS, NumericOption};
 pub use setup::{Named, Origin, Pages, Serving, Setup, SetupFault};
 pub use words::{is_set, setup_of};

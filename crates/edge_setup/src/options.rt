@@ -2,7 +2,7 @@
 ghost use Rattle.std.specs.Prelude.{◌≡◌, false, IfOk};
 ghost use Rattle.clap.specs.Words.{app_of, rule_of, with_rule};
 ghost use Rattle.clap.specs.declared.builder.command.Command.TheViews.{out-Command as fields_of};
-ghost use Rattle.edge_setup.specs.Command.{named_flag, named_option};
+ghost use Rattle.edge_setup.specs.Rules.{named_flag, named_option};
 
 use clap::{Arg, ArgAction, Command};
 use std::alloc::{AllocError, Global};

@@ -1,8 +1,10 @@
 //! What a server is told.
 
 ghost use Rattle.std.specs.Prelude.{◌≡◌};
+ghost use Rattle.edge_setup.specs.Words.{refusal_of};
 ghost use Rattle.edge_setup.specs.declared.setup.SetupFault.TheVariants as fault;
 
+use crate::number::{AHEAD, CAPACITY, CLIENT_TIMEOUT, LEVELS, THREADS, TIMEOUT, WORKERS};
 use std::alloc::AllocError;
 use std::net::SocketAddr;
 
@@ -19,13 +21,13 @@ pub struct Origin {
 #[derive(Clone, Copy)]
 pub struct Pages {
     /// The threads that may work for a page.
-    pub workers: u32,
+    pub workers: u8,
     /// How many slots posts may open ahead.
-    pub ahead: u32,
+    pub ahead: u16,
     /// The levels of includes under a page.
-    pub levels: u32,
+    pub levels: u8,
     /// The answers that each shard of the cache keeps.
-    pub capacity: u32,
+    pub capacity: u16,
 }
 
 /// How connections are served.
@@ -38,7 +40,7 @@ pub struct Serving {
     /// The milliseconds that a client may take; 0 for no limit.
     pub client_timeout: u32,
     /// The connections that are served at once.
-    pub threads: u32,
+    pub threads: u16,
     /// Whether each request is told on standard error.
     pub logs: bool,
 }
@@ -79,6 +81,28 @@ pub enum Named {
     ClientTimeout,
     /// `--threads`: no number within the limits.
     Threads,
+}
+
+impl Named {
+    /// The line for its words, where they are no use.
+    pub fn refusal(self) -> &'static str
+        ensures { result.now ≡ refusal_of self }
+    {
+        match self {
+            Named::Listen => "error: --listen takes an address with a port, as 127.0.0.1:8080",
+            Named::Origin => {
+                "error: --origin takes AUTHORITY=ADDR, each authority once, as a.test=127.0.0.1:8080"
+            }
+            Named::Workers => WORKERS.refusal,
+            Named::Ahead => AHEAD.refusal,
+            Named::Levels => LEVELS.refusal,
+            Named::Capacity => CAPACITY.refusal,
+            Named::Accept => "error: --accept takes a number below 2 to the power of 64",
+            Named::Timeout => TIMEOUT.refusal,
+            Named::ClientTimeout => CLIENT_TIMEOUT.refusal,
+            Named::Threads => THREADS.refusal,
+        }
+    }
 }
 
 /// Why the words of `serve` ask for nothing.

@@ -6,9 +6,9 @@ use Rattle.edge_setup.proofs.command.with_serving.Goals as goal
 pub returns-clause-app : goal.returns-clause-app
 returns-clause-app c =
     let one = c.in_ok-command.ensures.app ∙ ap (with_rule (app_of c.args.command)) c.option-accept.ensures.rule in
-    let two = c.in_ok-command-2.ensures.app ∙ ap₂ with_rule one c.number-timeout.ensures.rule in
-    let three = c.in_ok-command-3.ensures.app ∙ ap₂ with_rule two c.number-client_timeout.ensures.rule in
-    IfOk-weaker c.with_option-4.result _ _ (λ more is. is ∙ ap₂ with_rule three c.number-threads.ensures.rule) c.with_option-4.ensures.app
+    let two = c.in_ok-command-2.ensures.app ∙ ap₂ with_rule one c.arg-timeout.ensures.rule in
+    let three = c.in_ok-command-3.ensures.app ∙ ap₂ with_rule two c.arg-client_timeout.ensures.rule in
+    IfOk-weaker c.with_option-4.result _ _ (λ more is. is ∙ ap₂ with_rule three c.arg-threads.ensures.rule) c.with_option-4.ensures.app
 
 pub returns-clause-local : goal.returns-clause-local
 returns-clause-local c =

@@ -1,0 +1,65 @@
+-- The options that take a number, and what they say by the rows of `clap`'s matches.
+use Rattle.std.specs.Prelude.{ℕ, nat_le, List, codes, Option, Some, None, option_and_then, if◌then◌else◌}
+use Rattle.clap.specs.Words.{Row, Rule, Text, first_of}
+use Rattle.edge_setup.specs.Decimal.{decimal_of}
+use Rattle.edge_setup.specs.Rules.{named_option, with_default}
+use Rattle.edge_setup.specs.declared.number.NumericOption.{NumericOption}
+
+-- its name, its limits, the word that counts where it isn't there, and the line for a word that is no such number
+pub record Numeric : Type 0 where
+  pub name : Text
+  pub least : ℕ
+  pub most : ℕ
+  pub default : Text
+  pub refusal : Text
+
+-- an option of the code
+abbrev pub shown : NumericOption → Numeric
+shown option = record { name = option.name.now; least = option.least; most = option.most; default = option.default.now; refusal = option.refusal.now }
+
+-- ---- the options
+
+-- the threads that may work for a page
+abbrev pub workers : Numeric
+workers = record { name = codes "workers"; least = 1; most = 16; default = codes "4"; refusal = codes "error: --workers takes a number from 1 to 16" }
+
+-- how many slots posts may open ahead
+abbrev pub ahead : Numeric
+ahead = record { name = codes "ahead"; least = 0; most = 256; default = codes "16"; refusal = codes "error: --ahead takes a number from 0 to 256" }
+
+-- the levels of includes under a page
+abbrev pub levels : Numeric
+levels = record { name = codes "levels"; least = 1; most = 8; default = codes "4"; refusal = codes "error: --levels takes a number from 1 to 8" }
+
+-- the answers that each shard of the cache keeps
+abbrev pub capacity : Numeric
+capacity = record { name = codes "capacity"; least = 1; most = 1024; default = codes "128"; refusal = codes "error: --capacity takes a number from 1 to 1024" }
+
+-- the milliseconds that a fetch may take, at most a day
+abbrev pub timeout : Numeric
+timeout = record { name = codes "timeout"; least = 0; most = 86400000; default = codes "10000"; refusal = codes "error: --timeout takes milliseconds, from 0 to 86400000" }
+
+-- the milliseconds that a client may take, at most a day
+abbrev pub client_timeout : Numeric
+client_timeout = record { name = codes "client-timeout"; least = 0; most = 86400000; default = codes "60000"; refusal = codes "error: --client-timeout takes milliseconds, from 0 to 86400000" }
+
+-- the connections that are served at once
+abbrev pub threads : Numeric
+threads = record { name = codes "threads"; least = 1; most = 64; default = codes "64"; refusal = codes "error: --threads takes a number from 1 to 64" }
+
+-- ---- what they are to `clap`, and what they say
+
+abbrev pub numeric_option : Numeric → Rule
+numeric_option option = with_default option.default (named_option option.name)
+
+-- a number that is at least so large
+abbrev pub at_least : ℕ → Option ℕ → Option ℕ
+at_least least number = option_and_then (λ n. if nat_le least n then Some n else None) number
+
+-- the number from `least` to `most` that a word writes
+abbrev pub number_in : ℕ → ℕ → Option Text → Option ℕ
+number_in least most word = at_least least (option_and_then (λ w. decimal_of w most) word)
+
+-- the number within its limits that an option says
+abbrev pub said_of : Numeric → List Row → Option ℕ
+said_of option rows = number_in option.least option.most (first_of option.name rows)

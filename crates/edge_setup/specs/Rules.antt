@@ -1,0 +1,24 @@
+-- Options, by `clap`'s definitions.
+use Rattle.std.specs.Prelude.{true, [], ◌∷◌, Some}
+use Rattle.clap.specs.Words.{Rule, Text, new_rule}
+use Rattle.clap.specs.declared.builder.action.ArgAction.TheVariants.{Append, SetTrue}
+
+-- an option `--NAME` with one word
+abbrev pub named_option : Text → Rule
+named_option name = record (new_rule name) { long = Some name; value_names = 1 }
+
+-- the same, with what it says where it isn't there
+abbrev pub with_default : Text → Rule → Rule
+with_default word option = record option { defaults = word ∷ [] }
+
+-- the same, which has to be there
+abbrev pub wanted : Rule → Rule
+wanted option = record option { required = true }
+
+-- the same, which may stand more than once
+abbrev pub repeated : Rule → Rule
+repeated option = record option { action = Some Append }
+
+-- an option `--NAME` without a word
+abbrev pub named_flag : Text → Rule
+named_flag name = record (new_rule name) { long = Some name; action = Some SetTrue }

@@ -1,0 +1,45 @@
+//! The subcommand `case`.
+ghost use Rattle.std.specs.Prelude.{◌≡◌, false, IfOk};
+ghost use Rattle.clap.specs.Words.{app_of};
+ghost use Rattle.clap.specs.declared.builder.command.Command.TheViews.{out-Command as fields_of};
+ghost use Rattle.edge_setup.specs.Case.{case_command, with_run};
+
+use crate::number::{AHEAD, LEVELS};
+use crate::options::{flag, option, with_option};
+use clap::Command;
+use std::alloc::{AllocError, Global};
+
+/// The subcommand `case`.
+pub fn case_command<'a>(alloc: Global) -> Result<Command<'a>, AllocError>
+    ensures app { IfOk result (λ command. app_of command ≡ case_command) }
+    ensures local { IfOk result (λ command. (fields_of command).has_globals ≡ false) }
+{
+    let command = Command::new(alloc, "case").about(
+        "Reads a case text from standard input and prints what its page comes to",
+    );
+    with_run(alloc, command)
+}
+
+// How the case is run.
+fn with_run<'a>(alloc: Global, command: Command<'a>) -> Result<Command<'a>, AllocError>
+    ensures app { IfOk result (λ more. app_of more ≡ with_run (app_of command.entry)) }
+    ensures local { IfOk result (λ more. (fields_of more).has_globals ≡ (fields_of command.entry).has_globals) }
+{
+    let order = option(
+        alloc,
+        "order",
+        "LIST",
+        "Events that run first: c, a, or p and a place, with commas between",
+    );
+    let ahead = AHEAD.arg(alloc);
+    let levels = LEVELS.arg(alloc);
+    let why = flag(
+        alloc,
+        "why",
+        "Reports on standard error what is wrong with templates, where the page has a fault",
+    );
+    let command = with_option(command, order)?;
+    let command = with_option(command, ahead)?;
+    let command = with_option(command, levels)?;
+    with_option(command, why)
+}

@@ -1,0 +1,142 @@
+//! The options that take a number: what each is called, its limits, and what is said of it.
+ghost use Rattle.std.specs.Prelude.{◌≡◌, ◌≤◌, false, IfSome};
+ghost use Rattle.clap.specs.Words.{found_of, rows_of, rule_of};
+ghost use Rattle.edge_setup.specs.Numbers.{numeric_option, said_of, shown};
+
+use crate::decimal::decimal_of;
+use crate::options::option;
+use crate::words::word_of;
+use clap::{Arg, ArgMatches};
+use std::alloc::Global;
+
+/// An option that takes a number, which has a default.
+#[derive(Clone, Copy)]
+pub struct NumericOption {
+    /// Its name, without the dashes.
+    pub name: &'static str,
+    /// What its number is, as help says it.
+    pub help: &'static str,
+    /// The smallest number that it takes.
+    pub least: u32,
+    /// The largest.
+    pub most: u32,
+    /// The word that counts where the option isn't there.
+    pub default: &'static str,
+    /// The line for a word that is no such number.
+    pub refusal: &'static str,
+}
+
+/// The threads that may work for a page.
+pub const WORKERS: NumericOption = NumericOption {
+    name: "workers",
+    help: "Threads that may fetch for a page, from 1 to 16",
+    least: 1,
+    most: 16,
+    default: "4",
+    refusal: "error: --workers takes a number from 1 to 16",
+};
+
+/// How many slots posts may open ahead.
+pub const AHEAD: NumericOption = NumericOption {
+    name: "ahead",
+    help: "Fragments that may be fetched before it is known that they are needed, from 0 to 256",
+    least: 0,
+    most: 256,
+    default: "16",
+    refusal: "error: --ahead takes a number from 0 to 256",
+};
+
+/// The levels of includes under a page.
+pub const LEVELS: NumericOption = NumericOption {
+    name: "levels",
+    help: "Levels of includes under a page, from 1 to 8",
+    least: 1,
+    most: 8,
+    default: "4",
+    refusal: "error: --levels takes a number from 1 to 8",
+};
+
+/// The answers that each shard of the cache keeps.
+pub const CAPACITY: NumericOption = NumericOption {
+    name: "capacity",
+    help: "Answers that each of 8 shards keeps, from 1 to 1024",
+    least: 1,
+    most: 1_024,
+    default: "128",
+    refusal: "error: --capacity takes a number from 1 to 1024",
+};
+
+/// The milliseconds that a fetch may take, at most a day.
+pub const TIMEOUT: NumericOption = NumericOption {
+    name: "timeout",
+    help: "Milliseconds that a fetch may take; 0 for no limit",
+    least: 0,
+    most: 86_400_000,
+    default: "10000",
+    refusal: "error: --timeout takes milliseconds, from 0 to 86400000",
+};
+
+/// The milliseconds that a client may take, at most a day.
+pub const CLIENT_TIMEOUT: NumericOption = NumericOption {
+    name: "client-timeout",
+    help: "Milliseconds that a client may take; 0 for no limit",
+    least: 0,
+    most: 86_400_000,
+    default: "60000",
+    refusal: "error: --client-timeout takes milliseconds, from 0 to 86400000",
+};
+
+/// The connections that are served at once.
+pub const THREADS: NumericOption = NumericOption {
+    name: "threads",
+    help: "Connections that are served at once, from 1 to 64",
+    least: 1,
+    most: 64,
+    default: "64",
+    refusal: "error: --threads takes a number from 1 to 64",
+};
+
+impl NumericOption {
+    /// The option, as `clap` takes it.
+    pub(crate) fn arg<'a>(&self, alloc: Global) -> Arg<'a>
+        ensures rule { rule_of result ≡ numeric_option (shown self.now) }
+        ensures local { result.global ≡ false }
+    {
+        option(alloc, self.name, "N", self.help).default_value(self.default)
+    }
+
+    /// Its number, where that is within the limits.
+    pub(crate) fn u32_of(&self, matches: &ArgMatches<'_>) -> Option<u32>
+        ensures value { result ≡ said_of (shown self.now) (rows_of (found_of matches.now)) }
+        ensures some { IfSome result (λ number. self.now.least ≤ number) }
+        ensures few { IfSome result (λ number. number ≤ self.now.most) }
+    {
+        let word = word_of(matches, self.name)?;
+        let number = decimal_of(word.as_bytes(), u64::from(self.most))? as u32;
+        if self.least <= number {
+            Some(number)
+        } else {
+            None
+        }
+    }
+
+    /// The same of an option that takes at most 65,535.
+    pub(crate) fn u16_of(&self, matches: &ArgMatches<'_>) -> Option<u16>
+        requires { self.now.most ≤ 65535 }
+        ensures value { result ≡ said_of (shown self.now) (rows_of (found_of matches.now)) }
+        ensures some { IfSome result (λ number. self.now.least ≤ number) }
+        ensures few { IfSome result (λ number. number ≤ self.now.most) }
+    {
+        Some(self.u32_of(matches)? as u16)
+    }
+
+    /// The same of an option that takes at most 255.
+    pub(crate) fn u8_of(&self, matches: &ArgMatches<'_>) -> Option<u8>
+        requires { self.now.most ≤ 255 }
+        ensures value { result ≡ said_of (shown self.now) (rows_of (found_of matches.now)) }
+        ensures some { IfSome result (λ number. self.now.least ≤ number) }
+        ensures few { IfSome result (λ number. number ≤ self.now.most) }
+    {
+        Some(self.u32_of(matches)? as u8)
+    }
+}
