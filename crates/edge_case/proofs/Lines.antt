@@ -1,63 +1,28 @@
 -- Lines: what is read is written so, and what is written so is read.
-use Rattle.std.proofs.Common.{◌≡◌, ◌≢◌, ℕ, suc, ◌+◌, ◌<◌, true, cond, nat_lt, eqb, List, [], ◌∷◌, ◌++◌, length, take, drop, get_or, refl, sym, ◌∙◌, ap, subst, Option, Some, None, arith, position, bytes_eq, length-append, take-append-drop, add-one}
-use Rattle.std.proofs.Math.Seq.{drop-cons, take-append_seam, drop-append_seam, get_or-append_seam}
-use Rattle.std.proofs.lemmas.List.{length-take, get_or-take, get_or_append_left}
+use Rattle.std.proofs.Common.{◌≡◌, ◌≢◌, ℕ, true, false, not, List, ◌∷◌, ◌++◌, length, take, drop, refl, sym, ◌∙◌, ap, subst, Option, Some, None, bytes_eq, take-append-drop}
+use Rattle.std.proofs.Math.Seq.{take-append_seam, drop-append_seam}
 use Rattle.std.proofs.lemmas.List.Elements.{All-from_get_or, All-get_or}
-use Rattle.std.proofs.lemmas.List.Quantifiers.{position-Some}
-use Rattle.std.proofs.lemmas.List.Sums.{position_or_len_is}
-use Rattle.std.proofs.lemmas.Bool.{eqb-true, eqb-false, eq-eqb, ne_eqb, cond-true}
+use Rattle.std.proofs.lemmas.Bool.{eq-eqb, ne_eqb, cond-true}
 use Rattle.std.proofs.lemmas.Slice.Eq.{bytes_eq-Decides}
-use Rattle.std.proofs.lemmas.Grind.{common_steps}
-use Rattle.std.specs.List.{All, position_or_len}
+use Rattle.std.specs.List.{All}
 use Rattle.std.specs.Option.{option_map}
 use Rattle.edge_case.specs.Document.{line_feed, line, field, IsValue, IsField}
 use Rattle.edge_types.specs.Halves.{around}
+use Rattle.edge_types.proofs.HalvesLemmas as halves
 use Rattle.edge_case.specs.Reading.{◌>>=◌, after_word, line_at, some_field, field_from, field_at}
 use Rattle.edge_case.proofs.Steps.{bound, mapped, guarded, same_value}
 
-around_parts : (mark : ℕ) (text v rest : List ℕ) (i : ℕ) → i < length text → get_or text i 0 ≡ mark → ((k : ℕ) → k < i → get_or text k 0 ≡ mark → ⊥)
-    → take i text ≡ v → drop (i + 1) text ≡ rest → (text ≡ v ++ mark ∷ rest) × All (λ b. b ≢ mark) v
-around_parts mark text v rest i h at before front back =
-    let cut : drop i text ≡ get_or text i 0 ∷ drop (i + 1) text = rw (add-one, drop-cons text i 0) refl in
-    let joined : take i text ++ drop i text ≡ text = take-append-drop i text in
-    let whole : text ≡ v ++ mark ∷ rest = cc in
-    let none : All (λ b. b ≢ mark) (take i text) =
-    All-from_get_or (λ b. b ≢ mark) (take i text) 0 (λ k l e.
-    let below : k < i = omega (arith, length-take i text) in
-    before k below (sym (get_or-take i text k 0 below) ∙ e)) in
-    (whole, subst (λ (u : List ℕ). All (λ b. b ≢ mark) u) front none)
-
 pub around_sound : (mark : ℕ) (text v rest : List ℕ) → around mark text ≡ Some (v, rest) → (text ≡ v ++ mark ∷ rest) × All (λ b. b ≢ mark) v
-unfolding around
 around_sound mark text v rest h =
-    let (i, at, made) = mapped (position (λ b. eqb b mark) text) (λ n. (take n text, drop (n + 1) text)) (v, rest) h in
-    let found = position-Some (λ b. eqb b mark) text i 0 at in
-    around_parts mark text v rest i found.0 (eqb-true _ _ found.1) (λ k l. eqb-false _ _ (found.2 k l))
-    (ap (λ (p : List ℕ × List ℕ). p.0) made) (ap (λ (p : List ℕ × List ℕ). p.1) made)
-
-at_place : (n i len : ℕ) → n ≡ i → i < len → cond (nat_lt n len) (Some n) None ≡ Some i
-at_place n i len e h = grind (arith, common_steps)
-
-after_seam : (v : List ℕ) (mark : ℕ) (rest : List ℕ) → drop (length v + 1) (v ++ mark ∷ rest) ≡ rest
-after_seam [] mark rest = refl
-after_seam (b ∷ v) mark rest = let e : suc (length v) + 1 ≡ suc (length v + 1) = omega arith in rw e (after_seam v mark rest)
-
-same_pair : (a b c d : List ℕ) → a ≡ c → b ≡ d → ◌≡◌ {A = Option (List ℕ × List ℕ)} (Some (a, b)) (Some (c, d))
-same_pair a b c d e f = rw (e, f) refl
+    let (others, whole) = halves.around_sound mark text v rest h in (
+      whole,
+      All-from_get_or (λ b. b ≢ mark) v 0 (λ k l e.
+          let clash : false ≡ true = ap not (sym (eq-eqb _ _ e)) ∙ others k 0 l in absurd (cc)),
+    )
 
 pub around_complete : (mark : ℕ) (v rest : List ℕ) → All (λ b. b ≢ mark) v → around mark (v ++ mark ∷ rest) ≡ Some (v, rest)
-unfolding around
 around_complete mark v rest none =
-    let text : List ℕ = v ++ mark ∷ rest in
-    let long : length v < length (v ++ mark ∷ rest) = omega (arith, length-append v (mark ∷ rest)) in
-    let place : position_or_len (λ b. eqb b mark) (v ++ mark ∷ rest) ≡ length v =
-    position_or_len_is (λ b. eqb b mark) (v ++ mark ∷ rest) (length v) 0 (omega arith)
-    (λ k h. ne_eqb _ _ (λ e. All-get_or (λ b. b ≢ mark) v k 0 h none (sym (get_or_append_left v (mark ∷ rest) 0 k h) ∙ e)))
-    (λ h. eq-eqb _ _ (get_or-append_seam v mark rest 0)) in
-    let at : position (λ b. eqb b mark) (v ++ mark ∷ rest) ≡ Some (length v) =
-    at_place (position_or_len (λ b. eqb b mark) (v ++ mark ∷ rest)) (length v) (length (v ++ mark ∷ rest)) place long in
-    ap (option_map (λ n. (take n (v ++ mark ∷ rest), drop (n + 1) (v ++ mark ∷ rest)))) at
-    ∙ same_pair _ _ v rest (take-append_seam v (mark ∷ rest)) (after_seam v mark rest)
+    halves.around_again mark v rest (λ k d h. ap not (ne_eqb _ _ (λ e. All-get_or (λ b. b ≢ mark) v k d h none e)))
 
 pub after_word_sound : (word text rest : List ℕ) → after_word word text ≡ Some rest → text ≡ word ++ rest
 unfolding after_word

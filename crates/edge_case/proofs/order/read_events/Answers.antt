@@ -8,17 +8,17 @@ pub returns-then-not-branch : goal.returns-then-not-branch
 returns-then-not-branch c =
     let events = c.loop-item.events.items in
     let added : after_item events (event_of c.in-Some.item.now) ≡ None = rw c.if-not-branch.true at c.in_ok-add_item.ensures in
-    sym (bad_item events c.loop-item.rest.now c.in-Some.item.now c.in-Some.after.now (sym c.in-Some.ensures) added) ∙ c.loop-item.invariant
+    sym (bad_item events c.loop-item.rest.now c.in-Some.item.now c.in-Some.after.now (sym c.in-Some.ensures.value) added) ∙ c.loop-item.invariant
 
 pub loop-item-smaller : goal.loop-item-smaller
-loop-item-smaller c = (cuts c.loop-item.rest.now c.in-Some.item.now c.in-Some.after.now (sym c.in-Some.ensures)).shorter
+loop-item-smaller c = (cuts c.loop-item.rest.now c.in-Some.item.now c.in-Some.after.now (sym c.in-Some.ensures.value)).shorter
 
 pub loop-item-preserved : goal.loop-item-preserved
 loop-item-preserved c =
     let events = c.loop-item.events.items in
     let more = c.add_item.new.events.items in
     let added : after_item events (event_of c.in-Some.item.now) ≡ Some more = rw c.if-not-branch.false at c.in_ok-add_item.ensures in
-    next_item events more c.loop-item.rest.now c.in-Some.item.now c.in-Some.after.now (sym c.in-Some.ensures) added ∙ c.loop-item.invariant
+    next_item events more c.loop-item.rest.now c.in-Some.item.now c.in-Some.after.now (sym c.in-Some.ensures.value) added ∙ c.loop-item.invariant
 
 pub returns-then-branch : goal.returns-then-branch
 returns-then-branch c =
