@@ -20,11 +20,11 @@ rows_met None = []
 rows_met (Some met) = met.1
 
 -- the words are taken, and name these files
-record Name (words files : List Text) (is_strict : Bool) : Type 0 where
-  pub taken : fault_of program words ≡ []
-  pub named : name_met (subcommand_of program words) ≡ codes "check"
-  pub files_are : files_of (all_of (codes "file") (rows_met (subcommand_of program words))) ≡ files
-  pub strict_is : is_set (first_of (codes "strict") (rows_met (subcommand_of program words))) ≡ is_strict
+abbrev Name : List Text → List Text → Bool → Type 0
+Name words files is_strict = (fault_of program words ≡ [])
+    × (name_met (subcommand_of program words) ≡ codes "check")
+    × (files_of (all_of (codes "file") (rows_met (subcommand_of program words))) ≡ files)
+    × (is_set (first_of (codes "strict") (rows_met (subcommand_of program words))) ≡ is_strict)
 
 met-is : (met : Option (Text × List Row)) → name_met met ≡ codes "check" → met ≡ Some (codes "check", rows_met met)
 met-is None named = absurd (cc)
@@ -36,17 +36,17 @@ asks words files is_strict names checking = ((λ asked. said asked), λ wanted. 
     said : AsksCheck words checking → (map (λ file. file.now) checking.files.items ≡ files) × (checking.is_strict ≡ is_strict)
     said asked =
         let same : asked.says.rows ≡ rows_met (subcommand_of program words) = sym (ap rows_met asked.says.met_is) in (
-          asked.says.says.files_are ∙ (ap (λ rows. files_of (all_of (codes "file") rows)) same ∙ names.files_are),
-          sym asked.says.says.strict_is ∙ (ap (λ rows. is_set (first_of (codes "strict") rows)) same ∙ names.strict_is),
+          asked.says.says.files_are ∙ (ap (λ rows. files_of (all_of (codes "file") rows)) same ∙ names.2),
+          sym asked.says.says.strict_is ∙ (ap (λ rows. is_set (first_of (codes "strict") rows)) same ∙ names.3),
         )
 
     asked : (map (λ file. file.now) checking.files.items ≡ files) × (checking.is_strict ≡ is_strict) → AsksCheck words checking
     asked wanted = record {
-      taken = names.taken;
+      taken = names.0;
       says = record {
         rows = rows_met (subcommand_of program words);
-        met_is = met-is (subcommand_of program words) names.named;
-        says = record { files_are = wanted.0 ∙ sym names.files_are; strict_is = names.strict_is ∙ sym wanted.1 };
+        met_is = met-is (subcommand_of program words) names.1;
+        says = record { files_are = wanted.0 ∙ sym names.2; strict_is = names.3 ∙ sym wanted.1 };
       };
     }
 
@@ -54,68 +54,34 @@ asks words files is_strict names checking = ((λ asked. said asked), λ wanted. 
 one-file : (name file : Text) → IsPlain file → Name (name ∷ codes "check" ∷ file ∷ []) (file ∷ []) false
 unfolding clap_on_literals
 one-file name file plain =
-    let dashes = no_dashes file plain in
-    let dash = no_dash file plain in
-    record {
-      taken = rw (dashes, dash, dash) (refl {a = []});
-      named = refl;
-      files_are = rw (dashes, dash, dash) (refl {a = file ∷ []});
-      strict_is = rw (dashes, dash, dash) (refl {a = false});
-    }
+    rw (no_dashes file plain, no_dash file plain, no_dash file plain)
+    (refl {a = []}, refl {a = codes "check"}, refl {a = file ∷ []}, refl {a = false})
 
 two-files : (name file other : Text) → IsPlain file → IsPlain other → Name (name ∷ codes "check" ∷ file ∷ other ∷ []) (file ∷ other ∷ []) false
 unfolding clap_on_literals
 two-files name file other plain other_plain =
-    let dashes = no_dashes file plain in
-    let dash = no_dash file plain in
-    let other_dashes = no_dashes other other_plain in
-    let other_dash = no_dash other other_plain in
-    record {
-      taken = rw (dashes, dash, dash, other_dashes, other_dash, other_dash) (refl {a = []});
-      named = refl;
-      files_are = rw (dashes, dash, dash, other_dashes, other_dash, other_dash) (refl {a = file ∷ other ∷ []});
-      strict_is = rw (dashes, dash, dash, other_dashes, other_dash, other_dash) (refl {a = false});
-    }
+    rw (no_dashes file plain, no_dash file plain, no_dash file plain, no_dashes other other_plain, no_dash other other_plain, no_dash other other_plain)
+    (refl {a = []}, refl {a = codes "check"}, refl {a = file ∷ other ∷ []}, refl {a = false})
 
 -- standard input, and a file
 input-and-file : (name file : Text) → IsPlain file → Name (name ∷ codes "check" ∷ codes "-" ∷ file ∷ []) (codes "-" ∷ file ∷ []) false
 unfolding clap_on_literals
 input-and-file name file plain =
-    let dashes = no_dashes file plain in
-    let dash = no_dash file plain in
-    record {
-      taken = rw (dashes, dash, dash) (refl {a = []});
-      named = refl;
-      files_are = rw (dashes, dash, dash) (refl {a = codes "-" ∷ file ∷ []});
-      strict_is = rw (dashes, dash, dash) (refl {a = false});
-    }
+    rw (no_dashes file plain, no_dash file plain, no_dash file plain)
+    (refl {a = []}, refl {a = codes "check"}, refl {a = codes "-" ∷ file ∷ []}, refl {a = false})
 
 -- `--strict` before the files, and between them
 strict-before : (name file : Text) → IsPlain file → Name (name ∷ codes "check" ∷ codes "--strict" ∷ file ∷ []) (file ∷ []) true
 unfolding clap_on_literals
 strict-before name file plain =
-    let dashes = no_dashes file plain in
-    let dash = no_dash file plain in
-    record {
-      taken = rw (dashes, dash, dash) (refl {a = []});
-      named = refl;
-      files_are = rw (dashes, dash, dash) (refl {a = file ∷ []});
-      strict_is = rw (dashes, dash, dash) (refl {a = true});
-    }
+    rw (no_dashes file plain, no_dash file plain, no_dash file plain)
+    (refl {a = []}, refl {a = codes "check"}, refl {a = file ∷ []}, refl {a = true})
 
 strict-between : (name file other : Text) → IsPlain file → IsPlain other → Name (name ∷ codes "check" ∷ file ∷ codes "--strict" ∷ other ∷ []) (file ∷ other ∷ []) true
 unfolding clap_on_literals
 strict-between name file other plain other_plain =
-    let dashes = no_dashes file plain in
-    let dash = no_dash file plain in
-    let other_dashes = no_dashes other other_plain in
-    let other_dash = no_dash other other_plain in
-    record {
-      taken = rw (dashes, dash, dash, other_dashes, other_dash, other_dash) (refl {a = []});
-      named = refl;
-      files_are = rw (dashes, dash, dash, other_dashes, other_dash, other_dash) (refl {a = file ∷ other ∷ []});
-      strict_is = rw (dashes, dash, dash, other_dashes, other_dash, other_dash) (refl {a = true});
-    }
+    rw (no_dashes file plain, no_dash file plain, no_dash file plain, no_dashes other other_plain, no_dash other other_plain, no_dash other other_plain)
+    (refl {a = []}, refl {a = codes "check"}, refl {a = file ∷ other ∷ []}, refl {a = true})
 
 pub files_are_asked : FilesAreAsked
 files_are_asked name file other plain other_plain = (

@@ -11,7 +11,7 @@ use Rattle.edge_case.specs.Bytes.{IsInput}
 use Rattle.edge_case.specs.Run.{IsNoCase, Prints, PrintsPart}
 use Rattle.edge_main.specs.Status.{status_of}
 use Rattle.edge_main.specs.declared.status.Status.{Status}
-use Rattle.edge_main.specs.declared.status.Status.TheVariants.{Page, PageFault, Served, Checked, FaultFound, Usage, BadOrder, BadAhead, BadLevels, BadServe, NotText, BadCase, NoMemory, InputOutput}
+use Rattle.edge_main.specs.declared.status.Status.TheVariants.{Page, PageFault, Served, Checked, FaultFound, Usage, BadOrder, BadOption, NotText, BadCase, NoMemory, InputOutput}
 use Rattle.plan_runner.specs.declared.events.Event.{Event}
 use Rattle.edge_setup.specs.Words.{IsWithin}
 use Rattle.edge_setup.specs.declared.check.Checking.{Checking}
@@ -47,9 +47,7 @@ Ends words input before after Checked = ⊥
 Ends words input before after FaultFound = ⊥
 Ends words input before after Usage = ⊥
 Ends words input before after BadOrder = ⊥
-Ends words input before after BadAhead = ⊥
-Ends words input before after BadLevels = ⊥
-Ends words input before after (BadServe option) = ⊥
+Ends words input before after (BadOption option) = ⊥
 Ends words input before after NotText = ⊥
 
 -- a page's fault was printed, and the words ask why: of this text

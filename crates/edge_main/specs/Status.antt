@@ -7,12 +7,12 @@ use Rattle.edge_case.specs.declared.ending.CaseEnd.TheVariants.{PagePrinted, Fau
 use Rattle.edge_case.specs.declared.ending.CaseFault.{CaseFault}
 use Rattle.edge_case.specs.declared.ending.CaseFault.TheVariants as fault
 use Rattle.clap.specs.Words.{kind_of}
-use Rattle.edge_setup.specs.Numbers.{ahead, levels}
+use Rattle.edge_setup.specs.declared.setup.Named.TheVariants as named
 use Rattle.edge_setup.specs.Words.{refusal_of}
 use Rattle.edge_main.specs.declared.asked.Refusal.{Refusal}
 use Rattle.edge_main.specs.declared.asked.Refusal.TheVariants as refusal
 use Rattle.edge_main.specs.declared.status.Status.{Status}
-use Rattle.edge_main.specs.declared.status.Status.TheVariants.{Page, PageFault, Served, Checked, FaultFound, Usage, BadOrder, BadAhead, BadLevels, BadServe, NotText, BadCase, NoMemory, InputOutput}
+use Rattle.edge_main.specs.declared.status.Status.TheVariants.{Page, PageFault, Served, Checked, FaultFound, Usage, BadOrder, BadOption, NotText, BadCase, NoMemory, InputOutput}
 
 -- the exit status
 abbrev pub code_of : Status → ℕ
@@ -23,9 +23,7 @@ code_of Checked = 0
 code_of FaultFound = 1
 code_of Usage = 2
 code_of BadOrder = 2
-code_of BadAhead = 2
-code_of BadLevels = 2
-code_of (BadServe option) = 2
+code_of (BadOption option) = 2
 code_of NotText = 2
 code_of BadCase = 3
 code_of NoMemory = 4
@@ -40,9 +38,7 @@ line_of Checked = None
 line_of FaultFound = None
 line_of Usage = None
 line_of BadOrder = Some (codes "error: --order takes events with commas between: c, a, or p and one to four digits")
-line_of BadAhead = Some ahead.refusal
-line_of BadLevels = Some levels.refusal
-line_of (BadServe option) = Some (refusal_of option)
+line_of (BadOption option) = Some (refusal_of option)
 line_of NotText = Some (codes "error: a word of the command line isn't UTF-8")
 line_of BadCase = Some (codes "bad case text")
 line_of NoMemory = Some (codes "no memory")
@@ -73,7 +69,7 @@ IsEndOf _ status = status ≡ Usage
 abbrev pub IsRefusedAs : Refusal → Status → Type 0
 IsRefusedAs (refusal.Words error) status = IsEndOf (kind_of error) status
 IsRefusedAs refusal.Order status = status ≡ BadOrder
-IsRefusedAs refusal.Ahead status = status ≡ BadAhead
-IsRefusedAs refusal.Levels status = status ≡ BadLevels
-IsRefusedAs (refusal.Serve option) status = status ≡ BadServe option
+IsRefusedAs refusal.Ahead status = status ≡ BadOption named.Ahead
+IsRefusedAs refusal.Levels status = status ≡ BadOption named.Levels
+IsRefusedAs (refusal.Serve option) status = status ≡ BadOption option
 IsRefusedAs refusal.NoMemory status = status ≡ NoMemory

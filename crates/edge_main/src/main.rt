@@ -18,6 +18,7 @@ mod why;
 use asked::Refusal;
 use checking::check;
 use clap::error::ErrorKind;
+use edge_setup::Named;
 use program::{Done, run_words};
 use serving::serve;
 use status::Status;
@@ -30,7 +31,7 @@ fn main(rt: HostRuntime) -> ExitCode {
         Ok(words) => match run(&rt, words.as_slice()) {
             Done::Ran(status) => status,
             Done::Explains(text) => explain(&rt, &text),
-            Done::Serves(setup) => serve(&rt, setup),
+            Done::Serves(setup) => Status::of_serving(serve(&rt, setup)),
             Done::Checks(checking) => check(&rt, &checking),
         },
         Err(status) => status,
@@ -67,9 +68,9 @@ fn refused(rt: &HostRuntime, refusal: &Refusal) -> Status
     match refusal {
         Refusal::Words(error) => told(rt, error),
         Refusal::Order => Status::BadOrder,
-        Refusal::Ahead => Status::BadAhead,
-        Refusal::Levels => Status::BadLevels,
-        Refusal::Serve(option) => Status::BadServe(*option),
+        Refusal::Ahead => Status::BadOption(Named::Ahead),
+        Refusal::Levels => Status::BadOption(Named::Levels),
+        Refusal::Serve(option) => Status::BadOption(*option),
         Refusal::NoMemory => Status::NoMemory,
     }
 }

@@ -2,7 +2,7 @@
 ghost use Rattle.edge_setup.specs.Words.{IsWithin};
 
 use crate::status::Status;
-use edge_setup::{Origin, Pages, Setup};
+use edge_setup::{Origin, Pages, Serving, Setup};
 use edge_types::NoMemory;
 use fetch_workers::{Assembling, Cache};
 use hyper_edge::{
@@ -21,20 +21,7 @@ use std::{io, str};
 type Kept = Cache<HyperSource, Seconds>;
 
 /// Serves as it is set up, until so many connections as that names were accepted and have ended.
-pub(crate) fn serve<R>(rt: &R, setup: Setup) -> Status
-where
-    R: ServerRuntime + Print + Eprint + Send + Sync,
-    R: Net<Stream = TcpStream, Listener = TcpListener>,
-    requires { IsWithin setup.pages }
-{
-    match served(rt, setup) {
-        Ok(ServeEnd::Served) => Status::Served,
-        Ok(ServeEnd::AcceptsFailed) => Status::InputOutput,
-        Err(status) => status,
-    }
-}
-
-fn served<R>(rt: &R, setup: Setup) -> Result<ServeEnd, Status>
+pub(crate) fn serve<R>(rt: &R, setup: Setup) -> Result<ServeEnd, Status>
 where
     R: ServerRuntime + Print + Eprint + Send + Sync,
     R: Net<Stream = TcpStream, Listener = TcpListener>,
@@ -53,14 +40,12 @@ where
     let log = AccessLog {
         is_kept: serving.logs,
     };
-    Ok(serve_accepts(
-        rt,
-        &sockets,
-        &service,
-        &log,
-        serving.threads,
-        serving.accept,
-    ))
+    let Serving {
+        threads,
+        accept,
+        ..
+    } = serving;
+    Ok(serve_accepts(rt, &sockets, &service, &log, threads, accept))
 }
 
 // A number of milliseconds; 0 is no limit.
@@ -123,6 +108,17 @@ where
         return Err(Status::NoMemory);
     };
     Ok(EdgeService::new(own, alloc, shared, how)?)
+}
+
+impl Status {
+    /// The status of a server that ended so.
+    pub(crate) fn of_serving(ended: Result<ServeEnd, Status>) -> Status {
+        match ended {
+            Ok(ServeEnd::Served) => Status::Served,
+            Ok(ServeEnd::AcceptsFailed) => Status::InputOutput,
+            Err(status) => status,
+        }
+    }
 }
 
 impl From<io::Error> for Status {

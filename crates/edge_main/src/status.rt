@@ -4,7 +4,7 @@ ghost use Rattle.std.specs.Process.{exit_status};
 ghost use Rattle.edge_main.specs.Status.{code_of, help_status, line_of, status_of};
 
 use edge_case::{CaseEnd, CaseFault};
-use edge_setup::{AHEAD, LEVELS, Named};
+use edge_setup::Named;
 use std::io;
 use std::process::ExitCode;
 
@@ -25,12 +25,8 @@ pub(crate) enum Status {
     Usage,
     /// What `--order` names is no list of events.
     BadOrder,
-    /// What `--ahead` names is no number within the limits.
-    BadAhead,
-    /// What `--levels` names is no number within the limits.
-    BadLevels,
-    /// What an option of `serve` names is no use.
-    BadServe(Named),
+    /// What an option names is no use.
+    BadOption(Named),
     /// A word of the command line isn't UTF-8.
     NotText,
     /// Standard input is no case text.
@@ -72,12 +68,7 @@ impl Status {
         ExitCode::from(match self {
             Status::Page | Status::Served | Status::Checked => 0,
             Status::PageFault | Status::FaultFound => 1,
-            Status::Usage
-            | Status::BadOrder
-            | Status::BadAhead
-            | Status::BadLevels
-            | Status::BadServe(_)
-            | Status::NotText => 2,
+            Status::Usage | Status::BadOrder | Status::BadOption(_) | Status::NotText => 2,
             Status::BadCase => 3,
             Status::NoMemory => 4,
             Status::InputOutput => 5,
@@ -93,9 +84,7 @@ impl Status {
             Status::BadOrder => Some(
                 "error: --order takes events with commas between: c, a, or p and one to four digits",
             ),
-            Status::BadAhead => Some(AHEAD.refusal),
-            Status::BadLevels => Some(LEVELS.refusal),
-            Status::BadServe(option) => Some(option.refusal()),
+            Status::BadOption(option) => Some(option.refusal()),
             Status::BadCase => Some("bad case text"),
             Status::NoMemory => Some("no memory"),
             Status::InputOutput => Some("input or output failed"),

@@ -16,6 +16,5 @@ pub use case::case_command;
 pub use check::{Checking, check_command, checking_of};
 pub use command::serve_command;
 pub use decimal::decimal_of;
-pub use number::{AHEAD, LEVELS, NumericOption};
 pub use setup::{Named, Origin, Pages, Serving, Setup, SetupFault};
 pub use words::{is_set, setup_of};

@@ -11,7 +11,7 @@ use std::alloc::Global;
 
 /// An option that takes a number, which has a default.
 #[derive(Clone, Copy)]
-pub struct NumericOption {
+pub(crate) struct NumericOption {
     /// Its name, without the dashes.
     pub name: &'static str,
     /// What its number is, as help says it.
@@ -27,7 +27,7 @@ pub struct NumericOption {
 }
 
 /// The threads that may work for a page.
-pub const WORKERS: NumericOption = NumericOption {
+pub(crate) const WORKERS: NumericOption = NumericOption {
     name: "workers",
     help: "Threads that may fetch for a page, from 1 to 16",
     least: 1,
@@ -37,7 +37,7 @@ pub const WORKERS: NumericOption = NumericOption {
 };
 
 /// How many slots posts may open ahead.
-pub const AHEAD: NumericOption = NumericOption {
+pub(crate) const AHEAD: NumericOption = NumericOption {
     name: "ahead",
     help: "Fragments that may be fetched before it is known that they are needed, from 0 to 256",
     least: 0,
@@ -47,7 +47,7 @@ pub const AHEAD: NumericOption = NumericOption {
 };
 
 /// The levels of includes under a page.
-pub const LEVELS: NumericOption = NumericOption {
+pub(crate) const LEVELS: NumericOption = NumericOption {
     name: "levels",
     help: "Levels of includes under a page, from 1 to 8",
     least: 1,
@@ -57,7 +57,7 @@ pub const LEVELS: NumericOption = NumericOption {
 };
 
 /// The answers that each shard of the cache keeps.
-pub const CAPACITY: NumericOption = NumericOption {
+pub(crate) const CAPACITY: NumericOption = NumericOption {
     name: "capacity",
     help: "Answers that each of 8 shards keeps, from 1 to 1024",
     least: 1,
@@ -67,7 +67,7 @@ pub const CAPACITY: NumericOption = NumericOption {
 };
 
 /// The milliseconds that a fetch may take, at most a day.
-pub const TIMEOUT: NumericOption = NumericOption {
+pub(crate) const TIMEOUT: NumericOption = NumericOption {
     name: "timeout",
     help: "Milliseconds that a fetch may take; 0 for no limit",
     least: 0,
@@ -77,7 +77,7 @@ pub const TIMEOUT: NumericOption = NumericOption {
 };
 
 /// The milliseconds that a client may take, at most a day.
-pub const CLIENT_TIMEOUT: NumericOption = NumericOption {
+pub(crate) const CLIENT_TIMEOUT: NumericOption = NumericOption {
     name: "client-timeout",
     help: "Milliseconds that a client may take; 0 for no limit",
     least: 0,
@@ -87,7 +87,7 @@ pub const CLIENT_TIMEOUT: NumericOption = NumericOption {
 };
 
 /// The connections that are served at once.
-pub const THREADS: NumericOption = NumericOption {
+pub(crate) const THREADS: NumericOption = NumericOption {
     name: "threads",
     help: "Connections that are served at once, from 1 to 64",
     least: 1,
