@@ -23,5 +23,5 @@ pub use case_text::Case;
 pub use decimal::decimal_of;
 pub use ending::{CaseEnd, CaseFault};
 pub use order::read_events;
-pub use runner::{Ran, run_case};
+pub use runner::{Ran, run_case, run_case_and_keep};
 pub use templates::templates_in;

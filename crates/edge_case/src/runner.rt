@@ -47,8 +47,8 @@ fn print_case<W: Write>(
     case: Case,
     writer: &mut W,
     ahead: u16,
-    levels: u8,
     events: &[Event],
+    levels: u8,
 ) -> Result<CaseEnd, CaseFault>
     requires ahead { ahead ≤ MAX_AHEAD }
     requires levels { AreLevels levels }
@@ -83,15 +83,14 @@ pub fn run_case<R: Read, W: Write>(
     reader: &mut R,
     writer: &mut W,
     ahead: u16,
-    levels: u8,
     events: &[Event],
-) -> Result<Ran, CaseFault>
+    levels: u8,
+) -> Result<CaseEnd, CaseFault>
     requires ahead { ahead ≤ MAX_AHEAD }
     requires levels { AreLevels levels }
     // What is written is the printed form of what the case comes to, and nothing else.
-    ensures printed { IfOk result (λ ran. Prints levels (R.remaining reader.old)
-        (W.contents writer.old) (W.contents writer.new) ran.end) }
-    ensures text { IfOk result (λ ran. IsInput (R.remaining reader.old) ran.text.items) }
+    ensures printed { IfOk result (λ end. Prints levels (R.remaining reader.old)
+        (W.contents writer.old) (W.contents writer.new) end) }
     ensures bad_case { IsErrOf result CaseFault.BadCase → IsNoCase (R.remaining reader.old) }
     // Before anything is told of the case the input was read to its end, or past the limit.
     ensures through { IfOk result (λ _. IsReadThrough MAX_CASE (R.remaining reader.old) (R.remaining reader.new)) }
@@ -101,7 +100,37 @@ pub fn run_case<R: Read, W: Write>(
         (W.contents writer.old) (W.contents writer.new) }
     ensures at_most { TakesAtMost (MAX_CASE + 1) (R.remaining reader.old) (R.remaining reader.new) }
 {
+    // The text isn't kept: the case has its own copies.
+    let (case, _) = read_case(alloc, reader)?;
+    let end = print_case(alloc, case, writer, ahead, events, levels)?;
+    Ok(end)
+}
+
+/// The same, and keeps the text.
+///
+/// Our profile.
+pub fn run_case_and_keep<R: Read, W: Write>(
+    alloc: Global,
+    reader: &mut R,
+    writer: &mut W,
+    ahead: u16,
+    events: &[Event],
+    levels: u8,
+) -> Result<Ran, CaseFault>
+    requires ahead { ahead ≤ MAX_AHEAD }
+    requires levels { AreLevels levels }
+    ensures printed { IfOk result (λ ran. Prints levels (R.remaining reader.old)
+        (W.contents writer.old) (W.contents writer.new) ran.end) }
+    ensures text { IfOk result (λ ran. IsInput (R.remaining reader.old) ran.text.items) }
+    ensures bad_case { IsErrOf result CaseFault.BadCase → IsNoCase (R.remaining reader.old) }
+    ensures through { IfOk result (λ _. IsReadThrough MAX_CASE (R.remaining reader.old) (R.remaining reader.new)) }
+    ensures bad_through { IsErrOf result CaseFault.BadCase → IsReadThrough MAX_CASE (R.remaining reader.old) (R.remaining reader.new) }
+    ensures nothing { IfErr result (λ e. e ≢ CaseFault.Write → Keeps (W.contents writer.old) (W.contents writer.new)) }
+    ensures part { IsErrOf result CaseFault.Write → PrintsPart levels (R.remaining reader.old)
+        (W.contents writer.old) (W.contents writer.new) }
+    ensures at_most { TakesAtMost (MAX_CASE + 1) (R.remaining reader.old) (R.remaining reader.new) }
+{
     let (case, text) = read_case(alloc, reader)?;
-    let end = print_case(alloc, case, writer, ahead, levels, events)?;
+    let end = print_case(alloc, case, writer, ahead, events, levels)?;
     Ok(Ran { end, text })
 }

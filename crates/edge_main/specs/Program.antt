@@ -61,15 +61,14 @@ abbrev pub IsUnasked : List Text → Status → Type 0
 IsUnasked words PageFault = AsksWhy words false
 IsUnasked words _ = Unit {0}
 
--- what came of the words by how the run of their case ended: its text, where they ask why and the page has a fault
-abbrev pub done_by : Bool → Vec ℕ Global → CaseEnd → Done
-done_by true text FaultPrinted = Explains text
-done_by true text PagePrinted = Ran Page
-done_by false text end = Ran (status_of (Ok end))
+-- what came of words that ask why, by how the run of their case ended: its text, where the page has a fault
+abbrev pub explains_by : Vec ℕ Global → CaseEnd → Done
+explains_by text FaultPrinted = Explains text
+explains_by text PagePrinted = Ran Page
 
-abbrev pub done_of : Bool → Result RanCase CaseFault → Done
-done_of is_why (Ok ran) = done_by is_why ran.text ran.end
-done_of is_why (Err fault) = Ran (status_of (Err fault))
+abbrev pub explained_by : Result RanCase CaseFault → Done
+explained_by (Ok ran) = explains_by ran.text ran.end
+explained_by (Err fault) = Ran (status_of (Err fault))
 
 -- the same of what came of the words
 abbrev pub Does : List Text → Option (List ℕ) → Option (List ℕ) → Option (List ℕ) → Done → Type 0

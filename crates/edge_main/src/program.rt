@@ -1,12 +1,12 @@
 //! The program over any words, reader and writer.
 ghost use Rattle.std.specs.Prelude.{◌≡◌, map, string_bytes, IfOk, IfErr, OnErr};
 ghost use Rattle.edge_main.specs.CommandLine.{IsRefused};
-ghost use Rattle.edge_main.specs.Program.{Does, done_of};
+ghost use Rattle.edge_main.specs.Program.{Does, explained_by};
 
 use crate::asked::{Asked, Refusal};
 use crate::command_line::asked;
 use crate::status::Status;
-use edge_case::{CaseEnd, CaseFault, Ran, run_case};
+use edge_case::{CaseEnd, CaseFault, Ran, run_case, run_case_and_keep};
 use edge_setup::{Checking, Setup};
 use std::alloc::Global;
 use std::io::{Read, Write};
@@ -48,20 +48,25 @@ pub(crate) fn run_words<'a, R: Read, W: Write>(
             levels,
             is_why,
         } => {
-            let ended = run_case(alloc, reader, writer, ahead, levels, &order);
-            Ok(done_of(ended, is_why))
+            if is_why {
+                let ended = run_case_and_keep(alloc, reader, writer, ahead, &order, levels);
+                Ok(explained_by(ended))
+            } else {
+                let ended = run_case(alloc, reader, writer, ahead, &order, levels);
+                Ok(Done::Ran(Status::of(ended)))
+            }
         }
         Asked::Serve(setup) => Ok(Done::Serves(setup)),
         Asked::Check(checking) => Ok(Done::Checks(checking)),
     }
 }
 
-// What came of the words by how the run of their case ended.
-fn done_of<'a>(ended: Result<Ran, CaseFault>, is_why: bool) -> Done<'a>
-    ensures { result ≡ done_of is_why ended }
+// What came of words that ask why, by how the run of their case ended.
+fn explained_by<'a>(ended: Result<Ran, CaseFault>) -> Done<'a>
+    ensures { result ≡ explained_by ended }
 {
     match ended {
-        Ok(ran) if is_why && ran.end == CaseEnd::FaultPrinted => Done::Explains(ran.text),
+        Ok(ran) if ran.end == CaseEnd::FaultPrinted => Done::Explains(ran.text),
         Ok(ran) => Done::Ran(Status::of(Ok(ran.end))),
         Err(fault) => Done::Ran(Status::of(Err(fault))),
     }

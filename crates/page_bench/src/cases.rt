@@ -162,7 +162,7 @@ fn printed(rt: &HostRuntime, text: &[u8], levels: u8) -> io::Result<()>
 {
     let mut reader = text;
     let mut out = Vec::new(rt.alloc());
-    or_input_error(run_case(rt.alloc(), &mut reader, &mut out, 16, levels, &[]))
+    or_input_error(run_case(rt.alloc(), &mut reader, &mut out, 16, &[], levels))
 }
 
 // Reads the bytes, and writes what was read.

@@ -1,13 +1,14 @@
-use Rattle.std.proofs.Common.{map, string_bytes}
+use Rattle.std.proofs.Common.{◌≡◌, ◌∙◌, map, string_bytes, true, rules}
 use Rattle.edge_main.specs.declared.asked.Asked.TheVariants.{Case}
 use Rattle.edge_main.specs.CommandLine.{Asks}
-use Rattle.edge_main.proofs.ProgramLemmas.{does}
+use Rattle.edge_main.proofs.ProgramLemmas.{does_explained}
 use Rattle.edge_main.proofs.program.run_words.Goals as goal
 
-pub returns-in-Case-clause-ran : goal.returns-in-Case-clause-ran
-returns-in-Case-clause-ran g c =
+pub returns-then-is_why-clause-ran : goal.returns-then-is_why-clause-ran
+returns-then-is_why-clause-ran g c =
     let words = map string_bytes c.args.words.now in
-    let ran = c.run_case-ended.ensures in
+    let ran = c.run_case_and_keep-ended.ensures in
     let asks : Asks words (Case c.in-Case.order c.in-Case.ahead c.in-Case.levels c.in-Case.is_why) = rw c.in-Case.is at c.in_ok-order.ensures.judged in
-    rw c.done_of.ensures (does words c.in-Case.levels c.in-Case.is_why _ _ _ c.run_case-ended.result ran.printed ran.text ran.bad_case ran.nothing ran.part
-    (c.in-Case.order.items, c.in-Case.ahead, asks.0) asks.1)
+    let is : c.in-Case.is_why ≡ true = search rules in
+    rw c.explained_by.ensures (does_explained words c.in-Case.levels _ _ _ c.run_case_and_keep-ended.result ran.printed ran.text ran.bad_case ran.nothing ran.part
+    (c.in-Case.order.items, c.in-Case.ahead, asks.0) (asks.1 ∙ is))
