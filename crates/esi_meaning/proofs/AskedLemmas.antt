@@ -58,7 +58,7 @@ mutual
   within_element : (u w : List ℕ) (e : Element) (c : Elements) → inline_in u w e ≡ Some c → Within (sources c) (sources_in e)
   within_element u w (Text text) c h = within_none c [] h
   within_element u w (VarsText parts) c h = within_none c [] h
-  within_element u w (Include src alt continues) c h = within_none c _ h
+  within_element u w (Include include) c h = within_none c (sources_in (Include include)) h
   within_element u w (Choose branches) c h = within_branches u w branches c h
   within_element u w (Try attempt except false) c h =
       within_or (inline_for u w attempt) (inline_for u w except) c (sources attempt) (sources except) (within_elements u w attempt) (within_elements u w except) h

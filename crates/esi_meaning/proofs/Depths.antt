@@ -44,7 +44,7 @@ mutual
   depth_inline_in : (u w : List ℕ) (e : Element) (c : Elements) → inline_in u w e ≡ Some c → depth c ≤ element_depth e
   depth_inline_in u w (Text text) c h = none_is c _ h
   depth_inline_in u w (VarsText parts) c h = none_is c _ h
-  depth_inline_in u w (Include src alt continues) c h = none_is c _ h
+  depth_inline_in u w (Include include) c h = none_is c _ h
   depth_inline_in u w (Choose branches) c h = omega (arith, depth_inline_in_branches u w branches c h)
   depth_inline_in u w (Try attempt except false) c h =
       omega (arith, depth_or (inline_for u w attempt) (inline_for u w except) c (depth attempt) (depth except) (depth_inline_for u w attempt) (depth_inline_for u w except) h)

@@ -39,7 +39,7 @@ module _ (u w : List ℕ) where
     first_in : (e : Element) → inline_in u w e ≡ first_of (inlines_in e)
     first_in (Text text) = refl
     first_in (VarsText parts) = refl
-    first_in (Include src alt continues) = refl
+    first_in (Include include) = refl
     first_in (Choose branches) = first_among branches
     first_in (Try attempt except false) =
         first_of_both (inlines attempt) (inlines except) (inline_for u w attempt) (inline_for u w except) (first_for attempt) (first_for except)

@@ -89,7 +89,7 @@ mutual
   is_source_in : (r : Request) (e : Element) (s : List Part) → Contains (ahead_in r e) s → Contains (sources_in e) s
   is_source_in r (Text text) s h = h
   is_source_in r (VarsText parts) s h = h
-  is_source_in r (Include src alt continues) s h = h
+  is_source_in r (Include include) s h = h
   is_source_in r (Choose branches) s h = elim (is_source_among r [] branches s h) [ inl none ↦ absurd (omega (arith, none.1)) | inr some ↦ some ]
   is_source_in r (Try attempt except swapped) s h =
       elim (Contains-append_cases (ahead_sources r attempt) (ahead_sources r except) s h) [

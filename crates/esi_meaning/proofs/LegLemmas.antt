@@ -12,9 +12,9 @@ use Rattle.esi_vars.specs.Values.{substituted}
 use Rattle.esi_expr.specs.Truth.{holds}
 use Rattle.esi_tree.specs.Reading.{tree_of}
 use Rattle.esi_tree.specs.Tree.{Element, Text, VarsText, Include, Choose, Try, Vars, Inline, Nothing, Elements, End, Then, Branches, NoBranch, When, Otherwise}
-use Rattle.esi_meaning.specs.Ahead.{sources_in, sources, sources_among}
+use Rattle.esi_meaning.specs.Ahead.{alt_sources, sources_in, sources, sources_among}
 use Rattle.esi_meaning.specs.Inlines.{inline_for}
-use Rattle.esi_meaning.specs.Meaning.{on_error, element_run, elements_run, chosen_run, template_run, unprocessed_run, reply_run, named_run, resolved_run, leg_run, most_legs, tree_legs, reply_legs, page_legs}
+use Rattle.esi_meaning.specs.Meaning.{alt_run, on_error, alternative_run, element_run, elements_run, chosen_run, template_run, unprocessed_run, reply_run, named_run, resolved_run, leg_run, most_legs, tree_legs, reply_legs, page_legs}
 use Rattle.esi_meaning.specs.Run.{Leg, Asks, AsksNobody, Run, gives, followed, in_turn, behind, or_else, instead}
 
 -- what holds of each leg of a run
@@ -42,7 +42,7 @@ of_in_turn P a b ha hb = of_followed P a (behind b) ha (of_behind P b hb)
 of_or_else : (P : Leg → Type 0) (a b : Run) → OfLegs P a → OfLegs P b → OfLegs P (or_else a b)
 of_or_else P a b ha hb = of_followed P a (instead b) ha (of_instead P b hb)
 
-of_on_error : (P : Leg → Type 0) (continues : Bool) → OfLegs P (on_error continues)
+of_on_error : (P : Leg → Type 0) (goes_on : Bool) → OfLegs P (on_error goes_on)
 of_on_error P true = tt
 of_on_error P false = tt
 
@@ -62,15 +62,17 @@ module _ (r : Request) (P : Leg → Type 0) (leg : List Part → Run) where
   back_of : (xs ys : List (List Part)) → OfSources (xs ++ ys) → OfSources ys
   back_of xs ys h s c = h s (Contains-append_right xs ys s c)
 
+  of_alt : (o : Option (List Part)) → OfSources (alt_sources o) → OfLegs P (alt_run leg o)
+  of_alt None h = tt
+  of_alt (Some alt) h = h alt (0, omega arith, refl)
+
   mutual
     of_element : (e : Element) → OfSources (sources_in e) → OfLegs P (element_run r leg e)
     of_element (Text text) h = tt
     of_element (VarsText parts) h = tt
-    of_element (Include src None continues) h =
-        of_or_else P (leg src) (or_else (gives None) (on_error continues)) (h src (0, omega arith, refl)) (of_or_else P (gives None) (on_error continues) tt (of_on_error P continues))
-    of_element (Include src (Some alt) continues) h =
-        of_or_else P (leg src) (or_else (leg alt) (on_error continues)) (h src (0, omega arith, refl))
-        (of_or_else P (leg alt) (on_error continues) (h alt (1, omega arith, refl)) (of_on_error P continues))
+    of_element (Include include) h =
+        of_or_else P (leg include.src) (alternative_run leg include) (h include.src (0, omega arith, refl))
+        (of_or_else P (alt_run leg include.alt) (on_error include.continues) (of_alt include.alt (back_of (include.src ∷ []) (alt_sources include.alt) h)) (of_on_error P include.continues))
     of_element (Choose branches) h = of_chosen (gives (Some [])) branches tt h
     of_element (Try attempt except swapped) h =
         of_or_else P (elements_run r leg attempt) (elements_run r leg except) (of_elements attempt (front_of (sources attempt) (sources except) h))

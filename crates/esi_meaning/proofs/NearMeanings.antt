@@ -27,7 +27,7 @@ mutual
   near-element : {S T : List Answered} (r : Request) (f g : List Part → Run) → ((s : List Part) → Near S T (f s) (g s)) → (e : Element) → Near S T (element_run r f e) (element_run r g e)
   near-element r f g n (Text text) = near_refl
   near-element r f g n (VarsText parts) = near_refl
-  near-element r f g n (Include src alt continues) = near-or_else (n src) (near-or_else (near-alt f g n alt) near_refl)
+  near-element r f g n (Include include) = near-or_else (n include.src) (near-or_else (near-alt f g n include.alt) near_refl)
   near-element r f g n (Choose branches) = near-chosen r f g n _ _ near_refl branches
   near-element r f g n (Try attempt except swapped) = near-or_else (near-elements r f g n attempt) (near-elements r f g n except)
   near-element r f g n (Vars content) = near-elements r f g n content

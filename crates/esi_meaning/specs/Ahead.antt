@@ -8,14 +8,19 @@ use Rattle.edge_types.specs.Table.{IsTable}
 use Rattle.esi_vars.specs.declared.part.Part.{Part}
 use Rattle.esi_vars.specs.Values.{substituted}
 use Rattle.esi_expr.specs.Truth.{holds}
+use Rattle.esi_tree.specs.declared.include.Include as code
 use Rattle.esi_tree.specs.Tree.{Element, Text, VarsText, Include, Choose, Try, Vars, Inline, Nothing, Elements, End, Then, Branches, NoBranch, When, Otherwise}
 use Rattle.esi_tree.specs.Reading.{tree_of}
 use Rattle.esi_meaning.specs.Inlines.{inline_for}
 
+-- an alt, where it is given
+abbrev pub alt_sources : Option (List Part) → List (List Part)
+alt_sources None = []
+alt_sources (Some alt) = alt ∷ []
+
 -- the sources of an include: its src, then its alt
-abbrev pub include_sources : List Part → Option (List Part) → List (List Part)
-include_sources src None = src ∷ []
-include_sources src (Some alt) = src ∷ alt ∷ []
+abbrev pub include_sources : code.Include → List (List Part)
+include_sources include = include.src ∷ alt_sources include.alt
 
 -- the sources to fetch ahead: of each choose those of the branch that is taken, of each try those of the attempt, then
 -- those of the except. An inline of a branch that isn't taken can still be reached by its name; its sources are asked
@@ -24,7 +29,7 @@ abbrev mutual
   pub ahead_in : Request → Element → List (List Part)
   ahead_in r (Text text) = []
   ahead_in r (VarsText parts) = []
-  ahead_in r (Include src alt continues) = include_sources src alt
+  ahead_in r (Include include) = include_sources include
   ahead_in r (Choose branches) = ahead_among r [] branches
   ahead_in r (Try attempt except swapped) = ahead_sources r attempt ++ ahead_sources r except
   ahead_in r (Vars content) = ahead_sources r content
@@ -67,7 +72,7 @@ abbrev mutual
   pub sources_in : Element → List (List Part)
   sources_in (Text text) = []
   sources_in (VarsText parts) = []
-  sources_in (Include src alt continues) = include_sources src alt
+  sources_in (Include include) = include_sources include
   sources_in (Choose branches) = sources_among branches
   sources_in (Try attempt except swapped) = sources attempt ++ sources except
   sources_in (Vars content) = sources content

@@ -1,10 +1,11 @@
 -- What the evaluator's arguments stand for, in the words of the meaning.
-use Rattle.std.specs.Prelude.{ℕ, suc, ◌+◌, ◌≤◌, Bool, List, [], Option, Some, None}
+use Rattle.std.specs.Prelude.{ℕ, suc, ◌+◌, ◌≤◌, List, [], Option, Some, None}
 use Rattle.std.specs.Borrow.{Bor}
 use Rattle.edge_types.specs.declared.answer.Reply.{Reply}
 use Rattle.edge_types.specs.Outcome.{Shown}
 use Rattle.edge_types.specs.Table.{reply_of}
 use Rattle.esi_vars.specs.declared.part.Part.{Part}
+use Rattle.esi_tree.specs.declared.include.Include.{Include}
 use Rattle.esi_tree.specs.declared.node.Node.{Node}
 use Rattle.esi_tree.specs.declared.open_elements.TheConstants.{OPEN_LIMIT}
 use Rattle.esi_tree.specs.Tree.{Element, Elements, Branches}
@@ -13,7 +14,7 @@ use Rattle.esi_tree.specs.Answer.{tree_in}
 use Rattle.esi_tree.specs.Shown.{elements_of}
 use Rattle.esi_meaning.specs.declared.evaluator.Setting.{Setting}
 use Rattle.esi_meaning.specs.declared.evaluator.Standing.{Standing}
-use Rattle.esi_meaning.specs.Meaning.{alt_run, on_error, element_run, elements_run, chosen_run, template_run, reply_run, resolved_run, leg_run, reply_outcome, tree_outcome}
+use Rattle.esi_meaning.specs.Meaning.{alternative_run, include_run, element_run, elements_run, chosen_run, template_run, reply_run, resolved_run, leg_run, reply_outcome, tree_outcome}
 use Rattle.esi_meaning.specs.Run.{Asks, Run, gives, tries, or_else}
 
 -- as deep as a template may be: its open elements, and one run of text in the innermost
@@ -38,11 +39,11 @@ abbrev pub try_at : Setting → Standing → Elements → Elements → Run
 try_at s here attempt except = or_else (elements_at s here attempt) (elements_at s here except)
 
 -- what stands for an include whose src can't be had
-abbrev pub alternative_at : Setting → Standing → Option (List Part) → Bool → Run
-alternative_at s here alt continues = or_else (alt_run (leg_at s here) alt) (on_error continues)
+abbrev pub alternative_at : Setting → Standing → Include → Run
+alternative_at s here include = alternative_run (leg_at s here) include
 
-abbrev pub include_at : Setting → Standing → List Part → Option (List Part) → Bool → Run
-include_at s here src alt continues = or_else (leg_at s here src) (alternative_at s here alt continues)
+abbrev pub include_at : Setting → Standing → Include → Run
+include_at s here include = include_run (leg_at s here) include
 
 -- the legs of a template with so many levels under it
 abbrev pub below : Setting → ℕ → List ℕ → Elements → List Part → Run

@@ -19,7 +19,7 @@ abbrev mutual
   pub inline_in : List ℕ → List ℕ → Element → Option Elements
   inline_in u w (Text text) = None
   inline_in u w (VarsText parts) = None
-  inline_in u w (Include src alt continues) = None
+  inline_in u w (Include include) = None
   inline_in u w (Choose branches) = inline_in_branches u w branches
   inline_in u w (Try attempt except false) = option_or (inline_for u w attempt) (inline_for u w except)
   inline_in u w (Try attempt except true) = option_or (inline_for u w except) (inline_for u w attempt)
@@ -46,7 +46,7 @@ abbrev mutual
   pub inlines_in : Element → List NamedBody
   inlines_in (Text text) = []
   inlines_in (VarsText parts) = []
-  inlines_in (Include src alt continues) = []
+  inlines_in (Include include) = []
   inlines_in (Choose branches) = inlines_among branches
   inlines_in (Try attempt except false) = inlines attempt ++ inlines except
   inlines_in (Try attempt except true) = inlines except ++ inlines attempt

@@ -13,6 +13,7 @@ use Rattle.edge_types.specs.Outcome.{Shown, Page, Fault}
 use Rattle.esi_vars.specs.declared.part.Part.{Part}
 use Rattle.esi_vars.specs.Values.{substituted}
 use Rattle.esi_expr.specs.Truth.{holds}
+use Rattle.esi_tree.specs.declared.include.Include as code
 use Rattle.esi_tree.specs.Tree.{Element, Text, VarsText, Include, Choose, Try, Vars, Inline, Nothing, Elements, End, Then, Branches, NoBranch, When, Otherwise}
 use Rattle.esi_tree.specs.Reading.{tree_of}
 use Rattle.esi_meaning.specs.declared.limits.TheConstants.{MAX_LEGS, MIN_LEVELS, MAX_LEVELS}
@@ -31,12 +32,19 @@ abbrev pub on_error : Bool → Run
 on_error true = gives (Some [])
 on_error false = gives None
 
+-- what stands for an include whose src can't be had
+abbrev pub alternative_run : (List Part → Run) → code.Include → Run
+alternative_run leg include = or_else (alt_run leg include.alt) (on_error include.continues)
+
+abbrev pub include_run : (List Part → Run) → code.Include → Run
+include_run leg include = or_else (leg include.src) (alternative_run leg include)
+
 abbrev mutual
   -- one element: "include", "choose", "try", "vars", "inline", "comment", "remove"
   pub element_run : Request → (List Part → Run) → Element → Run
   element_run r leg (Text text) = gives (Some text)
   element_run r leg (VarsText parts) = gives (Some (substituted r parts))
-  element_run r leg (Include src alt continues) = or_else (leg src) (or_else (alt_run leg alt) (on_error continues))
+  element_run r leg (Include include) = include_run leg include
   element_run r leg (Choose branches) = chosen_run r leg (gives (Some [])) branches
   element_run r leg (Try attempt except swapped) = or_else (elements_run r leg attempt) (elements_run r leg except)
   element_run r leg (Vars content) = elements_run r leg content

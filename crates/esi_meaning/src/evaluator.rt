@@ -17,7 +17,7 @@ use crate::progress::{
     Ending, Progress, count_leg, no_leg, on_error, push_text, push_values, unprocessed,
 };
 use edge_types::{Answer, NoMemory, PageUrl, Request, SharedBytes, Table};
-use esi_tree::{Branch, Node, Parts, Template, TreeFault, template};
+use esi_tree::{Branch, Include, Node, Template, TreeFault, template};
 use esi_vars::Part;
 use std::alloc::Global;
 use std::sync::Arc;
@@ -86,11 +86,7 @@ fn element(
             parts.as_slice(),
             progress,
         ),
-        Node::Include {
-            src,
-            alt,
-            continues,
-        } => include(setting, standing, src, alt, *continues, progress),
+        Node::Include(asked) => include(setting, standing, asked, progress),
         Node::Choose(branches) => choose(setting, standing, branches.as_slice(), progress),
         Node::Try {
             attempt,
@@ -154,17 +150,15 @@ fn one_of(
 fn include(
     setting: &Setting<'_>,
     standing: Standing<'_>,
-    src: &Parts,
-    alt: &Option<Parts>,
-    continues: bool,
+    include: &Include,
     progress: &mut Progress,
 ) -> Result<Ending, NoMemory>
     requires few { progress.old.legs ≤ MAX_LEGS }
     ensures { IfOk result
-        (Ends (include_at setting.now standing.entry src.now alt.now continues) progress.old progress.new) }
+        (Ends (include_at setting.now standing.entry include.now) progress.old progress.new) }
 {
-    match leg(setting, standing, src.as_slice(), progress)? {
-        Ending::Failed => alternative(setting, standing, alt, continues, progress),
+    match leg(setting, standing, include.src.as_slice(), progress)? {
+        Ending::Failed => alternative(setting, standing, include, progress),
         ended => Ok(ended),
     }
 }
@@ -174,19 +168,18 @@ fn include(
 fn alternative(
     setting: &Setting<'_>,
     standing: Standing<'_>,
-    alt: &Option<Parts>,
-    continues: bool,
+    include: &Include,
     progress: &mut Progress,
 ) -> Result<Ending, NoMemory>
     requires few { progress.old.legs ≤ MAX_LEGS }
     ensures { IfOk result
-        (Ends (alternative_at setting.now standing.entry alt.now continues) progress.old progress.new) }
+        (Ends (alternative_at setting.now standing.entry include.now) progress.old progress.new) }
 {
-    let Some(alt) = alt else {
-        return Ok(on_error(continues));
+    let Some(alt) = &include.alt else {
+        return Ok(on_error(include.continues));
     };
     match leg(setting, standing, alt.as_slice(), progress)? {
-        Ending::Failed => Ok(on_error(continues)),
+        Ending::Failed => Ok(on_error(include.continues)),
         ended => Ok(ended),
     }
 }

@@ -57,7 +57,7 @@ fn inline_in<'a>(
         inline_in base.now url.now (element_of node.now)) }
 {
     match node {
-        Node::Text(_) | Node::VarsText(_) | Node::Include { .. } | Node::Nothing => Ok(None),
+        Node::Text(_) | Node::VarsText(_) | Node::Include(_) | Node::Nothing => Ok(None),
         Node::Choose(branches) => inline_in_branches(alloc, base, url, branches.as_slice()),
         Node::Try {
             attempt,

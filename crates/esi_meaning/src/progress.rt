@@ -61,10 +61,10 @@ pub(crate) fn push_values(
 }
 
 /// An include that can't be had: nothing, or a failure.
-pub(crate) fn on_error(continues: bool) -> Ending
-    ensures { (p : Progress) → p.legs ≤ MAX_LEGS → Ends (on_error continues) p p result }
+pub(crate) fn on_error(goes_on: bool) -> Ending
+    ensures { (p : Progress) → p.legs ≤ MAX_LEGS → Ends (on_error goes_on) p p result }
 {
-    if continues {
+    if goes_on {
         Ending::Complete
     } else {
         Ending::Failed

@@ -112,7 +112,7 @@ completes-try vars (Both attempt except swapped) inner inside = lacks-nothing va
 
 completes : (vars : Bool) (frame : Frame) (inner : List Item) → Inside vars frame inner → Completes vars frame inner
 unfolding child_of
-completes vars (InInclude src alt onward) inner inside = lacks-nothing vars (InInclude src alt onward) inner (AnElement (tree.Include src alt onward)) refl inside
+completes vars (InInclude include) inner inside = lacks-nothing vars (InInclude include) inner (AnElement (tree.Include include)) refl inside
 completes vars InComment inner inside = lacks-nothing vars InComment inner (AnElement tree.Nothing) refl inside
 completes vars (InInline label content) inner inside = lacks-nothing vars (InInline label content) inner (AnElement (tree.Inline label (row content))) refl inside
 completes vars (InVars content) inner inside = lacks-nothing vars (InVars content) inner (AnElement (tree.Vars (row content))) refl inside

@@ -6,8 +6,8 @@ use Rattle.std.proofs.lemmas.List.Folds.{list_any-append}
 use Rattle.std.specs.List.{list_any}
 use Rattle.esi_scanner.specs.declared.element_name.ElementName.TheVariants as element
 use Rattle.esi_scanner.specs.declared.attribute.Attribute.{Attribute}
-use Rattle.esi_vars.specs.declared.part.Part.{Part}
 use Rattle.esi_expr.specs.Tree.{Test}
+use Rattle.esi_tree.specs.declared.include.Include.{Include}
 use Rattle.esi_tree.specs.Tree as tree
 use Rattle.esi_tree.specs.Tree.{Element, Elements, End, Then, Branches, NoBranch, When}
 use Rattle.esi_tree.specs.Shown.{Branch}
@@ -51,9 +51,9 @@ child-try : (attempt except : Elements) (swapped : Bool) → child_of (InTry (Bo
 unfolding child_of
 child-try attempt except swapped = refl
 
-child-include : (src : List Part) (alt : Option (List Part)) (onward : Bool) → child_of (InInclude src alt onward) ≡ Some (AnElement (tree.Include src alt onward))
+child-include : (include : Include) → child_of (InInclude include) ≡ Some (AnElement (tree.Include include))
 unfolding child_of
-child-include src alt onward = refl
+child-include include = refl
 
 child-comment : child_of InComment ≡ Some (AnElement tree.Nothing)
 unfolding child_of
@@ -109,10 +109,10 @@ mutual
       ap (λ us. run us state) is.1.items_are
       ∙ run-one (Text is.1.bytes) [] state (put (AnElement (tree.VarsText parts)) state)
       (text-run is.1.bytes state true top is.0 ∙ ap (λ ps. Some (put (AnElement (tree.VarsText ps)) state)) is.1.parts_are)
-  element-run (tree.Include src alt onward) items state top is =
-      let frame = InInclude src alt onward in
-      round is.tag element.Include is.content items frame frame (AnElement (tree.Include src alt onward)) state is.named (may_stand-run element.Include state.frames top)
-      (opens-include src alt onward is.tag.attributes is.fits.1) refl (white-run is.content (inside frame state) refl is.fits.0) (child-include src alt onward) is.shape
+  element-run (tree.Include include) items state top is =
+      let frame = InInclude include in
+      round is.tag element.Include is.content items frame frame (AnElement (tree.Include include)) state is.named (may_stand-run element.Include state.frames top)
+      (opens-include include is.tag.attributes is.fits.1) refl (white-run is.content (inside frame state) refl is.fits.0) (child-include include) is.shape
   element-run (tree.Choose branches) items state top is =
       round is.tag element.Choose is.content items (InChoose []) (InChoose (listed_branches branches)) (AnElement (tree.Choose branches)) state is.named (may_stand-run element.Choose state.frames top)
       (opens-choose is.tag.attributes) refl (branches-run true branches is.content [] state refl is.fits.1) (child-choose branches is.fits.0) is.shape

@@ -9,14 +9,14 @@ use Rattle.esi_scanner.specs.declared.element_name.ElementName.TheVariants as el
 use Rattle.esi_scanner.specs.declared.tag.Tag.{Tag}
 use Rattle.esi_scanner.specs.declared.token.Token.{Token}
 use Rattle.esi_scanner.specs.Bytes.{◌>>=◌}
-use Rattle.esi_vars.specs.declared.part.Part.{Part}
 use Rattle.esi_expr.specs.Tree.{Test}
+use Rattle.esi_tree.specs.declared.include.Include.{Include}
 use Rattle.esi_tree.specs.declared.open_elements.TheConstants.{OPEN_LIMIT}
 use Rattle.esi_tree.specs.Tree as tree
 use Rattle.esi_tree.specs.Tree.{Element, Elements, Branches, NoBranch, element_depth, depth, branches_depth}
 use Rattle.esi_tree.specs.Shown.{row, Branch, branch_before, branch_row}
 use Rattle.esi_tree.specs.Items.{Item, Text, Open, Close, Remove, Block, item_of}
-use Rattle.esi_tree.specs.Attributes.{src_of, alt_of, continues, when_test, inline_name, is_white}
+use Rattle.esi_tree.specs.Attributes.{include_of, when_test, inline_name, is_white}
 use Rattle.esi_tree.specs.Reading.{Halves, Neither, AttemptAlone, ExceptAlone, Both, Frame, InInclude, InComment, InInline, InVars, InChoose, InWhen, InOtherwise, InTry, InAttempt, InExcept, State, start, Child, AnElement, ABranch, AnAttempt, AnExcept, with_attempt, with_except, with_element, with_branch, with_half, grown, grown_page, put_in, put, is_run, in_vars, text_element, after_text, after_remove, is_when, may_stand, opened_by, inside, entered, name_of, is_same, child_of, left_in, left, after_tag, after, ended, then_read, read_from, tree_of_tokens}
 
 -- how deep the parts of a try are
@@ -28,7 +28,7 @@ halves_depth (Both attempt except swapped) = max (depth attempt) (depth except)
 
 -- how deep what has been read in an open element is
 abbrev frame_depth : Frame → ℕ
-frame_depth (InInclude src alt onward) = 0
+frame_depth (InInclude include) = 0
 frame_depth InComment = 0
 frame_depth (InInline name content) = depth (row content)
 frame_depth (InVars content) = depth (row content)
@@ -83,7 +83,7 @@ with_except-depth content (ExceptAlone except) = omega arith
 with_except-depth content (Both attempt except swapped) = omega arith
 
 with_element-depth : (e : Element) (frame : Frame) → frame_depth (with_element e frame) ≤ max (frame_depth frame) (element_depth e)
-with_element-depth e (InInclude src alt onward) = omega arith
+with_element-depth e (InInclude include) = omega arith
 with_element-depth e InComment = omega arith
 with_element-depth e (InInline name content) = let longer = row-push content e in omega arith
 with_element-depth e (InVars content) = let longer = row-push content e in omega arith
@@ -95,7 +95,7 @@ with_element-depth e (InAttempt content) = let longer = row-push content e in om
 with_element-depth e (InExcept content) = let longer = row-push content e in omega arith
 
 with_branch-depth : (branch : Branch) (frame : Frame) → frame_depth (with_branch branch frame) ≤ max (frame_depth frame) (depth branch.content)
-with_branch-depth branch (InInclude src alt onward) = omega arith
+with_branch-depth branch (InInclude include) = omega arith
 with_branch-depth branch InComment = omega arith
 with_branch-depth branch (InInline name content) = omega arith
 with_branch-depth branch (InVars content) = omega arith
@@ -107,7 +107,7 @@ with_branch-depth branch (InAttempt content) = omega arith
 with_branch-depth branch (InExcept content) = omega arith
 
 with_half-depth : (more : Halves → Halves) (n : ℕ) (frame : Frame) → ((halves : Halves) → halves_depth (more halves) ≤ max (halves_depth halves) n) → frame_depth (with_half more frame) ≤ max (frame_depth frame) n
-with_half-depth more n (InInclude src alt onward) most = omega arith
+with_half-depth more n (InInclude include) most = omega arith
 with_half-depth more n InComment most = omega arith
 with_half-depth more n (InInline name content) most = omega arith
 with_half-depth more n (InVars content) most = omega arith
@@ -140,7 +140,7 @@ try-depth (Both attempt except swapped) child e = let same = ap depth_in e in om
 -- what an element gives at its end is deeper by one at most
 child_of-depth : (frame : Frame) (child : Child) → child_of frame ≡ Some child → child_depth child ≤ frame_depth frame + 1
 unfolding child_of
-child_of-depth (InInclude src alt onward) child e = let same = ap depth_in e in omega arith
+child_of-depth (InInclude include) child e = let same = ap depth_in e in omega arith
 child_of-depth InComment child e = let same = ap depth_in e in omega arith
 child_of-depth (InInline name content) child e = let same = ap depth_in e in omega arith
 child_of-depth (InVars content) child e = let same = ap depth_in e in omega arith
@@ -157,7 +157,7 @@ child_of-depth (InExcept content) child e = let same = ap depth_in e in omega ar
 opened_by-depth : (name : ElementName) (attributes : List Attribute) (frame : Frame) → opened_by name attributes ≡ Some frame → frame_depth frame ≡ 0
 unfolding opened_by
 opened_by-depth element.Include attributes frame e =
-    option_and_then_some (λ (src : List Part). Some (InInclude src (alt_of attributes) (continues attributes))) (src_of attributes) frame e (λ src first rest. sym (ap frame_depth_in rest))
+    option_and_then_some (λ (include : Include). Some (InInclude include)) (include_of attributes) frame e (λ include first rest. sym (ap frame_depth_in rest))
 opened_by-depth element.Inline attributes frame e =
     option_and_then_some (λ (name : List ℕ). Some (InInline name [])) (inline_name attributes) frame e (λ name first rest. sym (ap frame_depth_in rest))
 opened_by-depth element.Choose attributes frame e = sym (ap frame_depth_in e)

@@ -7,14 +7,14 @@ use Rattle.esi_scanner.specs.declared.attribute.Attribute.{Attribute}
 use Rattle.esi_scanner.specs.declared.element_name.ElementName.{ElementName}
 use Rattle.esi_scanner.specs.declared.element_name.ElementName.TheVariants as element
 use Rattle.esi_scanner.specs.declared.tag.Tag.{Tag}
-use Rattle.esi_vars.specs.declared.part.Part.{Part}
 use Rattle.esi_expr.specs.Tree.{Test}
+use Rattle.esi_tree.specs.declared.include.Include.{Include}
 use Rattle.esi_tree.specs.Tree as tree
 use Rattle.esi_tree.specs.Tree.{Element, Elements, Branches, NoBranch}
 use Rattle.esi_tree.specs.Shown.{row, Branch, branch_before, branch_row}
 use Rattle.esi_tree.specs.Items.{Item}
-use Rattle.esi_tree.specs.Attributes.{src_of, alt_of, continues, when_test, inline_name}
-use Rattle.esi_tree.specs.Template.{IsIncludeTag, HasWhen, AreBranches}
+use Rattle.esi_tree.specs.Attributes.{include_of, when_test, inline_name}
+use Rattle.esi_tree.specs.Template.{HasWhen, AreBranches}
 use Rattle.esi_tree.specs.Reading.{Halves, Neither, AttemptAlone, ExceptAlone, Both, Frame, InInclude, InComment, InInline, InVars, InChoose, InWhen, InOtherwise, InTry, InAttempt, InExcept, Child, AnElement, ABranch, AnAttempt, AnExcept, is_when, may_stand, opened_by, name_of, child_of}
 use Rattle.esi_tree.proofs.Runs.{chosen_some}
 use Rattle.esi_tree.proofs.Places.{emptied, is_run-may_stand}
@@ -36,8 +36,8 @@ fresh-is name attributes frame other e is =
 pub fresh : (name : ElementName) (attributes : List Attribute) (frame : Frame) → opened_by name attributes ≡ Some frame → IsFresh name attributes frame
 unfolding opened_by
 fresh element.Include attributes frame e =
-    option_and_then_some (λ src. Some (InInclude src (alt_of attributes) (continues attributes))) (src_of attributes) frame e (λ src is rest.
-    fresh-is element.Include attributes (InInclude src (alt_of attributes) (continues attributes)) frame rest (record { named = refl; says = e ∙ sym rest; starts = λ vars. tt }))
+    option_and_then_some (λ include. Some (InInclude include)) (include_of attributes) frame e (λ include is rest.
+    fresh-is element.Include attributes (InInclude include) frame rest (record { named = refl; says = e ∙ sym rest; starts = λ vars. tt }))
 fresh element.Inline attributes frame e =
     option_and_then_some (λ label. Some (InInline label [])) (inline_name attributes) frame e (λ label is rest.
     fresh-is element.Inline attributes (InInline label []) frame rest (record { named = refl; says = e ∙ sym rest; starts = λ vars. refl }))
@@ -53,12 +53,12 @@ fresh element.Comment attributes frame e = fresh-is element.Comment attributes I
 fresh element.Remove attributes frame e = absurd (cc)
 fresh element.Vars attributes frame e = fresh-is element.Vars attributes (InVars []) frame e (record { named = refl; says = refl; starts = λ vars. refl })
 
-says-include : (src : List Part) (alt : Option (List Part)) (onward : Bool) (attributes : List Attribute) → opened_by element.Include attributes ≡ Some (InInclude src alt onward) → IsIncludeTag src alt onward attributes
+says-include : (include : Include) (attributes : List Attribute) → opened_by element.Include attributes ≡ Some (InInclude include) → include_of attributes ≡ Some include
 unfolding opened_by
-says-include src alt onward attributes e =
-    option_and_then_some (λ s. Some (InInclude s (alt_of attributes) (continues attributes))) (src_of attributes) (InInclude src alt onward) e (λ s is rest.
-    let src_is : s ≡ src = cc in
-    record { src_is = is ∙ ap Some src_is; alt_is = cc; onward_is = cc })
+says-include include attributes e =
+    option_and_then_some (λ s. Some (InInclude s)) (include_of attributes) (InInclude include) e (λ s is rest.
+    let same : s ≡ include = cc in
+    is ∙ ap Some same)
 
 says-inline : (label : List ℕ) (attributes : List Attribute) → opened_by element.Inline attributes ≡ Some (InInline label []) → inline_name attributes ≡ Some label
 unfolding opened_by
@@ -112,9 +112,9 @@ whole-try vars (Both attempt except true) child tag inner items named inside is 
 pub whole : (vars : Bool) (frame : Frame) (child : Child) (tag : Tag) (inner items : List Item) → tag.name ≡ name_of frame → opened_by (name_of frame) tag.attributes ≡ Some (emptied frame)
     → Inside vars frame inner → child_of frame ≡ Some child → Shape tag (name_of frame) inner items → IsChild vars child items
 unfolding child_of
-whole vars (InInclude src alt onward) child tag inner items named says inside is shape =
-    given vars (AnElement (tree.Include src alt onward)) child items is
-    (record { tag = tag; content = inner; named = named; fits = (inside, says-include src alt onward tag.attributes says); shape = shape })
+whole vars (InInclude include) child tag inner items named says inside is shape =
+    given vars (AnElement (tree.Include include)) child items is
+    (record { tag = tag; content = inner; named = named; fits = (inside, says-include include tag.attributes says); shape = shape })
 whole vars InComment child tag inner items named says inside is shape =
     given vars (AnElement tree.Nothing) child items is (inr (record { tag = tag; content = inner; named = named; fits = inside; shape = shape }))
 whole vars (InInline label content) child tag inner items named says inside is shape =
@@ -153,7 +153,7 @@ fits-try (Both attempt except swapped) child frames is may = fits-is (AnElement 
 -- where an element may stand, what it gives may stand
 pub fits-child : (frame : Frame) (child : Child) (frames : List Frame) → child_of frame ≡ Some child → may_stand (name_of frame) frames ≡ true → Fits child frames
 unfolding child_of
-fits-child (InInclude src alt onward) child frames is may = fits-is (AnElement (tree.Include src alt onward)) child frames is (is_run-may_stand element.Include frames refl may)
+fits-child (InInclude include) child frames is may = fits-is (AnElement (tree.Include include)) child frames is (is_run-may_stand element.Include frames refl may)
 fits-child InComment child frames is may = fits-is (AnElement tree.Nothing) child frames is (is_run-may_stand element.Comment frames refl may)
 fits-child (InInline label content) child frames is may = fits-is (AnElement (tree.Inline label (row content))) child frames is (is_run-may_stand element.Inline frames refl may)
 fits-child (InVars content) child frames is may = fits-is (AnElement (tree.Vars (row content))) child frames is (is_run-may_stand element.Vars frames refl may)

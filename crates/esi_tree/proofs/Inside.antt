@@ -60,7 +60,7 @@ IsHalves vars (Both attempt except true) items =
 
 -- these items have been read inside, where `vars` says whether a vars element stands round the open element
 abbrev pub Inside : Bool → Frame → List Item → Type 0
-Inside vars (InInclude src alt onward) items = AreWhite items
+Inside vars (InInclude include) items = AreWhite items
 Inside vars InComment items = AreWhite items
 Inside vars (InInline label content) items = IsRun vars (row content) items
 Inside vars (InVars content) items = IsRun true (row content) items
@@ -131,7 +131,7 @@ halves-white vars (Both attempt except true) items ws white is =
 
 -- where no run stands, white text may follow
 pub inside-white : (vars : Bool) (frame : Frame) (items ws : List Item) → holds_run frame ≡ false → AreWhite ws → Inside vars frame items → Inside vars frame (items ++ ws)
-inside-white vars (InInclude src alt onward) items ws none white is = white-append items ws is white
+inside-white vars (InInclude include) items ws none white is = white-append items ws is white
 inside-white vars InComment items ws none white is = white-append items ws is white
 inside-white vars (InInline label content) items ws none white is = absurd (cc)
 inside-white vars (InVars content) items ws none white is = absurd (cc)
@@ -145,7 +145,7 @@ inside-white vars (InAttempt content) items ws none white is = absurd (cc)
 inside-white vars (InExcept content) items ws none white is = absurd (cc)
 
 push-element : (vars : Bool) (e : Element) (frame : Frame) (items ws : List Item) → holds_run frame ≡ true → IsElement (is_vars frame || vars) e ws → Inside vars frame items → Inside vars (with_element e frame) (items ++ ws)
-push-element vars e (InInclude src alt onward) items ws top is inside = absurd (cc)
+push-element vars e (InInclude include) items ws top is inside = absurd (cc)
 push-element vars e InComment items ws top is inside = absurd (cc)
 push-element vars e (InInline label content) items ws top is inside = run-push vars content e items ws inside is
 push-element vars e (InVars content) items ws top is inside = run-push true content e items ws inside is
@@ -201,7 +201,7 @@ branch-no_try (Some test) halves e = absurd (cc)
 
 push-branch_in : (vars : Bool) (test : Option Test) (content : Elements) (frame : Frame) (items ws : List Item) → stands_in (branch_name test) frame ≡ true → IsBranch (is_vars frame || vars) test content ws → Inside vars frame items
     → Inside vars (with_branch (branch_with test content) frame) (items ++ ws)
-push-branch_in vars test content (InInclude src alt onward) items ws may is inside = absurd (cc)
+push-branch_in vars test content (InInclude include) items ws may is inside = absurd (cc)
 push-branch_in vars test content InComment items ws may is inside = absurd (cc)
 push-branch_in vars test content (InInline label others) items ws may is inside = absurd (branch-no_run test may)
 push-branch_in vars test content (InVars others) items ws may is inside = absurd (branch-no_run test may)
@@ -228,7 +228,7 @@ halves-except vars content (ExceptAlone except) items ws may is inside = absurd 
 halves-except vars content (Both attempt except swapped) items ws may is inside = absurd (cc)
 
 push-attempt : (vars : Bool) (content : Elements) (frame : Frame) (items ws : List Item) → stands_in element.Attempt frame ≡ true → IsPart element.Attempt (IsRun (is_vars frame || vars) content) ws → Inside vars frame items → Inside vars (with_half (with_attempt content) frame) (items ++ ws)
-push-attempt vars content (InInclude src alt onward) items ws may is inside = absurd (cc)
+push-attempt vars content (InInclude include) items ws may is inside = absurd (cc)
 push-attempt vars content InComment items ws may is inside = absurd (cc)
 push-attempt vars content (InInline label others) items ws may is inside = absurd (cc)
 push-attempt vars content (InVars others) items ws may is inside = absurd (cc)
@@ -240,7 +240,7 @@ push-attempt vars content (InAttempt others) items ws may is inside = absurd (cc
 push-attempt vars content (InExcept others) items ws may is inside = absurd (cc)
 
 push-except : (vars : Bool) (content : Elements) (frame : Frame) (items ws : List Item) → stands_in element.Except frame ≡ true → IsPart element.Except (IsRun (is_vars frame || vars) content) ws → Inside vars frame items → Inside vars (with_half (with_except content) frame) (items ++ ws)
-push-except vars content (InInclude src alt onward) items ws may is inside = absurd (cc)
+push-except vars content (InInclude include) items ws may is inside = absurd (cc)
 push-except vars content InComment items ws may is inside = absurd (cc)
 push-except vars content (InInline label others) items ws may is inside = absurd (cc)
 push-except vars content (InVars others) items ws may is inside = absurd (cc)

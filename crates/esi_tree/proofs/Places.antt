@@ -8,7 +8,7 @@ use Rattle.esi_tree.specs.Reading.{Halves, Neither, Frame, InInclude, InComment,
 
 -- an open element as it was when its tag had been read
 abbrev pub emptied : Frame → Frame
-emptied (InInclude src alt onward) = InInclude src alt onward
+emptied (InInclude include) = InInclude include
 emptied InComment = InComment
 emptied (InInline name content) = InInline name []
 emptied (InVars content) = InVars []
@@ -27,7 +27,7 @@ pub record Keeps (frame more : Frame) : Type 0 where
   pub empty : emptied more ≡ emptied frame
 
 keeps-element : (e : Element) (frame : Frame) → Keeps frame (with_element e frame)
-keeps-element e (InInclude src alt onward) = record { holds = refl; vars = refl; named = refl; empty = refl }
+keeps-element e (InInclude include) = record { holds = refl; vars = refl; named = refl; empty = refl }
 keeps-element e InComment = record { holds = refl; vars = refl; named = refl; empty = refl }
 keeps-element e (InInline name content) = record { holds = refl; vars = refl; named = refl; empty = refl }
 keeps-element e (InVars content) = record { holds = refl; vars = refl; named = refl; empty = refl }
@@ -39,7 +39,7 @@ keeps-element e (InAttempt content) = record { holds = refl; vars = refl; named 
 keeps-element e (InExcept content) = record { holds = refl; vars = refl; named = refl; empty = refl }
 
 keeps-branch : (branch : Branch) (frame : Frame) → Keeps frame (with_branch branch frame)
-keeps-branch branch (InInclude src alt onward) = record { holds = refl; vars = refl; named = refl; empty = refl }
+keeps-branch branch (InInclude include) = record { holds = refl; vars = refl; named = refl; empty = refl }
 keeps-branch branch InComment = record { holds = refl; vars = refl; named = refl; empty = refl }
 keeps-branch branch (InInline name content) = record { holds = refl; vars = refl; named = refl; empty = refl }
 keeps-branch branch (InVars content) = record { holds = refl; vars = refl; named = refl; empty = refl }
@@ -51,7 +51,7 @@ keeps-branch branch (InAttempt content) = record { holds = refl; vars = refl; na
 keeps-branch branch (InExcept content) = record { holds = refl; vars = refl; named = refl; empty = refl }
 
 keeps-half : (more : Halves → Halves) (frame : Frame) → Keeps frame (with_half more frame)
-keeps-half more (InInclude src alt onward) = record { holds = refl; vars = refl; named = refl; empty = refl }
+keeps-half more (InInclude include) = record { holds = refl; vars = refl; named = refl; empty = refl }
 keeps-half more InComment = record { holds = refl; vars = refl; named = refl; empty = refl }
 keeps-half more (InInline name content) = record { holds = refl; vars = refl; named = refl; empty = refl }
 keeps-half more (InVars content) = record { holds = refl; vars = refl; named = refl; empty = refl }
@@ -79,7 +79,7 @@ put-in_vars child (frame ∷ outer) content = ap (λ b. b || in_vars outer) (kee
 -- where a run stands, any element that stands in runs may stand
 pub may_stand-run : (name : ElementName) (frames : List Frame) → is_run frames ≡ true → may_stand name frames ≡ stands_in_run name
 may_stand-run name [] top = refl
-may_stand-run name (InInclude src alt onward ∷ outer) top = absurd (cc)
+may_stand-run name (InInclude include ∷ outer) top = absurd (cc)
 may_stand-run name (InComment ∷ outer) top = absurd (cc)
 may_stand-run name (InInline label content ∷ outer) top = refl
 may_stand-run name (InVars content ∷ outer) top = refl
@@ -103,7 +103,7 @@ no-try _ halves in_run in_try = absurd (cc)
 -- and where such an element may stand, a run stands
 pub is_run-may_stand : (name : ElementName) (frames : List Frame) → stands_in_run name ≡ true → may_stand name frames ≡ true → is_run frames ≡ true
 is_run-may_stand name [] in_run may = refl
-is_run-may_stand name (InInclude src alt onward ∷ outer) in_run may = absurd (cc)
+is_run-may_stand name (InInclude include ∷ outer) in_run may = absurd (cc)
 is_run-may_stand name (InComment ∷ outer) in_run may = absurd (cc)
 is_run-may_stand name (InInline label content ∷ outer) in_run may = refl
 is_run-may_stand name (InVars content ∷ outer) in_run may = refl

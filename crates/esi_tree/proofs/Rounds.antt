@@ -1,16 +1,16 @@
 -- An element that is read from its opening tag to its end.
-use Rattle.std.proofs.Common.{◌≡◌, ◌⊎◌, inl, inr, ℕ, Bool, true, false, List, [], ◌∷◌, ◌++◌, Option, Some, refl, sym, ◌∙◌, ap}
+use Rattle.std.proofs.Common.{◌≡◌, ◌⊎◌, inl, inr, ℕ, Bool, true, false, List, [], ◌∷◌, ◌++◌, Some, refl, sym, ◌∙◌, ap}
 use Rattle.esi_scanner.specs.declared.attribute.Attribute.{Attribute}
 use Rattle.esi_scanner.specs.declared.element_name.ElementName.{ElementName}
 use Rattle.esi_scanner.specs.declared.element_name.ElementName.TheVariants as element
 use Rattle.esi_scanner.specs.declared.tag.Tag.{Tag}
 use Rattle.esi_scanner.specs.Bytes.{◌>>=◌}
-use Rattle.esi_vars.specs.declared.part.Part.{Part}
 use Rattle.esi_expr.specs.Tree.{Test}
+use Rattle.esi_tree.specs.declared.include.Include.{Include}
 use Rattle.esi_tree.specs.Tree.{Element}
 use Rattle.esi_tree.specs.Items.{Item, Text, Open, Close, Remove, Block}
-use Rattle.esi_tree.specs.Attributes.{when_test, inline_name, is_white}
-use Rattle.esi_tree.specs.Template.{AreWhite, AfterWhite, IsIncludeTag}
+use Rattle.esi_tree.specs.Attributes.{include_of, when_test, inline_name, is_white}
+use Rattle.esi_tree.specs.Template.{AreWhite, AfterWhite}
 use Rattle.esi_tree.specs.Reading.{Frame, InInclude, InInline, InWhen, State, Child, AnElement, put, is_run, in_vars, text_element, after_text, after_remove, may_stand, opened_by, inside, entered, name_of, child_of, left}
 use Rattle.esi_tree.specs.Tree as tree
 use Rattle.esi_tree.proofs.Runs.{run, run-after, run-one, entered-is, opened-is, left-is}
@@ -74,9 +74,9 @@ after_white-run items P Q is state middle last none first second =
     ∙ run-after is.second.front is.second.back state middle first
     ∙ second
 
-pub opens-include : (src : List Part) (alt : Option (List Part)) (onward : Bool) (attributes : List Attribute) → IsIncludeTag src alt onward attributes → opened_by element.Include attributes ≡ Some (InInclude src alt onward)
+pub opens-include : (include : Include) (attributes : List Attribute) → include_of attributes ≡ Some include → opened_by element.Include attributes ≡ Some (InInclude include)
 unfolding opened_by
-opens-include src alt onward attributes says = rw (says.src_is, says.alt_is, says.onward_is) refl
+opens-include include attributes is = rw is refl
 
 pub opens-inline : (name : List ℕ) (attributes : List Attribute) → inline_name attributes ≡ Some name → opened_by element.Inline attributes ≡ Some (InInline name [])
 unfolding opened_by

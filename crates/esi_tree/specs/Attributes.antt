@@ -10,6 +10,7 @@ use Rattle.esi_vars.specs.declared.part.Part.{Part}
 use Rattle.esi_vars.specs.Parts.{parts_of}
 use Rattle.esi_expr.specs.Tree.{Test}
 use Rattle.esi_expr.specs.Reading.{read_test}
+use Rattle.esi_tree.specs.declared.include.Include.{Include}
 
 -- where an include's resource is, and where another one is
 abbrev pub src_of : List Attribute → Option (List Part)
@@ -26,6 +27,10 @@ is_continue (Some value) = bytes_eq value (codes "continue")
 -- whether `onerror` says that the page goes on without the element; any other value than `continue` says nothing
 unfoldable pub continues : List Attribute → Bool
 continues attributes = is_continue (value_of known.OnError attributes)
+
+-- what an include says, where it has a `src`
+abbrev pub include_of : List Attribute → Option Include
+include_of attributes = option_map (λ src. record { src = src; alt = alt_of attributes; continues = continues attributes }) (src_of attributes)
 
 -- the test of a `when`, where there is one that can be read
 abbrev pub when_test : List Attribute → Option Test

@@ -8,15 +8,15 @@ use Rattle.esi_scanner.specs.declared.tag.Tag.{Tag}
 use Rattle.esi_scanner.specs.declared.token.Token.{Token}
 use Rattle.esi_scanner.specs.Bytes.{◌>>=◌}
 use Rattle.esi_scanner.specs.Scan.{scan_of}
-use Rattle.esi_vars.specs.declared.part.Part.{Part}
 use Rattle.esi_vars.specs.Parts.{parts_of}
 use Rattle.esi_expr.specs.Tree.{Test}
+use Rattle.esi_tree.specs.declared.include.Include.{Include}
 use Rattle.esi_tree.specs.declared.open_elements.TheConstants.{OPEN_LIMIT}
 use Rattle.esi_tree.specs.Tree as tree
 use Rattle.esi_tree.specs.Tree.{Element, Elements}
 use Rattle.esi_tree.specs.Shown.{row, Branch, branch_row}
 use Rattle.esi_tree.specs.Items.{Item, Text, Open, Close, Remove, Block, item_of}
-use Rattle.esi_tree.specs.Attributes.{src_of, alt_of, continues, when_test, inline_name, is_white}
+use Rattle.esi_tree.specs.Attributes.{include_of, when_test, inline_name, is_white}
 
 -- the parts of a try that have been read
 pub data Halves : Type 0 where
@@ -27,7 +27,7 @@ pub data Halves : Type 0 where
 
 -- an element whose end hasn't come, with what its tag says and what has been read inside
 pub data Frame : Type 0 where
-  InInclude : (src : List Part) (alt : Option (List Part)) (onward : Bool) → Frame
+  InInclude : (include : Include) → Frame
   InComment : Frame
   InInline : (name : List ℕ) (content : List Element) → Frame
   InVars : (content : List Element) → Frame
@@ -108,7 +108,7 @@ put child state = put_in child state.frames state.content
 
 -- whether any element may stand in an open one
 abbrev pub holds_run : Frame → Bool
-holds_run (InInclude src alt onward) = false
+holds_run (InInclude include) = false
 holds_run InComment = false
 holds_run (InChoose branches) = false
 holds_run (InTry halves) = false
@@ -186,7 +186,7 @@ stands_in_try _ halves = false
 
 -- whether it may stand in an open element
 abbrev pub stands_in : ElementName → Frame → Bool
-stands_in name (InInclude src alt onward) = false
+stands_in name (InInclude include) = false
 stands_in name InComment = false
 stands_in name (InChoose branches) = stands_in_choose name branches
 stands_in name (InTry halves) = stands_in_try name halves
@@ -199,7 +199,7 @@ may_stand name (frame ∷ outer) = stands_in name frame
 
 -- the element that a tag opens, where the tag has the attributes that it needs
 unfoldable pub opened_by : ElementName → List Attribute → Option Frame
-opened_by element.Include attributes = src_of attributes >>= λ src. Some (InInclude src (alt_of attributes) (continues attributes))
+opened_by element.Include attributes = include_of attributes >>= λ include. Some (InInclude include)
 opened_by element.Inline attributes = inline_name attributes >>= λ name. Some (InInline name [])
 opened_by element.Choose attributes = Some (InChoose [])
 opened_by element.When attributes = when_test attributes >>= λ test. Some (InWhen test [])
@@ -222,7 +222,7 @@ entered name attributes state =
 
 -- the name of an open element
 abbrev pub name_of : Frame → ElementName
-name_of (InInclude src alt onward) = element.Include
+name_of (InInclude include) = element.Include
 name_of InComment = element.Comment
 name_of (InInline name content) = element.Inline
 name_of (InVars content) = element.Vars
@@ -259,7 +259,7 @@ try_of _ = None
 
 -- what an open element gives at its end, where it may end
 unfoldable pub child_of : Frame → Option Child
-child_of (InInclude src alt onward) = Some (AnElement (tree.Include src alt onward))
+child_of (InInclude include) = Some (AnElement (tree.Include include))
 child_of InComment = Some (AnElement tree.Nothing)
 child_of (InInline name content) = Some (AnElement (tree.Inline name (row content)))
 child_of (InVars content) = Some (AnElement (tree.Vars (row content)))

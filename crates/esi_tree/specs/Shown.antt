@@ -33,7 +33,7 @@ branch_row (b ∷ bs) = branch_before b.test b.content (branch_row bs)
 abbrev pub element_step : layer.Node-F tree.Element Branch → tree.Element
 element_step (layer.Text text) = tree.Text text
 element_step (layer.VarsText parts) = tree.VarsText parts
-element_step (layer.Include src alt continues) = tree.Include src alt continues
+element_step (layer.Include include) = tree.Include include
 element_step (layer.Choose branches) = tree.Choose (branch_row branches.items)
 element_step (layer.Try attempt except swapped) = tree.Try (row attempt.items) (row except.items) swapped
 element_step (layer.Vars content) = tree.Vars (row content.items)

@@ -32,7 +32,7 @@ shown_child (given.Except content) = reading.AnExcept (elements_of content.items
 
 -- an open element
 abbrev pub frame_of : OpenElement → Frame
-frame_of (unended.Include src alt continues) = reading.InInclude src alt continues
+frame_of (unended.Include include) = reading.InInclude include
 frame_of unended.Comment = reading.InComment
 frame_of (unended.Inline name content) = reading.InInline name (map element_of content.items)
 frame_of (unended.Vars content) = reading.InVars (map element_of content.items)

@@ -1,5 +1,5 @@
 -- Which items make a template, by cases on its tree.
-use Rattle.std.specs.Prelude.{◌≡◌, ◌⊎◌, ℕ, ◌+◌, ◌-◌, ◌≤◌, max, Bool, true, false, List, [], ◌∷◌, ◌++◌, Option, Some, if◌then◌else◌}
+use Rattle.std.specs.Prelude.{◌≡◌, ◌⊎◌, ℕ, ◌+◌, ◌-◌, ◌≤◌, max, Bool, true, false, List, [], ◌∷◌, ◌++◌, Some, if◌then◌else◌}
 use Rattle.std.specs.List.{AllByRecursion}
 use Rattle.esi_scanner.specs.declared.attribute.Attribute.{Attribute}
 use Rattle.esi_scanner.specs.declared.element_name.ElementName.{ElementName}
@@ -12,7 +12,7 @@ use Rattle.esi_tree.specs.declared.open_elements.TheConstants.{OPEN_LIMIT}
 use Rattle.esi_tree.specs.Tree as tree
 use Rattle.esi_tree.specs.Tree.{Element, Elements, End, Then, Branches, NoBranch, When}
 use Rattle.esi_tree.specs.Items.{Item, Text, Open, Close, Remove, Block}
-use Rattle.esi_tree.specs.Attributes.{src_of, alt_of, continues, when_test, inline_name, is_white}
+use Rattle.esi_tree.specs.Attributes.{include_of, when_test, inline_name, is_white}
 
 -- the items without the marks of blocks, which are passed over wherever they stand
 abbrev pub struck : List Item → List Item
@@ -51,12 +51,6 @@ pub record Splits (items : List Item) (P Q : List Item → Type 0) : Type 0 wher
 abbrev pub AfterWhite : List Item → (List Item → Type 0) → (List Item → Type 0) → Type 0
 AfterWhite items P Q = Splits items AreWhite (λ others. Splits others P Q)
 
--- what an include's tag says
-pub record IsIncludeTag (src : List Part) (alt : Option (List Part)) (onward : Bool) (attributes : List Attribute) : Type 0 where
-  pub src_is : src_of attributes ≡ Some src
-  pub alt_is : alt_of attributes ≡ alt
-  pub onward_is : continues attributes ≡ onward
-
 -- text inside a `vars`, in parts
 pub record IsVarsText (parts : List Part) (items : List Item) : Type 0 where
   pub bytes : List ℕ
@@ -82,8 +76,8 @@ abbrev mutual
   pub IsElement : Bool → Element → List Item → Type 0
   IsElement vars (tree.Text bytes) items = (vars ≡ false) × (items ≡ Text bytes ∷ [])
   IsElement vars (tree.VarsText parts) items = (vars ≡ true) × IsVarsText parts items
-  IsElement vars (tree.Include src alt onward) items =
-      Encloses element.Include items (λ attributes content. AreWhite content × IsIncludeTag src alt onward attributes)
+  IsElement vars (tree.Include include) items =
+      Encloses element.Include items (λ attributes content. AreWhite content × (include_of attributes ≡ Some include))
   IsElement vars (tree.Choose branches) items = IsPart element.Choose (λ content. HasWhen branches × AreBranches vars true branches content) items
   IsElement vars (tree.Try attempt except false) items =
       IsPart element.Try (λ content. AfterWhite content (IsPart element.Attempt (IsRun vars attempt)) (λ rest. AfterWhite rest (IsPart element.Except (IsRun vars except)) AreWhite)) items

@@ -1,7 +1,8 @@
 -- A template as a tree, without where it lies in memory.
-use Rattle.std.specs.Prelude.{ℕ, ◌+◌, max, Bool, List, Option}
+use Rattle.std.specs.Prelude.{ℕ, ◌+◌, max, Bool, List}
 use Rattle.esi_vars.specs.declared.part.Part.{Part}
 use Rattle.esi_expr.specs.Tree.{Test}
+use Rattle.esi_tree.specs.declared.include.Include as code
 
 mutual
   -- one element, or a run of text
@@ -9,7 +10,7 @@ mutual
     Text : (text : List ℕ) → Element
     -- text inside a `vars`, in parts
     VarsText : (parts : List Part) → Element
-    Include : (src : List Part) (alt : Option (List Part)) (continues : Bool) → Element
+    Include : (include : code.Include) → Element
     Choose : (branches : Branches) → Element
     -- `swapped`: the except stands before the attempt
     Try : (attempt : Elements) (except : Elements) (swapped : Bool) → Element
@@ -34,7 +35,7 @@ abbrev mutual
   pub element_depth : Element → ℕ
   element_depth (Text text) = 1
   element_depth (VarsText parts) = 1
-  element_depth (Include src alt continues) = 1
+  element_depth (Include include) = 1
   element_depth (Choose branches) = 1 + branches_depth branches
   element_depth (Try attempt except swapped) = 1 + max (depth attempt) (depth except)
   element_depth (Vars content) = 1 + depth content

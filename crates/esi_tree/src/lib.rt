@@ -8,6 +8,7 @@
 mod child;
 pub mod fault;
 mod halves;
+pub mod include;
 pub mod laws;
 pub mod node;
 mod open_element;
@@ -18,6 +19,7 @@ mod tag;
 pub mod tree;
 
 pub use fault::TreeFault;
+pub use include::Include;
 pub use node::{Branch, Node};
 pub use open_element::stands_in_run;
 pub use open_elements::OPEN_LIMIT;

@@ -1,6 +1,7 @@
 //! The elements of a template.
 ghost use Rattle.std.specs.Prelude.{◌≡◌};
 
+use crate::include::Include;
 use crate::parts::Parts;
 use edge_types::{Octets, SharedBytes};
 use esi_expr::Expr;
@@ -15,14 +16,7 @@ pub enum Node {
     /// Text inside a `vars`, which is given out with the values of its references.
     VarsText(Parts),
     /// A resource that replaces the element.
-    Include {
-        /// Where the resource is.
-        src: Parts,
-        /// Where another one is, for when the first can't be had.
-        alt: Option<Parts>,
-        /// The element is dropped where neither can be had.
-        continues: bool,
-    },
+    Include(Include),
     /// The branches, in the text's order, of which one is taken at most.
     Choose(Vec<Branch>),
     /// What is tried, and what stands for it where it fails.

@@ -8,8 +8,8 @@ ghost use Rattle.esi_tree.specs.Reading.{AnElement, with_element, with_branch, w
 
 use crate::child::Child;
 use crate::halves::Halves;
+use crate::include::Include;
 use crate::node::{Branch, Node};
-use crate::parts::Parts;
 use edge_types::{NoMemory, Octets};
 use esi_expr::Expr;
 use esi_scanner::ElementName;
@@ -17,22 +17,12 @@ use std::sync::Arc;
 
 #[derive(Drop)]
 pub(crate) enum OpenElement {
-    Include {
-        src: Parts,
-        alt: Option<Parts>,
-        continues: bool,
-    },
+    Include(Include),
     Comment,
-    Inline {
-        name: Octets,
-        content: Vec<Node>,
-    },
+    Inline { name: Octets, content: Vec<Node> },
     Vars(Vec<Node>),
     Choose(Vec<Branch>),
-    When {
-        test: Arc<Expr>,
-        content: Vec<Node>,
-    },
+    When { test: Arc<Expr>, content: Vec<Node> },
     Otherwise(Vec<Node>),
     Try(Halves),
     Attempt(Vec<Node>),
@@ -110,7 +100,7 @@ impl OpenElement {
         ensures { result ≡ name_of (frame_of self.now) }
     {
         match self {
-            OpenElement::Include { .. } => ElementName::Include,
+            OpenElement::Include(_) => ElementName::Include,
             OpenElement::Comment => ElementName::Comment,
             OpenElement::Inline { .. } => ElementName::Inline,
             OpenElement::Vars(_) => ElementName::Vars,
@@ -129,7 +119,7 @@ impl OpenElement {
     {
         !matches!(
             self,
-            OpenElement::Include { .. }
+            OpenElement::Include(_)
                 | OpenElement::Comment
                 | OpenElement::Choose(_)
                 | OpenElement::Try(_)
@@ -148,7 +138,7 @@ impl OpenElement {
         ensures { result ≡ stands_in name (frame_of self.now) }
     {
         match self {
-            OpenElement::Include { .. } | OpenElement::Comment => false,
+            OpenElement::Include(_) | OpenElement::Comment => false,
             OpenElement::Choose(branches) => stands_in_choose(name, branches.as_slice()),
             OpenElement::Try(halves) => halves.admits(name),
             _ => stands_in_run(name),
@@ -166,7 +156,7 @@ impl OpenElement {
             OpenElement::Attempt(content) => push_node(content, node),
             OpenElement::Except(content) => push_node(content, node),
             // Never comes: no node stands in these.
-            OpenElement::Include { .. }
+            OpenElement::Include(_)
             | OpenElement::Comment
             | OpenElement::Choose(_)
             | OpenElement::Try(_) => Ok(()),
@@ -220,15 +210,7 @@ impl OpenElement {
         ensures { option_map shown_child result ≡ child_of (frame_of self) }
     {
         match self {
-            OpenElement::Include {
-                src,
-                alt,
-                continues,
-            } => Some(Child::Element(Node::Include {
-                src,
-                alt,
-                continues,
-            })),
+            OpenElement::Include(include) => Some(Child::Element(Node::Include(include))),
             OpenElement::Comment => Some(Child::Element(Node::Nothing)),
             OpenElement::Inline { name, content } => {
                 Some(Child::Element(Node::Inline { name, content }))

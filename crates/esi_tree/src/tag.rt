@@ -9,6 +9,7 @@ ghost use Rattle.esi_tree.specs.State.{frame_of};
 ghost use Rattle.esi_scanner.specs.declared.element_name.ElementName.TheVariants as element;
 
 use crate::halves::Halves;
+use crate::include::Include;
 use crate::node::Node;
 use crate::open_element::OpenElement;
 use crate::parts::Parts;
@@ -80,11 +81,11 @@ fn include_of(alloc: Global, attributes: &Attributes) -> Result<Option<OpenEleme
         Some(alt) => Some(parts_of_value(alloc, alt)?),
         None => None,
     };
-    Ok(Some(OpenElement::Include {
+    Ok(Some(OpenElement::Include(Include {
         src,
         alt,
         continues: continues(attributes),
-    }))
+    })))
 }
 
 // An inline, which needs a `name`.

@@ -64,7 +64,7 @@ module _ (s : List Step) where
     stand_in : (e : Element) (pre later : List Step) → IsSingleIn e → s ≡ pre ++ (code_in e ++ later) → Stand (places_in e later) (inlines_in e)
     stand_in (tree.Text text) pre later h e = refl
     stand_in (tree.VarsText parts) pre later h e = refl
-    stand_in (tree.Include src alt continues) pre later h e = refl
+    stand_in (tree.Include include) pre later h e = refl
     stand_in (tree.Choose branches) pre later h e = stand_among branches [] pre later h e
     stand_in (tree.Try attempt except false) pre later h e =
         let a = code_of attempt in let x = code_of except in let t = Try (length a + 1) in let n = EndTry (length x) in

@@ -1,10 +1,11 @@
 -- No step of a tree jumps past the end of its plan.
 use Rattle.std.proofs.Common.{◌≡◌, ℕ, zero, suc, ◌+◌, ◌≤◌, Bool, true, false, List, [], ◌∷◌, ◌++◌, length, slice_get, Option, Some, None, refl, ap, arith, length-append}
 use Rattle.esi_vars.specs.declared.part.Part.{Part}
+use Rattle.esi_tree.specs.declared.include.Include.{Include}
 use Rattle.esi_tree.specs.Tree as tree
 use Rattle.esi_tree.specs.Tree.{Element, Elements, Branches}
 use Rattle.plan_compiler.specs.Plan.{Step, Test, Jump, Try, EndTry, Leg}
-use Rattle.plan_compiler.specs.Code.{else_code, dropped_code, include_code, code_in, code_of, chosen_code}
+use Rattle.plan_compiler.specs.Code.{else_code, dropped_code, alternate_code, code_in, code_of, chosen_code}
 use Rattle.plan_compiler.specs.Laws.{skip_of, JumpsStay}
 
 -- so many steps stand behind these, and none jumps further
@@ -31,19 +32,19 @@ jumps x y c d over behind b e = (omega (arith, over, length-append c (y ∷ d)),
 else_bounded : (c d : List Step) → Bounded zero c → Bounded zero d → Bounded zero (else_code c d)
 else_bounded c d b e = jumps (Try (length c + 1)) (EndTry (length d)) c d refl refl b e
 
-dropped_bounded : (source : List Part) (continues : Bool) → Bounded zero (dropped_code source continues)
+dropped_bounded : (source : List Part) (goes_on : Bool) → Bounded zero (dropped_code source goes_on)
 dropped_bounded source false = (omega arith, tt)
 dropped_bounded source true = else_bounded (Leg source ∷ []) [] (omega arith, tt) tt
 
-include_bounded : (src : List Part) (alt : Option (List Part)) (continues : Bool) → Bounded zero (include_code src alt continues)
-include_bounded src None continues = dropped_bounded src continues
-include_bounded src (Some alt) continues = else_bounded (Leg src ∷ []) (dropped_code alt continues) (omega arith, tt) (dropped_bounded alt continues)
+alternate_bounded : (include : Include) (alt : Option (List Part)) → Bounded zero (alternate_code include alt)
+alternate_bounded include None = dropped_bounded include.src include.continues
+alternate_bounded include (Some alt) = else_bounded (Leg include.src ∷ []) (dropped_code alt include.continues) (omega arith, tt) (dropped_bounded alt include.continues)
 
 mutual
   bounded_in : (e : Element) → Bounded zero (code_in e)
   bounded_in (tree.Text text) = (omega arith, tt)
   bounded_in (tree.VarsText parts) = (omega arith, tt)
-  bounded_in (tree.Include src alt continues) = include_bounded src alt continues
+  bounded_in (tree.Include include) = alternate_bounded include include.alt
   bounded_in (tree.Choose branches) = bounded_among [] tt branches
   bounded_in (tree.Try attempt except swapped) = else_bounded (code_of attempt) (code_of except) (bounded_of attempt) (bounded_of except)
   bounded_in (tree.Vars content) = bounded_of content

@@ -33,7 +33,7 @@ abbrev mutual
   pub IsSingleIn : Element → Type 0
   IsSingleIn (tree.Text text) = Unit {0}
   IsSingleIn (tree.VarsText parts) = Unit {0}
-  IsSingleIn (tree.Include src alt continues) = Unit {0}
+  IsSingleIn (tree.Include include) = Unit {0}
   IsSingleIn (tree.Choose branches) = AreSingle branches
   IsSingleIn (tree.Try attempt except swapped) = IsSingle attempt × IsSingle except
   IsSingleIn (tree.Vars content) = IsSingle content
@@ -63,7 +63,7 @@ abbrev mutual
   pub places_in : Element → List Step → List Place
   places_in (tree.Text text) later = []
   places_in (tree.VarsText parts) later = []
-  places_in (tree.Include src alt continues) later = []
+  places_in (tree.Include include) later = []
   places_in (tree.Choose branches) later = places_among branches [] later
   places_in (tree.Try attempt except false) later =
       places_of attempt (EndTry (length (code_of except)) ∷ code_of except ++ later) ++ places_of except later

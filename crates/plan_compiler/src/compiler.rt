@@ -22,7 +22,7 @@ use crate::later_steps::LaterSteps;
 use crate::plan::Plan;
 use crate::step::Step;
 use edge_types::NoMemory;
-use esi_tree::{Branch, Node, Parts, Template};
+use esi_tree::{Branch, Include, Node, Parts, Template};
 use std::alloc::Global;
 use std::sync::Arc;
 
@@ -81,11 +81,7 @@ fn put_element(
     match node {
         Node::Text(text) => later.put(Step::Text(text.share()?)),
         Node::VarsText(parts) => later.put(Step::Values(parts.share()?)),
-        Node::Include {
-            src,
-            alt,
-            continues,
-        } => put_include(src, alt, *continues, later),
+        Node::Include(include) => put_include(include, later),
         Node::Choose(branches) => put_choose(alloc, branches.as_slice(), later, inlines),
         Node::Try {
             attempt,
@@ -114,10 +110,10 @@ fn put_element(
 }
 
 // A leg; where the page goes on without it, a failure gives nothing.
-fn put_leg(source: &Parts, continues: bool, later: &mut LaterSteps) -> Result<(), NoMemory>
-    ensures { OnOk result (later_of later.new ≡ dropped_code source.now continues ++ later_of later.old) }
+fn put_leg(source: &Parts, goes_on: bool, later: &mut LaterSteps) -> Result<(), NoMemory>
+    ensures { OnOk result (later_of later.new ≡ dropped_code source.now goes_on ++ later_of later.old) }
 {
-    if !continues {
+    if !goes_on {
         return later.put(Step::Leg(source.share()?));
     }
     later.put(Step::EndTry { skip: 0 })?;
@@ -125,22 +121,17 @@ fn put_leg(source: &Parts, continues: bool, later: &mut LaterSteps) -> Result<()
     later.put(Step::Try { skip: 2 })
 }
 
-fn put_include(
-    src: &Parts,
-    alt: &Option<Parts>,
-    continues: bool,
-    later: &mut LaterSteps,
-) -> Result<(), NoMemory>
-    ensures { OnOk result (later_of later.new ≡ include_code src.now alt.now continues ++ later_of later.old) }
+fn put_include(include: &Include, later: &mut LaterSteps) -> Result<(), NoMemory>
+    ensures { OnOk result (later_of later.new ≡ include_code include.now ++ later_of later.old) }
 {
-    let Some(alt) = alt else {
-        return put_leg(src, continues, later);
+    let Some(alt) = &include.alt else {
+        return put_leg(&include.src, include.continues, later);
     };
     let behind = later.len();
-    put_leg(alt, continues, later)?;
+    put_leg(alt, include.continues, later)?;
     let alternate = later.len() - behind;
     later.put(Step::EndTry { skip: alternate })?;
-    later.put(Step::Leg(src.share()?))?;
+    later.put(Step::Leg(include.src.share()?))?;
     later.put(Step::Try { skip: 2 })
 }
 

@@ -3,7 +3,7 @@
 use crate::language::push_parts;
 use crate::row::{Line, number};
 use edge_types::SharedBytes;
-use esi_tree::{Branch, Node, Parts, TreeFault};
+use esi_tree::{Branch, Include, Node, TreeFault};
 use std::alloc::Global;
 
 /// The nodes of a template, a bar after each: text as it is and, inside a `vars`, behind a `~`; an include as `{src}`,
@@ -51,11 +51,7 @@ fn push_node(line: &mut Line, node: &Node) {
             line.push("~");
             push_parts(line, parts.as_slice());
         }
-        Node::Include {
-            src,
-            alt,
-            continues,
-        } => push_include(line, src, alt, *continues),
+        Node::Include(include) => push_include(line, include),
         Node::Choose(branches) => push_branches(line, branches.as_slice()),
         Node::Try {
             attempt,
@@ -89,12 +85,12 @@ fn push_branches(line: &mut Line, branches: &[Branch]) {
     line.push("]");
 }
 
-fn push_include(line: &mut Line, src: &Parts, alt: &Option<Parts>, continues: bool) {
+fn push_include(line: &mut Line, include: &Include) {
     line.push("{");
-    push_parts(line, src.as_slice());
-    if let Some(alt) = alt {
+    push_parts(line, include.src.as_slice());
+    if let Some(alt) = &include.alt {
         line.push(",");
         push_parts(line, alt.as_slice());
     }
-    line.push(if continues { "}?" } else { "}" });
+    line.push(if include.continues { "}?" } else { "}" });
 }

@@ -30,7 +30,7 @@ not-single name wanted run single = by_test (is_same name wanted) refl
 
 -- what is read of an element that is no part gives it no part
 pub element-has : (wanted : ElementName) (e : Element) (frame : Frame) → has wanted (with_element e frame) ≡ has wanted frame
-element-has wanted e (InInclude src alt onward) = refl
+element-has wanted e (InInclude include) = refl
 element-has wanted e InComment = refl
 element-has wanted e (InInline label content) = refl
 element-has wanted e (InVars content) = refl
@@ -44,7 +44,7 @@ element-has wanted e (InExcept content) = refl
 -- the element that a frame gives, where it is no part
 element-given : (frame : Frame) (child : Child) → child_of frame ≡ Some child → stands_in_run (name_of frame) ≡ true → (e : Element) × (AnElement e ≡ child)
 unfolding child_of
-element-given (InInclude src alt onward) child gives run = (tree.Include src alt onward, cc)
+element-given (InInclude include) child gives run = (tree.Include include, cc)
 element-given InComment child gives run = (tree.Nothing, cc)
 element-given (InInline label content) child gives run = (tree.Inline label (row content), cc)
 element-given (InVars content) child gives run = (tree.Vars (row content), cc)
@@ -107,20 +107,20 @@ except-has _ content halves = refl
 -- a part stands in its element alone
 choose-only : (name : ElementName) (frame : Frame) → is_branch name ≡ true → stands_in name (name_of frame) ≡ true → (branches : List Branch) × (frame ≡ InChoose branches)
 choose-only name (InChoose branches) branch stands = (branches, refl)
-choose-only element.When (InInclude src alt onward) branch stands = absurd (cc)
+choose-only element.When (InInclude include) branch stands = absurd (cc)
 choose-only element.When InComment branch stands = absurd (cc)
 choose-only element.When _ branch stands = absurd (cc)
-choose-only element.Otherwise (InInclude src alt onward) branch stands = absurd (cc)
+choose-only element.Otherwise (InInclude include) branch stands = absurd (cc)
 choose-only element.Otherwise InComment branch stands = absurd (cc)
 choose-only element.Otherwise _ branch stands = absurd (cc)
 choose-only _ _ branch stands = absurd (cc)
 
 try-only : (name : ElementName) (frame : Frame) → is_half name ≡ true → stands_in name (name_of frame) ≡ true → (halves : Halves) × (frame ≡ InTry halves)
 try-only name (InTry halves) half stands = (halves, refl)
-try-only element.Attempt (InInclude src alt onward) half stands = absurd (cc)
+try-only element.Attempt (InInclude include) half stands = absurd (cc)
 try-only element.Attempt InComment half stands = absurd (cc)
 try-only element.Attempt _ half stands = absurd (cc)
-try-only element.Except (InInclude src alt onward) half stands = absurd (cc)
+try-only element.Except (InInclude include) half stands = absurd (cc)
 try-only element.Except InComment half stands = absurd (cc)
 try-only element.Except _ half stands = absurd (cc)
 try-only _ _ half stands = absurd (cc)
@@ -154,7 +154,7 @@ adds-half wanted frame outer more child same each is stands =
 
 pub adds : (wanted : ElementName) (frame outer : Frame) (child : Child) → is_single wanted ≡ true → stands_in (name_of frame) (name_of outer) ≡ true → child_of frame ≡ Some child → Adds wanted frame outer child
 unfolding child_of
-adds wanted (InInclude src alt onward) outer child single stands gives = adds-element wanted (InInclude src alt onward) outer child single refl gives
+adds wanted (InInclude include) outer child single stands gives = adds-element wanted (InInclude include) outer child single refl gives
 adds wanted InComment outer child single stands gives = adds-element wanted InComment outer child single refl gives
 adds wanted (InInline label content) outer child single stands gives = adds-element wanted (InInline label content) outer child single refl gives
 adds wanted (InVars content) outer child single stands gives = adds-element wanted (InVars content) outer child single refl gives
@@ -187,7 +187,7 @@ empty-halves element.Except = refl
 empty-halves _ = refl
 
 empty-has : (wanted : ElementName) (frame : Frame) → has wanted (emptied frame) ≡ false
-empty-has wanted (InInclude src alt onward) = refl
+empty-has wanted (InInclude include) = refl
 empty-has wanted InComment = refl
 empty-has wanted (InInline label content) = refl
 empty-has wanted (InVars content) = refl

@@ -127,7 +127,7 @@ stands-try _ halves may = absurd (cc)
 
 pub stands-by_name : (name : ElementName) (frames : List Frame) → may_stand name frames ≡ true → StandsIn name frames
 stands-by_name name [] may = may
-stands-by_name name (InInclude src alt onward ∷ outer) may = absurd (cc)
+stands-by_name name (InInclude include ∷ outer) may = absurd (cc)
 stands-by_name name (InComment ∷ outer) may = absurd (cc)
 stands-by_name name (InInline label content ∷ outer) may = may
 stands-by_name name (InVars content ∷ outer) may = may

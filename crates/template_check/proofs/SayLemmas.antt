@@ -35,7 +35,7 @@ says-half halves opened token state before named ends parts short =
 pub says-ending : (frame : Frame) (opened : Opened) (token : Token) (state : State) (before : List Token) → child_of frame ≡ None → opened.name ≡ name_of frame → Ends opened frame token state (open_behind before)
     → has_part element.Attempt 0 before ≡ has element.Attempt frame → Says (ending opened before) token state (open_behind before)
 unfolding child_of
-says-ending (InInclude src alt onward) opened token state before none named ends parts = absurd (cc)
+says-ending (InInclude include) opened token state before none named ends parts = absurd (cc)
 says-ending InComment opened token state before none named ends parts = absurd (cc)
 says-ending (InInline label content) opened token state before none named ends parts = absurd (cc)
 says-ending (InVars content) opened token state before none named ends parts = absurd (cc)
@@ -104,7 +104,7 @@ may-try _ halves stands once = absurd (cc)
 
 pub may-stand : (name : ElementName) (frames : List Frame) → StandsIn name frames → (is_single name && has_at name (slice_get frames 0)) ≡ false → may_stand name frames ≡ true
 may-stand name [] stands once = stands
-may-stand name (InInclude src alt onward ∷ outer) stands once = absurd (cc)
+may-stand name (InInclude include ∷ outer) stands once = absurd (cc)
 may-stand name (InComment ∷ outer) stands once = absurd (cc)
 may-stand name (InInline label content ∷ outer) stands once = stands
 may-stand name (InVars content ∷ outer) stands once = stands

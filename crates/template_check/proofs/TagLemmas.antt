@@ -49,7 +49,7 @@ fails tag state room may stuck = by_frame (opened_by tag.name tag.attributes) re
 -- only a choose and a try may lack what they need at their end
 ends-always : (frame : Frame) → child_of frame ≡ None → (name_of frame ≡ element.Choose) ⊎ (name_of frame ≡ element.Try)
 unfolding child_of
-ends-always (InInclude src alt onward) none = absurd (cc)
+ends-always (InInclude include) none = absurd (cc)
 ends-always InComment none = absurd (cc)
 ends-always (InInline label content) none = absurd (cc)
 ends-always (InVars content) none = absurd (cc)
@@ -69,7 +69,7 @@ no-end tag name frame e opens none = elim (ends-always frame none) [
 
 no-remove : (frames : List Frame) → StandsIn element.Remove frames → ⊥
 no-remove [] stands = absurd (cc)
-no-remove (InInclude src alt onward ∷ outer) stands = absurd (cc)
+no-remove (InInclude include ∷ outer) stands = absurd (cc)
 no-remove (InComment ∷ outer) stands = absurd (cc)
 no-remove (InInline label content ∷ outer) stands = absurd (cc)
 no-remove (InVars content ∷ outer) stands = absurd (cc)
