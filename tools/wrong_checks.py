@@ -11,9 +11,9 @@ from wrong_edits import BadEdit, goals_told, packed, read_edit, text_of, with_co
 EDITS = "wrong-bodies"
 # What a check of a crate reads of it.
 PARTS = ("src", "specs", "proofs")
-# What rt says where the kept work of a library is of another text.
+# What rt says if the kept work of a library is of another text.
 STALE = re.compile(r"module .Rattle-(\w+)-.*Run the lower steps again")
-# What the prover says of a name or a text that it can't read, where an edit that only makes a statement false reads well.
+# What the prover says about a name or a text that it can't read; an edit that only makes a statement false is read.
 UNREADABLE = re.compile(r"is not in scope|has no field|is no name|operand is missing|expected the end|cannot continue")
 
 
@@ -141,7 +141,7 @@ class Bench:
         for part in PARTS:
             if os.path.isdir(f"{crate.folder}/{part}"):
                 shutil.copytree(f"{crate.folder}/{part}", f"{self.folder}/{part}")
-        # A library that this list doesn't name is none of a repository, so that nothing is built.
+        # A library that this list doesn't name isn't one of the repository, so nothing is built.
         with open(f"{room}/crates.txt", "w", encoding="utf-8") as it:
             it.write(f"{' '.join(crate.words)}: {' '.join(crate.of_kit)}\n")
         given = [word for it in libraries if it.name in crate.uses for word in ("--extern", f"{it.name}={it.library}")]
@@ -202,7 +202,7 @@ class Bench:
             return edit, None, f"BAD EDIT: it doesn't reach the prover: {first[:200]}"
         at = next(((path, goal) for path, goal in told if path in notices), None)
         if at:
-            # A copy of a function is told by the function's own name, since it depends on what else is judged whether there is one.
+            # A copy of a function is reported under the function's own name, since what else is judged decides if there is one.
             path = at[0] if at[0] in edit.notices else edit.copied.path
             return edit, f"{path} ({at[1]})", None
         elsewhere = sorted({path for path, _ in told if path})

@@ -3,7 +3,7 @@ import os
 import re
 from dataclasses import dataclass
 
-# Where a proof file names what an edit took away, that tells of the proof and not of the contract.
+# If a proof file names what an edit took away, that says something about the proof and not about the contract.
 OF_NAMES = re.compile(r"has no field|is not in scope|has no `|was not admitted|is no name")
 
 

@@ -16,11 +16,11 @@ from dataclasses import dataclass, field
 from wrong_checks import EDITS, edits_of
 from wrong_edits import text_of
 
-# The files of the judge by which a verdict comes about; the others choose what is judged, and when.
+# The files of the judge on which a verdict depends; the others choose what is judged, and when.
 JUDGE = ("wrong_checks.py", "wrong_edits.py")
-# In how many turns each crate is judged again, whatever is kept of it.
+# In how many turns each crate is judged again, whatever is kept of its verdicts.
 TURNS = 8
-# How long an edit is likely to take where nobody has measured it.
+# How long an edit is likely to take if nobody has measured it.
 SECONDS_OF_AN_EDIT = 15
 
 
@@ -158,7 +158,7 @@ class Kept:
         now = {name: it for name, it in (kept | found).items() if it[1]}
         if self.stands and now == self.verdicts.of_edits and not self.wrong:
             return
-        # Where only some were judged the others have their seconds.
+        # If only some were judged, the others keep their seconds.
         before = self.verdicts.seconds if len(judged) < len(self.edits) else 0
         Verdicts(self.rests_on, round(before + seconds), now).write(self.path)
 

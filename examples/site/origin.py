@@ -27,7 +27,7 @@ SITE = {
     "/": ("front.html", HTML, 'max-age=2, content="ESI/1.0"'),
     "/story": ("story.html", HTML, 'max-age=60, content="ESI/1.0"'),
     "/headlines": ("headlines.html", HTML, 'max-age=10, content="ESI/1.0"'),
-    # Kept for 5 seconds, and for 60 more where this origin fails.
+    # Kept for 5 seconds, and for 60 more if this origin fails.
     "/weather": ("weather.html", HTML, "max-age=5+60"),
     "/own-advert": ("own-advert.html", HTML, "max-age=300"),
     "/tide": ("tide.txt", "text/plain", "no-store"),
@@ -123,7 +123,7 @@ class Origin(http.server.ThreadingHTTPServer):
         super().__init__(("127.0.0.1", port), Handler)
 
     def handle_error(self, request, client_address):
-        # A client that is gone is no fault of the origin.
+        # A client that has gone away isn't a fault of the origin.
         pass
 
 

@@ -12,9 +12,9 @@ sys.path.insert(0, os.path.join(HERE, "..", "..", "examples", "site"))
 import origin as site_origin  # noqa: E402
 
 BUILDS = os.path.join(HERE, "..", "..", "esi_edge")
-# What that builds. The script looks for newer sources at each start, which takes longer than the start.
+# What that builds. The script looks for newer sources at each start, which takes longer than the start itself.
 PROGRAM = os.path.join(HERE, "..", "..", "crates", "edge_main", "out", "edge_main")
-# So long may a client of these tests wait for anything: it only bounds a run that has failed.
+# How long a client of these tests waits for anything: it only bounds a run that has failed.
 PATIENCE = 20
 TEMPLATE = 'content="ESI/1.0"'
 
@@ -115,7 +115,7 @@ class Wires:
                 while True:
                     self.sent += connection.send(text[1])
             except OSError:
-                # An edge that has heard enough hangs up.
+                # An edge that has read enough hangs up.
                 pass
 
 

@@ -36,7 +36,7 @@ def no_more_is_read_than_a_body_may_have():
             begun = time.monotonic()
             same("without an end", (200, b"none"), told(edge))
             same("and soon", True, time.monotonic() - begun < 5)
-        # What goes on into the sockets' buffers isn't read.
+        # What is still sent into the sockets' buffers isn't read.
         same("bytes that were sent (%d)" % origin.sent, True, origin.sent < 64 * MOST)
 
 

@@ -38,7 +38,7 @@ def of_case(origin, target, fields, options):
     return subprocess.run(words, executable=PROGRAM, input=b"".join(text), stdout=subprocess.PIPE, check=True).stdout
 
 
-# A target, the fields of a request, and the same as lines of a case text.
+# A target, the fields of a request, and the same fields as lines of a case text.
 REQUESTS = (
     ("/", "", ""),
     ("/", "Cookie: a=1; name=Ann\r\n", "cookie a=1; name=Ann\n"),

@@ -97,7 +97,7 @@ def pages_share_what_is_kept():
     include = "<esi:include src='%s'/>"
     stored = {"/p": esi + "P" + include % "/x" + include % "/y" + include % "/z", "/x": plain + "1", "/y": esi + "2" + include % "/x", "/z": plain + "3"}
     tried = esi + "<esi:try><esi:attempt>%s</esi:attempt><esi:except>%s</esi:except></esi:try>" % (include % "/x", include % "/z")
-    # Whether an except is fetched that isn't needed is left to the workers.
+    # Whether an except that isn't needed is fetched is left to the workers.
     rows = ((stored, b"P1213", 4), ({"/p": tried, "/x": plain + "1", "/z": plain + "9"}, b"1", None))
     for workers in (1, 2, 16):
         for texts, wanted, fetches in rows:

@@ -10,15 +10,15 @@ use Rattle.answer_board.specs.Sound.{IsBoard}
 abbrev pub BoardLaw : Type 0
 BoardLaw = (history : History) (board : State) → Run history board → Keeps history × (urls board.slots ≡ opened_in history) × ((number : ℕ) → answer_at board.slots number ≡ filled_in history number) × (log_of board ≡ log_in history)
 
--- Receipts of another board: one that is taken fills the slot of its very number and URL.
+-- Receipts of another board: one that is accepted fills the slot with its own number and URL.
 abbrev pub StrangersStayOut : Type 0
 StrangersStayOut = (old new : State) (receipt : Receipt) → Step old (TookReceipt receipt) new → (slice_get (urls old.slots) receipt.number ≡ Some receipt.answer.url) × (answer_at new.slots receipt.number ≡ Some receipt.answer)
 
--- a slot of this URL and depth has this number
+-- a slot with this URL and depth has this number
 abbrev pub HasSlot : State → ℕ → List ℕ → ℕ → Type 0
 HasSlot board number url depth = (slot : Slot) × (slice_get board.slots number ≡ Some slot) × (slot.url ≡ url) × (slot.depth ≡ depth)
 
--- what a board tells, it tells after one call more
+-- what a board reports, it still reports after one more call
 pub record Stays (old new : State) : Type 0 where
   -- a URL keeps its number
   pub numbers : (url : List ℕ) (number : ℕ) → number_of old.slots url ≡ Some number → number_of new.slots url ≡ Some number
@@ -30,13 +30,13 @@ pub record Stays (old new : State) : Type 0 where
 abbrev pub SlotsStay : Type 0
 SlotsStay = (old new : State) (event : Event) → Step old event new → Stays old new
 
--- the log, taken for a table
+-- the log, as a table
 pub record IsLookedUp (board : State) : Type 0 where
   -- no URL is logged twice
   pub once : IsTable (log_of board)
-  -- what the log answers of a URL is what the slot of that URL is filled with
+  -- what the log answers for a URL is what the slot of that URL is filled with
   pub answers : (url : List ℕ) → answer_of (log_of board) url ≡ option_and_then (answer_at board.slots) (number_of board.slots url)
-  -- a receipt that is taken is of a URL that isn't logged
+  -- a receipt that is accepted is for a URL that isn't logged
   pub fresh : (receipt : Receipt) → fill_fault board.slots receipt ≡ None → answer_of (log_of board) receipt.answer.url ≡ None
 
 abbrev pub LogIsLookedUp : Type 0

@@ -10,7 +10,7 @@ use std::collections::BTreeMap;
 use std::marker::Model;
 use thiserror::Error;
 
-/// Why a board doesn't take a receipt.
+/// Why a board refuses a receipt.
 #[derive(Clone, Copy, Debug, Drop, PartialEq, Eq, Error)]
 pub enum FillFault {
     /// There is no slot of that number with that URL.
@@ -19,12 +19,12 @@ pub enum FillFault {
     /// Nobody has claimed the slot.
     #[error("nobody has claimed the slot: claim it first")]
     NotClaimed,
-    /// The slot has its answer.
+    /// The slot already has its answer.
     #[error("the slot has its answer: give the receipt up")]
     Filled,
 }
 
-/// Slots by number, each a URL that is wanted.
+/// Slots by number, each for a URL that is wanted.
 ///
 /// ```text
 ///  open --> unclaimed --claim--> claimed --fill--> filled
@@ -37,7 +37,7 @@ pub struct Board {
     slots: Vec<Slot>,
     // The number of each URL's slot.
     numbers: BTreeMap<PageUrl, usize>,
-    // Has room for the number of each slot.
+    // Has room for the numbers of all slots.
     filled: Vec<usize>,
     // All slots before this one are claimed, and no others are.
     next: usize,
@@ -61,7 +61,7 @@ impl Board {
     ghost use Rattle.answer_board.specs.Board.{empty, number_of, with_slot, Opens, Claims, fill_fault, Fills, answer_at, KeepsFilled, log_of};
     ghost use Rattle.answer_board.specs.Sound.{IsBoard};
 
-    /// A board of no slots. Takes no memory.
+    /// A board without slots. Takes no memory.
     pub fn new(alloc: Global) -> Board
         ensures { result ≡ empty }
     {
@@ -73,17 +73,17 @@ impl Board {
         }
     }
 
-    // Tells what holds of the board.
+    // States the board's invariant.
     fn sound(&self)
         ensures { IsBoard self.now }
     {
         let _ = &self.slots;
     }
 
-    /// Opens a slot for a URL, and answers its number: one more than the last slot's, or that of
-    /// the URL's own slot where it has one, which then stays as it is.
+    /// Opens a slot for a URL and returns its number: one more than the last slot's, or that of
+    /// the URL's own slot if it has one, which then stays as it is.
     ///
-    /// Takes memory only for a new slot. `NoMemory` where a growth is refused; nothing changes
+    /// Takes memory only for a new slot. `NoMemory` if an allocation fails; nothing changes
     /// then.
     ///
     /// Our profile.
@@ -103,7 +103,7 @@ impl Board {
         opened
     }
 
-    // Opens a slot for a URL that has none. Nothing is changed before all growths are made.
+    // Opens a slot for a URL that has none. Nothing changes before all allocations have succeeded.
     fn add(&mut self, url: &PageUrl, depth: u8) -> Result<usize, NoMemory>
         requires { number_of self.old.slots url.now ≡ None }
         ensures number { IfOk result (λ number. number ≡ length self.old.slots) }
@@ -120,8 +120,8 @@ impl Board {
         Ok(number)
     }
 
-    /// Claims the first unclaimed slot, and gives its ticket; none where each is claimed. Takes no
-    /// memory, and no longer the more slots are claimed.
+    /// Claims the first unclaimed slot and returns its ticket; `None` if all are claimed. Takes no
+    /// memory, and no more time the more slots are claimed.
     ///
     /// Our profile.
     pub fn claim(&mut self) -> Option<Ticket>
@@ -148,10 +148,10 @@ impl Board {
         Some(Ticket::new(number, url))
     }
 
-    /// Fills the slot of a receipt's number, and answers that number. Takes no memory.
+    /// Fills the slot with the receipt's number and returns that number. Takes no memory.
     ///
-    /// `Stranger` where no slot of that number has the answer's URL, else `NotClaimed` where
-    /// nobody has claimed the slot, else `Filled` where it has its answer. A refusal hands the
+    /// `Stranger` if no slot has that number and the answer's URL, else `NotClaimed` if
+    /// nobody has claimed the slot, else `Filled` if it has its answer. A refusal hands the
     /// receipt back and changes nothing.
     ///
     /// Our profile.
@@ -170,7 +170,7 @@ impl Board {
         filled
     }
 
-    // Why the board doesn't take a receipt.
+    // Why the board refuses a receipt.
     fn fault(&self, receipt: &Receipt) -> Option<FillFault>
         ensures { result ≡ fill_fault self.now.slots receipt.now }
     {
@@ -193,7 +193,7 @@ impl Board {
         number
     }
 
-    /// The number of the slot of a URL; none where the URL has no slot. It costs one look-up in a
+    /// The number of a URL's slot; `None` if the URL has no slot. It costs one look-up in a
     /// map. Takes no memory.
     ///
     /// Our profile.
@@ -203,7 +203,7 @@ impl Board {
         self.numbers.get(url).copied()
     }
 
-    /// Lends what the slot of a URL is filled with. Takes no memory.
+    /// Lends what the slot of a URL is filled with, if it is. Takes no memory.
     ///
     /// Our profile.
     pub fn get(&self, url: &PageUrl) -> Option<&Prepared>
@@ -215,7 +215,7 @@ impl Board {
         }
     }
 
-    /// Lends what the slot of a number is filled with. Takes no memory.
+    /// Lends what the slot with a number is filled with, if it is. Takes no memory.
     ///
     /// Our profile.
     pub fn prepared(&self, number: usize) -> Option<&Prepared>
@@ -227,7 +227,7 @@ impl Board {
         }
     }
 
-    /// The depth of the slot of a number. Takes no memory.
+    /// The depth of the slot with a number. Takes no memory.
     ///
     /// Our profile.
     pub fn depth(&self, number: usize) -> Option<u8>
@@ -248,7 +248,7 @@ impl Board {
         self.slots.len()
     }
 
-    /// The numbers of the filled slots, in order of filling: each of them once. Takes no memory.
+    /// The numbers of the filled slots, in order of filling, each once. Takes no memory.
     ///
     /// Our profile.
     pub fn filled(&self) -> &[usize]

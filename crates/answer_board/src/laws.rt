@@ -1,20 +1,20 @@
-//! What holds of every list of calls of a board: each is the contract of a function that does
+//! What holds of every list of calls of a board. Each law is the contract of a function that does
 //! nothing.
 
 ghost use Rattle.answer_board.specs.Laws.{BoardLaw, StrangersStayOut, SlotsStay, LogIsLookedUp};
 
-/// Over every list of calls of a board that was new, told from the calls and their answers alone:
+/// Over every list of calls of a new board, in terms of the calls and their answers alone:
 /// URLs are numbered in order of their first opening; tickets are given for these numbers in
-/// order, so a slot gives one, which names its URL; a receipt is taken once, for a number whose
-/// ticket was given, and names the URL of that number; a slot has the answer of that receipt ever
-/// after; the log has the answers of the receipts in order. Takes no memory.
+/// order, so a slot gives one, which names its URL; a receipt is accepted once, for a number whose
+/// ticket was given, and names the URL of that number; a slot keeps the answer of that receipt from
+/// then on; the log has the answers of the receipts in order. Takes no memory.
 ///
 /// Our profile.
 pub fn every_run_keeps_the_law()
     ensures { BoardLaw }
 {}
 
-/// A receipt, whichever board its ticket was of, is only ever taken for the slot of its very
+/// A receipt, whichever board its ticket came from, is accepted only for the slot with its own
 /// number and URL. Takes no memory.
 ///
 /// Our profile.
@@ -30,8 +30,8 @@ pub fn slots_stay()
     ensures { SlotsStay }
 {}
 
-/// The log is a table of the answers that are in: no URL is logged twice, what the log answers of a
-/// URL is what the URL's slot is filled with, and a receipt that is taken is of a URL that isn't
+/// The log is a table of the answers that are in: no URL is logged twice, what the log answers for a
+/// URL is what the URL's slot is filled with, and a receipt that is accepted is for a URL that isn't
 /// logged. Takes no memory.
 ///
 /// Our profile.

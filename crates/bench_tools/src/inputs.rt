@@ -10,7 +10,7 @@ use std::sync::Arc;
 pub const CHOOSE: &str =
     "<esi:choose><esi:when test=\"$(HTTP_COOKIE{g})=='1'\">Y</esi:when><esi:otherwise>N</esi:otherwise></esi:choose>";
 
-/// The front, and behind it the unit again and again, cut off at this length.
+/// The front, then the unit again and again, cut off at this length.
 pub fn repeated_behind(
     alloc: Global,
     front: &[u8],
@@ -53,7 +53,7 @@ pub fn page_of_includes(alloc: Global, len: usize, includes: usize) -> Result<Ve
     Ok(out)
 }
 
-/// The URL of a text, which has one.
+/// The URL of a text that is one.
 pub fn url(alloc: Global, text: &[u8]) -> io::Result<PageUrl> {
     match or_io_error(PageUrl::parse(alloc, text))? {
         Some(url) => Ok(url),
@@ -61,14 +61,14 @@ pub fn url(alloc: Global, text: &[u8]) -> io::Result<PageUrl> {
     }
 }
 
-/// The URL of the fragment of a number.
+/// The URL of the fragment with a number.
 pub fn fragment_url(alloc: Global, number: usize) -> io::Result<PageUrl> {
     let mut text = String::new(alloc);
     write!(text, "http://a.test/fragments/{number}")?;
     url(alloc, text.as_bytes())
 }
 
-/// The answer of a URL with this body, which is within the limits.
+/// The answer of a URL with this body, which must be within the limits.
 pub fn answer(
     alloc: Global,
     url: PageUrl,
@@ -81,7 +81,7 @@ pub fn answer(
     }
 }
 
-/// Want of memory as an error of input and output, as which a benchmark ends.
+/// Out of memory as an I/O error, with which a benchmark ends.
 pub fn or_io_error<T>(made: Result<T, NoMemory>) -> io::Result<T> {
     match made {
         Ok(value) => Ok(value),
@@ -89,7 +89,7 @@ pub fn or_io_error<T>(made: Result<T, NoMemory>) -> io::Result<T> {
     }
 }
 
-/// A text that can't be read as an error of input and output; what was read is dropped.
+/// A text that can't be read as an I/O error; what was read is dropped.
 pub fn or_input_error<T: Drop, E: Drop>(read: Result<T, E>) -> io::Result<()> {
     match read {
         Ok(_) => Ok(()),

@@ -1,4 +1,4 @@
-//! What the benchmarks share: times, ratios of them, and what is measured.
+//! What the benchmarks share: times and their ratios, and the texts that are measured.
 #![tactic(auto)]
 
 pub mod inputs;

@@ -11,14 +11,14 @@ pub struct Least {
 }
 
 impl Least {
-    /// Of no time yet.
+    /// No time yet.
     pub fn new() -> Least {
         Least {
             time: Duration::MAX,
         }
     }
 
-    /// Does the work, notes the time that it took, and gives what it gave.
+    /// Does the work, notes the time that it took, and returns its result.
     pub fn time<R: Clock, T: Drop, F: FnOnce() -> T>(&mut self, rt: &R, work: F) -> io::Result<T>
         requires { F.IsAlwaysCallable work }
     {
@@ -28,7 +28,7 @@ impl Least {
         Ok(given)
     }
 
-    /// Notes how long it is since some work was begun.
+    /// Notes the time since some work was begun.
     pub fn note<R: Clock>(&mut self, rt: &R, begun: Instant) -> io::Result<()> {
         self.time = self.time.min(begun.elapsed(rt)?);
         Ok(())
@@ -40,18 +40,18 @@ impl Least {
     }
 }
 
-/// How many times as long the first took.
+/// How many times as long as the second the first took.
 pub fn ratio(long: Duration, short: Duration) -> f64 {
     long.as_secs_f64() / short.as_secs_f64()
 }
 
-/// How many nanoseconds each of so many bytes or steps took.
+/// How many nanoseconds each of this many bytes or steps took.
 pub fn nanoseconds_each(took: Duration, count: usize) -> f64 {
     let count = u32::try_from(count).unwrap_or(u32::MAX);
     took.as_secs_f64() * 1e9 / f64::from(count)
 }
 
-/// Prints how long so many bytes or steps took, beside something else.
+/// Prints how long this many bytes or steps took, and how that compares with something else.
 pub fn print(
     rt: &HostRuntime,
     name: &str,

@@ -1,4 +1,4 @@
-//! Boards: a slot of many costs no more than one of few.
+//! Boards: with many slots, each costs no more than with few.
 
 use answer_board::{Board, Receipt};
 use bench_tools::inputs::{fragment_url, or_io_error};
@@ -10,16 +10,16 @@ use std::io;
 use std::sync::Arc;
 use std::time::{Duration, Instant};
 
-// As many slots as a page of the most legs may have, each with its alternate, and a tenth of them.
+// As many slots as a page with the most legs may have, each with its alternate; and a tenth of them.
 const MANY: usize = 1257;
 
 const FEW: usize = 126;
-// How many boards of few slots have about as many as one of many.
+// How many boards of few slots together have about as many as one of many.
 const ROUNDS: usize = 10;
 
 const TURNS: u32 = 40;
 
-/// Prints how long a slot takes to be opened, claimed and filled, on a board of many slots beside
+/// Prints how long a slot takes to be opened, claimed and filled, on a board of many slots and on
 /// one of few.
 pub fn run(rt: &HostRuntime) -> io::Result<()> {
     let answers = answers(rt.alloc(), MANY)?;
@@ -34,7 +34,7 @@ pub fn run(rt: &HostRuntime) -> io::Result<()> {
     )
 }
 
-// Failed answers of so many URLs, made ready.
+// Failed answers of this many URLs, made ready.
 fn answers(alloc: Global, count: usize) -> io::Result<Vec<Prepared>> {
     let mut answers = Vec::with_capacity(alloc, count)?;
     for i in 0..count {
@@ -48,7 +48,7 @@ fn failed(alloc: Global, number: usize) -> io::Result<Prepared> {
     or_io_error(Prepared::of(alloc, Arc::new(alloc, answer)?))
 }
 
-// The quickest of several turns of so many boards.
+// The quickest of several turns of this many boards.
 fn measured(rt: &HostRuntime, answers: &[Prepared], rounds: usize) -> io::Result<Duration> {
     let mut least = Least::new();
     for _ in 0..TURNS {
@@ -66,7 +66,7 @@ fn boards(alloc: Global, answers: &[Prepared], rounds: usize) -> io::Result<()> 
     Ok(())
 }
 
-// A board on which each answer has a slot; all are claimed and filled, and the board is dropped.
+// A board with a slot for each answer; all are claimed and filled, and the board is dropped.
 fn board(alloc: Global, answers: &[Prepared]) -> io::Result<()> {
     let mut board = Board::new(alloc);
     for answer in answers.iter() {

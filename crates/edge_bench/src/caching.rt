@@ -1,4 +1,4 @@
-//! The cache: the calls of a shard beside `lru` alone, and flights beside fewer flights.
+//! The cache: the calls of a shard compared with `lru` alone, and flights with fewer flights.
 
 use bench_tools::inputs;
 use bench_tools::inputs::{fragment_url, or_io_error};
@@ -12,11 +12,11 @@ use std::num::NonZeroUsize;
 use std::sync::Arc;
 use std::time::{Duration, Instant};
 
-// How many answers there are to ask for: twice as many as a shard stores.
+// How many answers may be asked for: twice as many as a shard stores.
 const URLS: usize = 2 * MAX_CAPACITY;
 // How many are asked for in a turn.
 const STEPS: usize = 100_000;
-// How many flights fly at a time where there are few.
+// How many flights are under way at a time where there are few.
 const FEW: usize = 128;
 // How many times each is measured; the quickest counts.
 const TURNS: usize = 20;
@@ -42,7 +42,7 @@ pub fn run(rt: &HostRuntime) -> io::Result<()> {
     )
 }
 
-// Answers of so many URLs.
+// Answers of this many URLs.
 fn answers(alloc: Global, count: usize) -> io::Result<Vec<Arc<Answer>>> {
     let mut answers = Vec::with_capacity(alloc, count)?;
     for i in 0..count {
@@ -51,7 +51,7 @@ fn answers(alloc: Global, count: usize) -> io::Result<Vec<Arc<Answer>>> {
     Ok(answers)
 }
 
-// The answer of the URL of a number.
+// The answer of the URL with a number.
 fn answer(alloc: Global, number: usize) -> io::Result<Arc<Answer>> {
     let control = Control {
         max_age: Some(FRESH),
@@ -62,7 +62,7 @@ fn answer(alloc: Global, number: usize) -> io::Result<Arc<Answer>> {
     inputs::answer(alloc, url, control, body)
 }
 
-// What stores answers by their URLs.
+// A store of answers by their URLs.
 trait Store: Drop {
     // Whether the answer is stored; it is fetched and stored where it isn't.
     fn ask(&mut self, answer: &Arc<Answer>) -> io::Result<bool>;
@@ -99,8 +99,8 @@ struct Turns {
     hits: usize,
 }
 
-// Prints the times of a shard and of `lru` on the same answers in the same order, in which each
-// of so many is one that isn't stored.
+// Prints the times of a shard and of `lru` for the same answers in the same order, of which one in
+// `every` isn't stored.
 fn beside_lru(
     rt: &HostRuntime,
     name: &str,
@@ -177,7 +177,7 @@ fn hits<S: Store>(store: &mut S, answers: &[Arc<Answer>], asked: &[usize]) -> io
     Ok(hits)
 }
 
-// Which answers are asked for: stored ones in scattered order, and each of so many times one that
+// Which answers are asked for: stored ones in scattered order, and one in `every` that
 // isn't stored.
 fn asked(alloc: Global, every: usize) -> io::Result<Vec<usize>> {
     let mut stored = first_stored(alloc)?;
@@ -200,7 +200,7 @@ fn first_stored(alloc: Global) -> io::Result<LruCache<usize, ()>> {
     Ok(stored)
 }
 
-// The next answer from a place on that is stored, or isn't.
+// The next answer from a place on that is stored, or that isn't.
 fn next(stored: &LruCache<usize, ()>, from: usize, is_stored: bool) -> usize {
     let mut at = from % URLS;
     for _ in 0..URLS {
@@ -216,7 +216,7 @@ fn capacity() -> NonZeroUsize {
     NonZeroUsize::new(MAX_CAPACITY).unwrap_or(NonZeroUsize::MIN)
 }
 
-// How long the steps take in which so many flights at a time leave, are joined, land and are picked
+// How long the steps take in which this many flights at a time leave, are joined, land and are picked
 // up. A turn has the same number of steps for any such number.
 fn flights(rt: &HostRuntime, answers: &[Arc<Answer>], count: usize) -> io::Result<Duration> {
     let answers = answers.get(..count).unwrap_or(answers);
@@ -245,7 +245,7 @@ fn flown(
     Ok((least.get(), picked))
 }
 
-// So many rounds, each when what was stored in the one before has expired.
+// This many rounds, each after what the one before stored has expired.
 fn several_rounds(
     alloc: Global,
     shard: &mut Shard,
@@ -261,14 +261,14 @@ fn several_rounds(
     Ok(picked)
 }
 
-// Flights for the answers leave, are joined, land and are picked up; the pick-ups are counted.
+// Flights for the answers leave, are joined, land and are picked up; returns the number of pick-ups.
 fn round(alloc: Global, shard: &mut Shard, answers: &[Arc<Answer>], now: u64) -> io::Result<usize> {
     let joined = fly(alloc, shard, answers, answers, now)?;
     Ok(pick(shard, joined.as_slice()))
 }
 
-// Flights for the answers that are left leave. Once they all fly they are joined, and then they land,
-// the last first. Gives the numbers of those that were joined.
+// Flights for the remaining answers leave. Once all are under way they are joined; then they land,
+// the last first. Returns the numbers of those that were joined.
 fn fly(
     alloc: Global,
     shard: &mut Shard,

@@ -1,4 +1,4 @@
-//! `Surrogate-Control`: long values of one unit again and again cost no more a byte than short ones.
+//! `Surrogate-Control`: long values of one repeated unit cost no more per byte than short ones.
 
 use bench_tools::inputs::repeated;
 use bench_tools::timing::{Least, print, print_count};
@@ -32,7 +32,7 @@ const UNITS: [(&str, &str); 9] = [
     ("headers: open quote", "x\", "),
 ];
 
-/// Prints for each unit the time of the longer value beside the shorter: 4 times is linear, 16 quadratic.
+/// Prints for each unit the ratio of the longer value's time to the shorter's: 4 is linear, 16 quadratic.
 pub fn run(rt: &HostRuntime) -> io::Result<()> {
     for (name, unit) in UNITS {
         let short = read(rt, unit, SMALL)?;
@@ -42,7 +42,7 @@ pub fn run(rt: &HostRuntime) -> io::Result<()> {
     Ok(())
 }
 
-// The least time in which a value of this unit and length is read.
+// The least time in which a value of this unit and this length is read.
 fn read(rt: &HostRuntime, unit: &str, len: usize) -> io::Result<Duration> {
     let value = repeated(rt.alloc(), unit.as_bytes(), len)?;
     read_value(rt, value.as_slice())
@@ -54,7 +54,7 @@ fn read_value(rt: &HostRuntime, value: &[u8]) -> io::Result<Duration> {
         let begun = Instant::now(rt)?;
         let found = control(value, b"edge1");
         least.note(rt, begun)?;
-        // Never so: the answer is looked at, so that no turn is left out.
+        // Never the case: the answer is looked at so that no turn is optimised away.
         if found.extension == 7 {
             print_count(rt, "headers: an extension", 7)?;
         }

@@ -1,4 +1,4 @@
-//! Plans, beside the template alone of the same text.
+//! Plans, compared with only reading the template of the same text.
 
 use crate::templates::read;
 use bench_tools::inputs::{answer, or_input_error, or_io_error, page_of_includes, url};
@@ -21,7 +21,7 @@ const TURNS: u32 = 15;
 // How many plans of one body are held.
 const HELD: usize = 2000;
 
-/// Prints how long an answer is made ready, and a template compiled, as ratios to reading the
+/// Prints how long making an answer ready and compiling a template take, as ratios to reading the
 /// template.
 pub fn run(rt: &HostRuntime) -> io::Result<()> {
     prepared_told(rt, &page(rt.alloc())?)?;
@@ -41,7 +41,7 @@ fn page(alloc: Global) -> io::Result<SharedBytes> {
     or_io_error(SharedBytes::of(page))
 }
 
-// An answer with this body, which is processed.
+// An answer with this body, which is to be processed.
 fn processed(alloc: Global, body: &SharedBytes) -> io::Result<Arc<Answer>> {
     let control = Control {
         esi: true,

@@ -1,4 +1,4 @@
-//! Speed of references: `parts` and `substitute` beside a plain copy of the same bytes.
+//! Speed of references: `parts` and `substitute` compared with a plain copy of the same bytes.
 
 use bench_tools::inputs::{or_input_error, or_io_error, repeated};
 use bench_tools::timing::{Least, print};
@@ -10,10 +10,10 @@ use std::time::{Duration, Instant};
 
 /// How long the measured texts are.
 const LEN: usize = 262_144;
-/// How often each step is run; the quickest run counts.
+/// How many times each step is run; the quickest run counts.
 const TURNS: u32 = 200;
 
-// What each opener of a reference is.
+// What the openers of a reference are.
 const OPENERS: [&str; 5] = ["$(", "$(A{", "$(A|'", "$(A|", "$"];
 
 // The times that others are compared with: of a copy, and of reading plain text.
@@ -38,7 +38,7 @@ fn all_told(rt: &HostRuntime, request: &Request) -> io::Result<()> {
     page_told(rt, request, base)
 }
 
-// Plain text, with which the others are compared.
+// The times of plain text, with which the others are compared.
 fn plain_told(rt: &HostRuntime, request: &Request) -> io::Result<Base> {
     let plain = repeated(rt.alloc(), b"x", LEN)?;
     let copy = copied(rt, plain.as_slice())?;
@@ -47,7 +47,7 @@ fn plain_told(rt: &HostRuntime, request: &Request) -> io::Result<Base> {
     Ok(Base { copy, plain })
 }
 
-// Nothing but openers; and the same, where the last byte may end them all.
+// Nothing but openers, and the same text with a last byte that may end them all.
 fn openers_told(rt: &HostRuntime, request: &Request, unit: &str, base: Base) -> io::Result<()> {
     let mut text = repeated(rt.alloc(), unit.as_bytes(), LEN)?;
     told(rt, request, unit, text.as_slice(), base)?;
@@ -64,7 +64,7 @@ fn page_told(rt: &HostRuntime, request: &Request, base: Base) -> io::Result<()> 
     Ok(())
 }
 
-// Prints the times of one text, and answers that of reading it.
+// Prints the times of one text, and returns that of reading it.
 fn told(
     rt: &HostRuntime,
     request: &Request,

@@ -1,4 +1,4 @@
-//! How fast texts are cut into tokens: in megabytes a second, and beside a text four times as long.
+//! How fast texts are cut into tokens: in megabytes a second, and against a text four times as long.
 
 use bench_tools::inputs::{page_of_includes, repeated, repeated_behind};
 use bench_tools::timing::{Least, print, print_count};
@@ -29,12 +29,12 @@ enum Text {
     Includes,
     // One tag with many attributes.
     Attributes,
-    // The same, and the last attribute has the name of the first.
+    // One tag with many attributes, of which the last has the name of the first.
     AttributesTwice,
 }
 
 impl Text {
-    // The text so many times as long as its usual length.
+    // The text, this many times as long as its usual length.
     fn made(self, alloc: Global, times: usize) -> Result<Vec<u8>, AllocError> {
         let len = PAGE.saturating_mul(times);
         let attributes = ATTRIBUTES.saturating_mul(times);
@@ -81,20 +81,20 @@ pub fn run(rt: &HostRuntime) -> io::Result<()> {
     Ok(())
 }
 
-// Prints how long a text takes that is four times as long, beside one of its kind.
+// Prints how long a text four times as long takes, compared with one of its kind.
 fn told(rt: &HostRuntime, name: &str, text: Text) -> io::Result<()> {
     let (short, _) = made_and_scanned(rt, text, 1)?;
     let (long, bytes) = made_and_scanned(rt, text, 4)?;
     print(rt, name, long, short, bytes)
 }
 
-// The least time of a text, and how many bytes it has.
+// The least time for a text, and how many bytes it has.
 fn made_and_scanned(rt: &HostRuntime, text: Text, times: usize) -> io::Result<(Duration, usize)> {
     let made = text.made(rt.alloc(), times)?;
     Ok((scanned(rt, made.as_slice())?, made.len()))
 }
 
-// Prints how long plain text takes beside a search for `<`.
+// Prints how long plain text takes, compared with a search for `<`.
 fn beside_memchr(rt: &HostRuntime, plain: &[u8]) -> io::Result<()> {
     let scanning = scanned(rt, plain)?;
     let searching = searched(rt, plain)?;
@@ -120,7 +120,7 @@ fn searched(rt: &HostRuntime, plain: &[u8]) -> io::Result<Duration> {
     Ok(least.get())
 }
 
-// The least time of several scans, also of a text that is malformed. What they give is dropped outside the
+// The least time of several scans, which may be of a malformed text. Their results are dropped outside the
 // time.
 fn scanned(rt: &HostRuntime, text: &[u8]) -> io::Result<Duration> {
     let mut least = Least::new();
@@ -132,7 +132,7 @@ fn scanned(rt: &HostRuntime, text: &[u8]) -> io::Result<Duration> {
     Ok(least.get())
 }
 
-// One tag with many attributes; the last repeats the first where that is asked.
+// One tag with many attributes; the last repeats the first if that is asked for.
 fn wide_tag(alloc: Global, attributes: usize, twice: bool) -> Result<Vec<u8>, AllocError> {
     let mut out = String::new(alloc);
     out.push_str("<esi:vars")?;

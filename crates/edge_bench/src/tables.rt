@@ -1,4 +1,4 @@
-//! Tables of answers: ten times as many answers are to cost little more than ten times as much.
+//! Tables of answers: ten times as many answers should cost little more than ten times as much.
 
 use bench_tools::inputs::{fragment_url, or_io_error};
 use bench_tools::timing::{Least, print, print_count};
@@ -14,7 +14,7 @@ const MANY: u32 = 100_000;
 
 const TURNS: u32 = 5;
 
-/// Prints how long inserting and looking up take for many answers, beside few.
+/// Prints how long inserting and looking up take for many answers, compared with few.
 pub fn run(rt: &HostRuntime) -> io::Result<()> {
     let few = measured(rt, FEW)?;
     let many = measured(rt, MANY)?;
@@ -40,7 +40,7 @@ fn measured(rt: &HostRuntime, count: u32) -> io::Result<Duration> {
     Ok(least.get())
 }
 
-// Times a table; whether it has an answer for each URL. It is dropped outside the time.
+// Times a table, and returns whether it has an answer for each URL. It is dropped outside the time.
 fn turn(
     rt: &HostRuntime,
     least: &mut Least,
@@ -53,8 +53,8 @@ fn turn(
     Ok(table.is_some())
 }
 
-// A table into which the answers were inserted, and in which each of the URLs was looked up; none
-// where one has no answer.
+// A table into which the answers were inserted and in which each of the URLs was looked up; `None`
+// if one has no answer.
 fn filled(alloc: Global, answers: Vec<Arc<Answer>>, urls: &[PageUrl]) -> Option<Table> {
     let mut table = Table::new(alloc);
     for answer in answers {
@@ -67,7 +67,7 @@ fn filled(alloc: Global, answers: Vec<Arc<Answer>>, urls: &[PageUrl]) -> Option<
     }
 }
 
-// Failed answers of so many URLs, in scattered order.
+// Failed answers of this many URLs, in scattered order.
 fn answers(alloc: Global, count: u32) -> io::Result<Vec<Arc<Answer>>> {
     let mut answers = Vec::new(alloc);
     for i in 0..count {

@@ -1,4 +1,4 @@
-//! Templates, beside the scan alone of the same text.
+//! Templates, compared with only scanning the same text.
 
 use bench_tools::inputs::{CHOOSE, or_input_error, or_io_error, page_of_includes};
 use bench_tools::timing::{Least, print};
@@ -39,7 +39,7 @@ pub fn run(rt: &HostRuntime) -> io::Result<()> {
     )
 }
 
-// Prints how long a template takes beside the scan alone.
+// Prints how long a template takes, compared with the scan alone.
 fn told(rt: &HostRuntime, name: &str, text: &[u8]) -> io::Result<()> {
     let (reading, scanning) = measured(rt, text)?;
     print(rt, name, reading, scanning, text.len())
@@ -64,7 +64,7 @@ fn scanned(rt: &HostRuntime, text: &[u8], least: &mut Least) -> io::Result<()> {
     or_input_error(tokens)
 }
 
-/// Reads the template that a text is, and notes the time.
+/// Reads the template of a text, and notes the time.
 pub fn read(rt: &HostRuntime, text: &SharedBytes, least: &mut Least) -> io::Result<()> {
     let begun = Instant::now(rt)?;
     let template = template(rt.alloc(), text);

@@ -1,4 +1,4 @@
--- What a case text says: a page's URL, a reader's request and the answers of origins.
+-- What a case text denotes: a page's URL, a reader's request and the answers of origins.
 use Rattle.std.specs.Prelude.{◌≡◌, ℕ, ◌≤◌, List, [], ◌∷◌, length, unwrap_or, Option, Some, None}
 use Rattle.edge_types.specs.declared.request.Request.{Request}
 use Rattle.edge_types.specs.Asked.{asked}
@@ -11,7 +11,7 @@ use Rattle.edge_case.specs.declared.case_text.Case.{Case}
 use Rattle.edge_case.specs.declared.case_text.TheConstants.{MAX_CASE}
 use Rattle.edge_case.specs.Document.{Heading, Entry, Failed, Got, Document, IsDocument, spelling}
 
--- what an absent line says
+-- the text of a line, empty if the line is absent
 abbrev pub value_or_empty : Option (List ℕ) → List ℕ
 value_or_empty value = unwrap_or value []
 
@@ -30,17 +30,17 @@ request_of h = record {
 abbrev pub device : List ℕ
 device = own_device
 
--- what was got, within the limits of the edge, at a URL
+-- what was fetched, within the limits of the edge, at a URL
 pub record IsGot (status : ℕ) (u : List ℕ) (content_type control : Option (List ℕ)) (body : List ℕ) (answer : Answered) : Type 0 where
   pub acceptable : IsAcceptable status (value_or_empty content_type) body
   pub says : answer ≡ got u status (value_or_empty content_type) (control_of (value_or_empty control) device) body
 
--- a written answer stands for this one
+-- a written answer denotes this one
 abbrev pub Stands : Entry → Answered → Type 0
 Stands (Failed url) answer = (asked None url ≡ Some answer.url) × (answer ≡ failed answer.url)
 Stands (Got status url content_type control body) answer = (asked None url ≡ Some answer.url) × IsGot status answer.url content_type control body answer
 
--- each written answer stands for its answer, in order
+-- each written answer denotes its answer, in order
 abbrev pub StandEach : List Entry → List Answered → Type 0
 StandEach [] [] = Unit {0}
 StandEach [] (a ∷ answers) = ⊥

@@ -19,7 +19,7 @@ pub record Heading : Type 0 where
   pub agent : Option (List ℕ)
   pub language : Option (List ℕ)
 
--- an answer as it is written: a failure, or what was got
+-- an answer as it is written: a failure, or what was fetched
 pub data Entry : Type 0 where
   Failed : (url : List ℕ) → Entry
   Got : (status : ℕ) (url : List ℕ) (content_type control : Option (List ℕ)) (body : List ℕ) → Entry
@@ -33,12 +33,12 @@ pub record Document : Type 0 where
 abbrev pub line : List ℕ → List ℕ → List ℕ → List ℕ
 line word value text = word ++ (value ++ line_feed ∷ text)
 
--- such a line where there is one
+-- such a line, if there is one
 abbrev pub field : List ℕ → Option (List ℕ) → List ℕ → List ℕ
 field word None text = text
 field word (Some value) text = line word value text
 
--- the first line of what was got: status, length and URL
+-- the first line of what was fetched: status, length and URL
 abbrev pub got_line : ℕ → ℕ → List ℕ → List ℕ
 got_line status len url = decimal status ++ space ∷ (decimal len ++ space ∷ url)
 
@@ -69,7 +69,7 @@ heading h text =
 abbrev pub spelling : Document → List ℕ
 spelling d = heading d.heading (entries d.entries (codes "end\n"))
 
--- what a line may say: any bytes but a line feed
+-- what a line may contain: any bytes but a line feed
 abbrev pub IsValue : List ℕ → Type 0
 IsValue value = All (λ b. b ≢ line_feed) value
 
@@ -89,7 +89,7 @@ abbrev pub IsEntry : Entry → Type 0
 IsEntry (Failed url) = IsValue url
 IsEntry (Got status url content_type control body) = IsValue url × IsField content_type × IsField control
 
--- each line says what a line may say
+-- each line contains only what it may
 pub record IsDocument (d : Document) : Type 0 where
   pub heading : IsHeading d.heading
   pub entries : AllByRecursion IsEntry d.entries

@@ -7,22 +7,22 @@ use Rattle.edge_case.specs.Reading.{case_of}
 use Rattle.edge_case.specs.Decimal.{WritesNumber, decimal_of}
 use Rattle.edge_case.specs.Order.{Lists, events_of}
 
--- what is read of a text is the case that it says, and what it says is read
+-- what is read from a text is the case that it spells, and each case that is spelled is read
 abbrev pub ReadsCases : Type 0
 ReadsCases = (text : List ℕ) (case : Case) → (case_of text ≡ Some case) ↔ IsCaseText text case
 
--- a text says one case at most
+-- a text spells at most one case
 abbrev pub CasesAreOne : Type 0
 CasesAreOne = (text : List ℕ) (one other : Case) → IsCaseText text one → IsCaseText text other → one ≡ other
 
--- what is read of a text is the number that it writes, where that is at most so large, and it is read
+-- what is read from a text is the number that it writes, if that is at most the limit, and each such number is read
 abbrev pub ReadsNumbers : Type 0
 ReadsNumbers = (text : List ℕ) (most n : ℕ) → (decimal_of text most ≡ Some n) ↔ (WritesNumber text n × (n ≤ most))
 
--- what is read of a text are the events that it lists, and what it lists is read
+-- what is read from a text is the list of events that it writes, and each list that is written is read
 abbrev pub ReadsOrders : Type 0
 ReadsOrders = (text : List ℕ) (events : List Event) → (events_of text ≡ Some events) ↔ Lists text events
 
--- a text lists one order at most
+-- a text lists at most one order
 abbrev pub OrdersAreOne : Type 0
 OrdersAreOne = (text : List ℕ) (one other : List Event) → Lists text one → Lists text other → one ≡ other

@@ -41,7 +41,7 @@ pub record Lists (text : List ℕ) (events : List Event) : Type 0 where
 
 -- ---- how they are read
 
--- the place that digits write
+-- the place that the digits write
 unfoldable pub place_of : List ℕ → Option ℕ
 place_of digits = if nat_le (length digits) 4 then decimal_of digits 9999 else None
 
@@ -53,7 +53,7 @@ unfoldable pub event_of : List ℕ → Option Event
 event_of [] = None
 event_of (mark ∷ digits) = if mark == byte "p" then option_map Post (place_of digits) else plain_event (mark ∷ digits)
 
--- the events so far with one more, where there is one
+-- the events so far with one more, if there is one
 abbrev pub after_item : List Event → Option Event → Option (List Event)
 after_item events event = option_map (λ e. events ++ e ∷ []) event
 

@@ -1,4 +1,4 @@
--- The printed form of what a page comes to.
+-- The printed form of a page's outcome.
 use Rattle.std.specs.Prelude.{ℕ, List, [], ◌∷◌, ◌++◌, length, decimal, codes}
 use Rattle.edge_types.specs.declared.outcome.PageFault.{PageFault}
 use Rattle.edge_types.specs.declared.outcome.PageFault.TheVariants.{PageFetch, BadTemplate, IncludeFailed, TooManyLegs}
@@ -11,7 +11,7 @@ use Rattle.edge_case.specs.declared.ending.CaseEnd.TheVariants.{PagePrinted, Fau
 abbrev pub page_line : ℕ → ℕ → List ℕ → List ℕ
 page_line status len content_type = decimal status ++ space ∷ (decimal len ++ space ∷ (content_type ++ line_feed ∷ []))
 
--- the place of a fault that has one
+-- the place of a fault, if it has one
 abbrev pub place_of : PageFault → List ℕ
 place_of PageFetch = []
 place_of (BadTemplate at) = space ∷ decimal at
@@ -27,7 +27,7 @@ abbrev pub printed : Shown → List ℕ
 printed (Page status content_type body) = page_line status (length body) content_type ++ body
 printed (Fault fault) = fault_line fault
 
--- how a run ends that printed this
+-- how a run that printed this ends
 abbrev pub end_of : Shown → CaseEnd
 end_of (Page status content_type body) = PagePrinted
 end_of (Fault fault) = FaultPrinted

@@ -43,7 +43,7 @@ abbrev pub field_from : List ℕ → Option (List ℕ) → Option (Option (List 
 field_from text None = Some (None, text)
 field_from text (Some value) = option_map some_field (around line_feed value)
 
--- the same, where the line may be absent
+-- the rest of a line that begins with a word, which may be absent, and what follows it
 unfoldable pub field_at : List ℕ → List ℕ → Option (Option (List ℕ) × List ℕ)
 field_at word text = field_from text (after_word word text)
 
@@ -72,7 +72,7 @@ is_number text = nat_lt 0 (length text) && (nat_le (length text) MAX_DIGITS && (
 unfoldable pub number_of : List ℕ → Option ℕ
 number_of text = if is_number text then Some (digits_value 10 text) else None
 
--- the status, the length and the URL of the first line of what was got
+-- the status, the length and the URL of the first line of what was fetched
 unfoldable pub got_line_of : List ℕ → Option (ℕ × ℕ × List ℕ)
 got_line_of line = do
   first ← around space line
@@ -81,7 +81,7 @@ got_line_of line = do
   len ← number_of second.0
   Some (status, len, second.1)
 
--- a body of so many bytes, and what follows the line feed after it
+-- a body of this many bytes, and what follows the line feed after it
 unfoldable pub body_at : ℕ → List ℕ → Option (List ℕ × List ℕ)
 body_at len text = if nat_lt (length text) len then None else option_map (λ rest. (take len text, rest)) (after_word (codes "\n") (drop len text))
 
@@ -91,7 +91,7 @@ failed_at text = do
   line ← line_at (codes "failed ") text
   Some (Failed line.0, line.1)
 
--- what was got, and what follows it
+-- what was fetched, and what follows it
 unfoldable pub got_at : List ℕ → Option (Entry × List ℕ)
 got_at text = do
   line ← line_at (codes "answer ") text
@@ -110,18 +110,18 @@ entry_at text = option_or (failed_at text) (got_at text)
 abbrev pub is_printable : ℕ → Bool
 is_printable b = nat_le 32 b && nat_le b 126
 
--- what the edge takes in of an answer
+-- which answers the edge accepts
 unfoldable pub is_acceptable : ℕ → List ℕ → List ℕ → Bool
 is_acceptable status content_type body =
     nat_le MIN_STATUS status && (nat_le status MAX_STATUS && (nat_le (length body) MAX_BODY
     && (nat_le (length content_type) MAX_CONTENT_TYPE && list_all is_printable content_type)))
 
--- what was got at a URL, where the edge takes it in
+-- what was fetched at a URL, if the edge accepts it
 unfoldable pub got_from : ℕ → List ℕ → List ℕ → List ℕ → List ℕ → Option Answered
 got_from status content_type control body u =
     if is_acceptable status content_type body then Some (got u status content_type (control_of control device) body) else None
 
--- the answer that a written one stands for
+-- the answer that a written one denotes
 unfoldable pub answered_by : Entry → Option Answered
 answered_by (Failed url) = do
   u ← asked None url
@@ -130,7 +130,7 @@ answered_by (Got status url content_type control body) = do
   u ← asked None url
   got_from status (value_or_empty content_type) (value_or_empty control) body u
 
--- the answers with one more, of a URL that has none
+-- the answers with one more, whose URL has none yet
 abbrev pub with_answer : List Answered → Answered → Option (List Answered)
 with_answer answers answer = if is_some (answer_of answers answer.url) then None else Some (answers ++ answer ∷ [])
 
@@ -154,7 +154,7 @@ answers_within (suc fuel) answers text = answers_after (answers_within fuel) ans
 unfoldable pub answers_at : List Answered → List ℕ → Option (List Answered)
 answers_at answers text = answers_within (suc (length text)) answers text
 
--- the case that a text of lines says
+-- the case that a text of lines spells
 unfoldable pub lines_case : List ℕ → Option Case
 lines_case text = do
   heading ← heading_at text
@@ -162,11 +162,11 @@ lines_case text = do
   table ← answers_at [] heading.1
   Some (record { url = url; request = request_of heading.0; table = table })
 
--- the case that a text says
+-- the case that a text spells
 unfoldable pub case_of : List ℕ → Option Case
 case_of text = if nat_le (length text) MAX_CASE then lines_case text else None
 
--- what the code's readers lend
+-- what the readers of the code lend
 abbrev pub lent_field : Option (Bor (List ℕ)) × Bor (List ℕ) → Option (List ℕ) × List ℕ
 lent_field field = (option_copied field.0, field.1.now)
 

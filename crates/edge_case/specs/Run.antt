@@ -9,7 +9,7 @@ use Rattle.edge_case.specs.Case.{IsCaseText}
 use Rattle.edge_case.specs.Bytes.{IsInput, AppendsPart}
 use Rattle.edge_case.specs.Printed.{printed, end_of}
 
--- what a case comes to
+-- the outcome of a case
 abbrev pub outcome_of : Case → ℕ → Shown
 outcome_of case levels = outcome case.request case.table levels case.url
 
@@ -19,18 +19,18 @@ pub record Reads (known : Option (List ℕ)) (case : Case) : Type 0 where
   pub whole : IsInput known input
   pub text : IsCaseText input case
 
--- the input, where the reader tells it, is no case text
+-- the input, if the reader reveals it, isn't a case text
 abbrev pub IsNoCase : Option (List ℕ) → Type 0
 IsNoCase known = IfSome known (λ input. (case : Case) → IsCaseText input case → ⊥)
 
--- the printed form of what the input's case comes to was written, and nothing else
+-- the printed form of the outcome of the input's case was written, and nothing else
 pub record Prints (levels : ℕ) (known before after : Option (List ℕ)) (end : CaseEnd) : Type 0 where
   pub case : Case
   pub read : Reads known case
   pub ended : end ≡ end_of (outcome_of case levels)
   pub written : Appends before after (printed (outcome_of case levels))
 
--- a first part of it was written
+-- only a first part of it was written
 pub record PrintsPart (levels : ℕ) (known before after : Option (List ℕ)) : Type 0 where
   pub case : Case
   pub read : Reads known case

@@ -11,7 +11,7 @@ is_template answer = processed answer.reply
 abbrev pub templates_in : List Answered → List Answered
 templates_in answers = filter is_template answers
 
--- the same of one answer, which may not be there
+-- the template among at most one answer, in a list
 abbrev pub template_of : Option Answered → List Answered
 template_of None = []
 template_of (Some answer) = templates_in (answer ∷ [])

@@ -14,11 +14,11 @@ use surrogate_headers::{control, own_device};
 // The line after the answers.
 const END: &[u8] = b"end\n";
 
-// What a status may be at most.
+// The largest status.
 const MAX_STATUS: u32 = 599;
 
 impl Got<'_> {
-    // The answer at a URL, where the edge takes it in.
+    // The answer at a URL, if the edge accepts it.
     fn answer_at(&self, alloc: Global, url: PageUrl) -> Result<Option<Answer>, NoMemory>
         ensures { IfOk result (λ found. found ≡ got_from self.now.status
             (value_or_empty (option_copied self.now.content_type))
@@ -35,7 +35,7 @@ impl Got<'_> {
 }
 
 impl Entry<'_> {
-    /// The answer that a written one stands for.
+    /// The answer that a written one denotes.
     #[tactic(auto, unfolding(crate::specs::Reading::answered_by))]
     pub(crate) fn answer(&self, alloc: Global) -> Result<Option<Answer>, NoMemory>
         ensures { IfOk result (λ found. found ≡ answered_by (shown_entry self.now)) }
@@ -53,8 +53,8 @@ impl Entry<'_> {
     }
 }
 
-// Adds the answer that a written one stands for. False where it stands for none, or where its URL
-// has an answer.
+// Adds the answer that a written one denotes. False if it denotes none, or if its URL
+// already has an answer.
 #[tactic(auto, unfolding(crate::specs::Reading::with_entry))]
 fn add_entry(alloc: Global, table: &mut Table, entry: &Entry<'_>) -> Result<bool, NoMemory>
     ensures { IfOk result (λ added. with_entry table.old (shown_entry entry.now)
@@ -70,7 +70,7 @@ fn add_entry(alloc: Global, table: &mut Table, entry: &Entry<'_>) -> Result<bool
     }
 }
 
-/// The answers that a text writes up to its end; none where it doesn't write answers and the end.
+/// The answers that a text writes up to its end; `None` if it doesn't write answers and the end.
 pub(crate) fn answers_at(alloc: Global, text: &[u8]) -> Result<Option<Table>, NoMemory>
     ensures { IfOk result (λ found. found ≡ answers_at [] text.now) }
 {

@@ -3,7 +3,7 @@ ghost use Rattle.std.specs.Prelude.{◌≡◌};
 ghost use Rattle.std.specs.Option.{option_copied};
 ghost use Rattle.edge_case.specs.Case.{value_or_empty};
 
-/// What an absent line says: nothing.
+/// The line's text; an absent line is empty.
 pub(crate) fn lent_or_empty(value: Option<&[u8]>) -> &[u8]
     ensures { result.now ≡ value_or_empty (option_copied value.entry) }
 {

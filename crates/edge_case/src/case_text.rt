@@ -1,4 +1,4 @@
-//! Cases, and the texts that say them.
+//! Cases, and the texts that spell them.
 ghost use Rattle.std.specs.Prelude.{◌≡◌, ◌≤◌, length, IfOk, IfSome, IfNone};
 ghost use Rattle.edge_case.specs.Case.{IsCaseText};
 ghost use Rattle.edge_case.specs.Reading.{lines_case, case_of};
@@ -22,7 +22,7 @@ pub struct Case {
     pub table: Table,
 }
 
-// The case that a text of lines says.
+// The case that a text of lines spells.
 #[tactic(auto, unfolding(crate::specs::Reading::lines_case))]
 fn lines_case(alloc: Global, text: &[u8]) -> Result<Option<Case>, NoMemory>
     ensures { IfOk result (λ found. found ≡ lines_case text.now) }
@@ -43,7 +43,7 @@ fn lines_case(alloc: Global, text: &[u8]) -> Result<Option<Case>, NoMemory>
     }))
 }
 
-// The case that a text says.
+// The case that a text spells.
 #[tactic(auto, unfolding(crate::specs::Reading::case_of))]
 fn case_of(alloc: Global, text: &[u8]) -> Result<Option<Case>, NoMemory>
     ensures { IfOk result (λ found. found ≡ case_of text.now) }
@@ -55,7 +55,7 @@ fn case_of(alloc: Global, text: &[u8]) -> Result<Option<Case>, NoMemory>
 }
 
 impl Case {
-    /// The case that a text says; none where the text is no case text.
+    /// The case that a text spells; `None` if the text isn't a case text.
     ///
     /// Our profile.
     pub fn read(alloc: Global, text: &[u8]) -> Result<Option<Case>, NoMemory>

@@ -11,17 +11,17 @@ use thiserror::Error;
 pub enum CaseEnd {
     /// A page.
     PagePrinted,
-    /// The one line of a page's fault.
+    /// The single line of a page's fault.
     FaultPrinted,
 }
 
-/// Why nothing was printed, or not all of it.
+/// Why nothing was printed, or only a part.
 #[derive(Clone, Copy, Debug, Drop, PartialEq, Eq, Error)]
 pub enum CaseFault {
-    /// The input is no case text.
+    /// The input isn't a case text.
     #[error("the input is no case text: write its lines in the form of case texts")]
     BadCase,
-    /// A growth was refused.
+    /// An allocation failed.
     #[error("out of memory: run the case again with more of it")]
     NoMemory,
     /// A read failed.

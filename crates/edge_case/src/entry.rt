@@ -1,4 +1,4 @@
-//! Answers as they are written, and the answers that they stand for.
+//! Answers as they are written, and the answers that they denote.
 ghost use Rattle.std.specs.Prelude.{◌≡◌};
 ghost use Rattle.std.specs.Option.{option_map};
 ghost use Rattle.edge_case.specs.Reading.{got_line_of, body_at, failed_at, got_at, entry_at, lent_got_line, lent_entry};
@@ -11,7 +11,7 @@ use edge_types::around;
 /// An answer as it is written.
 #[derive(Clone, Copy, Drop)]
 pub(crate) enum Entry<'a> {
-    /// The URL could not be had.
+    /// The URL could not be fetched.
     Failed(&'a [u8]),
     /// An origin answered.
     Got(Got<'a>),
@@ -39,7 +39,7 @@ fn got_line_of(line: &[u8]) -> Option<(u32, u32, &[u8])>
     Some((status, len, url))
 }
 
-// A body of so many bytes, and what follows the line feed after it.
+// A body of this many bytes, and what follows the line feed after it.
 #[tactic(auto, unfolding(crate::specs::Reading::body_at))]
 fn body_at(len: usize, text: &[u8]) -> Option<(&[u8], &[u8])>
     ensures { option_map lent_pair result ≡ body_at len text.now }
@@ -60,7 +60,7 @@ fn failed_at(text: &[u8]) -> Option<(Entry<'_>, &[u8])>
     Some((Entry::Failed(url), rest))
 }
 
-// What was got, and what follows it.
+// What was fetched, and what follows it.
 #[tactic(auto, unfolding(crate::specs::Reading::got_at))]
 fn got_at(text: &[u8]) -> Option<(Entry<'_>, &[u8])>
     ensures { option_map lent_entry result ≡ got_at text.now }

@@ -9,7 +9,7 @@ use crate::line::{field_at, line_at};
 use edge_types::{NoMemory, Octets, Request, query_of};
 use std::alloc::Global;
 
-/// The lines before the answers, without their words.
+/// The lines before the answers, without their leading words.
 #[derive(Clone, Copy, Drop)]
 pub(crate) struct Heading<'a> {
     pub(crate) page: &'a [u8],
@@ -43,7 +43,7 @@ pub(crate) fn heading_at(text: &[u8]) -> Option<(Heading<'_>, &[u8])>
 }
 
 impl Heading<'_> {
-    /// The request that the lines write.
+    /// The request that the lines denote.
     pub(crate) fn request(&self, alloc: Global) -> Result<Request, NoMemory>
         ensures { IfOk result (λ request. request ≡ request_of (shown_heading self.now)) }
     {

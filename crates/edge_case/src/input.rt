@@ -1,4 +1,4 @@
-//! Reading the whole input, or as much of it as shows that it is too long.
+//! Reads the whole input, or as much of it as shows that it is too long.
 ghost use Rattle.std.specs.Prelude.{◌≡◌, ◌≢◌, ◌+◌, ◌<◌, ◌≤◌, ◌^◌, length, vec_len, IfOk, IfErr, OnOk, OnErr};
 ghost use Rattle.edge_case.specs.Bytes.{TakesAtMost, Moves, IsInput, IsLonger, IsReadThrough};
 
@@ -10,14 +10,14 @@ use std::io::Read;
 // How many bytes one read asks for.
 const CHUNK: usize = 65_536;
 
-// So many zeros, to be read over.
+// This many zeros, as room for a read.
 fn zeros(alloc: Global, len: usize) -> Result<Vec<u8>, AllocError>
     ensures { IfOk result (λ zeros. vec_len zeros ≡ len) }
 {
     vec![in alloc; 0u8; len]
 }
 
-// One read of at most so many bytes, which are added to the text.
+// One read of at most this many bytes, which are added to the text.
 fn read_some<R: Read>(
     reader: &mut R,
     chunk: &mut [u8],
@@ -56,7 +56,7 @@ fn add_read<R: Read>(
     }
 }
 
-// The whole input; of one that is longer than so many bytes, one byte more than these.
+// The whole input; if it is longer than this limit, one byte more than the limit.
 fn read_up_to<R: Read>(
     alloc: Global,
     reader: &mut R,
@@ -83,9 +83,9 @@ fn read_up_to<R: Read>(
     Ok(text)
 }
 
-/// The whole input; of one that is longer than a case text may be, the first `MAX_CASE + 1` bytes.
+/// The whole input; if it is longer than a case text may be, its first `MAX_CASE + 1` bytes.
 ///
-/// `NoMemory` where a growth is refused, `Read` where a read fails.
+/// `NoMemory` if an allocation fails, `Read` if a read fails.
 pub(crate) fn read_input<R: Read>(alloc: Global, reader: &mut R) -> Result<Vec<u8>, CaseFault>
     ensures whole { IfOk result (λ text. vec_len text ≤ MAX_CASE → IsInput (R.remaining reader.old) text.items) }
     ensures longer { IfOk result (λ text. MAX_CASE < vec_len text → IsLonger MAX_CASE (R.remaining reader.old)) }

@@ -5,26 +5,26 @@ ghost use Rattle.edge_case.specs.Laws.{ReadsCases, CasesAreOne, ReadsNumbers, Re
 
 use crate::case_text::MAX_CASE;
 
-/// What is read of a text is the case that it says, and what it says is read; a text says one case
-/// at most.
+/// What is read from a text is the case that it spells, and each case that is spelled is read; a text
+/// spells at most one case.
 pub fn case_texts_are_read()
     ensures read { ReadsCases }
     ensures one { CasesAreOne }
 {}
 
-/// The limit of a case text, in figures.
+/// The limit of a case text, as a number.
 pub fn limit_of_case_texts()
     ensures { MAX_CASE ≡ 67108864 }
 {}
 
-/// What is read of a text is the number that it writes, where that is at most so large, and such a
+/// What is read from a text is the number that it writes, if it is at most the limit, and each such
 /// number is read.
 pub fn numbers_are_read()
     ensures { ReadsNumbers }
 {}
 
-/// What is read of a text are the events that it lists, and what it lists is read; a text lists one
-/// order of events at most.
+/// What is read from a text is the list of events that it writes, and each list that is written is read;
+/// a text lists at most one order of events.
 pub fn orders_are_read()
     ensures read { ReadsOrders }
     ensures one { OrdersAreOne }

@@ -30,7 +30,7 @@ pub(crate) fn line_at<'a>(word: &[u8], text: &'a [u8]) -> Option<(&'a [u8], &'a 
     around(LINE_FEED, value)
 }
 
-/// The same, where the line may be absent.
+/// The rest of a line that begins with a word, or none if the line is absent; and what follows.
 #[tactic(auto, unfolding(crate::specs::Reading::field_at))]
 pub(crate) fn field_at<'a>(word: &[u8], text: &'a [u8]) -> Option<(Option<&'a [u8]>, &'a [u8])>
     ensures { option_map lent_field result ≡ field_at word.now text.now }

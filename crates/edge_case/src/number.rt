@@ -4,10 +4,10 @@ ghost use Rattle.edge_case.specs.Reading.{has_needless_zero, number_of};
 
 use crate::decimal::decimal_of;
 
-/// The most digits of a number: those of the longest body, and more than those of a status.
+/// The most digits of a number: the longest body needs them; a status needs fewer.
 pub(crate) const MAX_DIGITS: usize = 6;
 
-// The largest number of so many digits.
+// The largest number with this many digits.
 const MAX_NUMBER: u32 = 999_999;
 
 fn has_needless_zero(text: &[u8]) -> bool

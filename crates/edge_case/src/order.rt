@@ -12,10 +12,10 @@ use std::alloc::Global;
 // The most digits of a place.
 const PLACE_DIGITS: usize = 4;
 
-// The largest number of so many digits.
+// The largest number with this many digits.
 const MAX_PLACE: u32 = 9_999;
 
-// The place that digits write.
+// The place that the digits write.
 #[tactic(auto, unfolding(crate::specs::Order::place_of))]
 fn place_of(digits: &[u8]) -> Option<usize>
     ensures { result ≡ place_of digits.now }
@@ -27,7 +27,7 @@ fn place_of(digits: &[u8]) -> Option<usize>
     Some(place as usize)
 }
 
-// The event that an item writes.
+// The event that an item denotes.
 #[tactic(auto, unfolding(crate::specs::Order::event_of))]
 fn event_of(item: &[u8]) -> Option<Event>
     ensures { result ≡ event_of item.now }
@@ -40,7 +40,7 @@ fn event_of(item: &[u8]) -> Option<Event>
     }
 }
 
-// Adds the event that an item writes. False where it writes none.
+// Adds the event that an item denotes. False if it denotes none.
 fn add_item(events: &mut Vec<Event>, item: &[u8]) -> Result<bool, NoMemory>
     ensures { IfOk result (λ added. after_item events.old.items (event_of item.now) ≡ (if added then Some events.new.items else None)) }
 {
@@ -52,8 +52,8 @@ fn add_item(events: &mut Vec<Event>, item: &[u8]) -> Result<bool, NoMemory>
 }
 
 /// The events that a text lists: items with commas between them, `c` for a claim, `a` for an
-/// advance, and `p` with one to four digits for a post of the ticket of this place. None where the
-/// text is no such list; the empty text is none.
+/// advance, and `p` with one to four digits for a post of the ticket at this place. `None` if the
+/// text isn't such a list; the empty text isn't one.
 ///
 /// Our profile.
 pub fn read_events(alloc: Global, text: &[u8]) -> Result<Option<Vec<Event>>, NoMemory>

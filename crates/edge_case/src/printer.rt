@@ -1,4 +1,4 @@
-//! Printing what a page comes to.
+//! Prints the outcome of a page.
 ghost use Rattle.std.specs.Prelude.{◌≡◌, ◌≢◌, IfOk, IfErr, IsErrOf, string_bytes};
 ghost use Rattle.std.specs.Io.KnownBytes.{Appends, Keeps};
 ghost use Rattle.edge_types.specs.Outcome.{shown};
@@ -28,7 +28,7 @@ fn page_line(
     Ok(line)
 }
 
-// A fault's line: number, name and place.
+// A fault's line: its number, its name and its place.
 fn fault_line(alloc: Global, fault: &PageFault) -> Result<String, NoMemory>
     ensures { IfOk result (λ line. string_bytes line ≡ fault_line fault.now) }
 {
@@ -41,11 +41,11 @@ fn fault_line(alloc: Global, fault: &PageFault) -> Result<String, NoMemory>
     Ok(line)
 }
 
-/// Prints what a page comes to: a page as its status, its length, its content type and its body,
+/// Prints the outcome of a page: a page as its status, its length, its content type and its body,
 /// a fault as its line. No memory is taken after the first write.
 ///
-/// `NoMemory` where a growth is refused; nothing is written then. `Write` where a write fails or
-/// takes no byte; a first part of the printed form is written then.
+/// `NoMemory` if an allocation fails; nothing is written then. `Write` if a write fails or
+/// takes no byte; only a first part of the printed form is written then.
 pub(crate) fn print<W: Write>(
     alloc: Global,
     writer: &mut W,

@@ -1,4 +1,4 @@
-//! Running a case: it is read, evaluated and printed.
+//! Runs a case: reads it, evaluates it and prints the outcome.
 ghost use Rattle.std.specs.Prelude.{◌≡◌, ◌≢◌, ◌≤◌, ◌+◌, IfOk, IfErr, IsErrOf};
 ghost use Rattle.std.specs.Io.KnownBytes.{Appends, Keeps};
 ghost use Rattle.esi_meaning.specs.Meaning.{AreLevels};
@@ -24,7 +24,7 @@ pub struct Ran {
     pub text: Vec<u8>,
 }
 
-// The case that the input says, and the input.
+// The case that the input spells, and the input.
 fn read_case<R: Read>(alloc: Global, reader: &mut R) -> Result<(Case, Vec<u8>), CaseFault>
     ensures ok { IfOk result (λ (case, text). Reads (R.remaining reader.old) case) }
     ensures text { IfOk result (λ (case, text). IsInput (R.remaining reader.old) text.items) }
@@ -41,7 +41,7 @@ fn read_case<R: Read>(alloc: Global, reader: &mut R) -> Result<(Case, Vec<u8>), 
     }
 }
 
-// Evaluates a case and prints what its page comes to.
+// Evaluates a case and prints the outcome of its page.
 fn print_case<W: Write>(
     alloc: Global,
     case: Case,
@@ -67,14 +67,14 @@ fn print_case<W: Write>(
     print(alloc, writer, &outcome)
 }
 
-/// Reads a case text, runs its page at so many levels and prints what the page comes to. The page is
+/// Reads a case text, runs its page with this many levels and prints the outcome. The page is
 /// run by these events, in order, and then to its end; `ahead` is how many slots posts may open
 /// ahead, at most `plan_runner::MAX_AHEAD`. What is printed depends on neither.
 ///
 /// The whole input is read first, but at most `MAX_CASE + 1` bytes. `esi_meaning::are_levels` tests
-/// the number of levels. Refusals: `BadCase` where the input is no case text; `NoMemory` where a
-/// growth is refused; `Read` where a read fails; `Write` where a write fails or takes no byte.
-/// After the first three nothing is written, after `Write` a first part of the printed form is. No
+/// the number of levels. Refusals: `BadCase` if the input isn't a case text; `NoMemory` if an
+/// allocation fails; `Read` if a read fails; `Write` if a write fails or takes no byte.
+/// After the first three nothing is written, after `Write` only a first part of the printed form. No
 /// memory is taken after the first write.
 ///
 /// Our profile.
@@ -88,11 +88,11 @@ pub fn run_case<R: Read, W: Write>(
 ) -> Result<CaseEnd, CaseFault>
     requires ahead { ahead ≤ MAX_AHEAD }
     requires levels { AreLevels levels }
-    // What is written is the printed form of what the case comes to, and nothing else.
+    // What is written is the printed form of the case's outcome, and nothing else.
     ensures printed { IfOk result (λ end. Prints levels (R.remaining reader.old)
         (W.contents writer.old) (W.contents writer.new) end) }
     ensures bad_case { IsErrOf result CaseFault.BadCase → IsNoCase (R.remaining reader.old) }
-    // Before anything is told of the case the input was read to its end, or past the limit.
+    // Before anything is said of the case the input was read to its end, or past the limit.
     ensures through { IfOk result (λ _. IsReadThrough MAX_CASE (R.remaining reader.old) (R.remaining reader.new)) }
     ensures bad_through { IsErrOf result CaseFault.BadCase → IsReadThrough MAX_CASE (R.remaining reader.old) (R.remaining reader.new) }
     ensures nothing { IfErr result (λ e. e ≢ CaseFault.Write → Keeps (W.contents writer.old) (W.contents writer.new)) }

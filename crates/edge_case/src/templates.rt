@@ -10,7 +10,7 @@ use crate::heading::heading_at;
 use edge_types::{Answer, NoMemory};
 use std::alloc::Global;
 
-// Keeps an answer whose body is a template.
+// Keeps an answer if its body is a template.
 fn keep_template(found: &mut Vec<Answer>, answer: Option<Answer>) -> Result<(), NoMemory>
     ensures { OnOk result (found.new.items ≡ found.old.items ++ template_of answer) }
 {
@@ -33,9 +33,9 @@ fn templates_at(alloc: Global, text: &[u8]) -> Result<Vec<Answer>, NoMemory>
     Ok(found)
 }
 
-/// The answers of a case text whose bodies are templates that the edge processes, in the text's order.
+/// The answers of a case text whose bodies are templates for the edge to process, in the text's order.
 ///
-/// Where the text is no case text, some answers that it has.
+/// If the text isn't a case text, the result is unspecified.
 pub fn templates_in(alloc: Global, text: &[u8]) -> Result<Vec<Answer>, NoMemory>
     ensures { IfOk result (λ found. (case : Case) → case_of text.now ≡ Some case → found.items ≡ templates_in case.table) }
 {

@@ -1,4 +1,4 @@
-//! Writing to the last byte.
+//! Writes bytes to the last one.
 ghost use Rattle.std.specs.Prelude.{◌≡◌, ◌++◌, OnOk, OnErr};
 ghost use Rattle.std.specs.Io.KnownBytes.{Appends};
 ghost use Rattle.edge_types.specs.Pieces.{joined};

@@ -22,18 +22,18 @@ use Rattle.edge_main.specs.declared.asked.Refusal.TheVariants as refusal
 
 -- ---- the command
 
--- the program, which wants a subcommand: `case`, `serve` or `check`
+-- the program, which needs a subcommand: `case`, `serve` or `check`
 abbrev pub program : App
 program =
     with_subcommand (with_subcommand (with_subcommand (on_top (λ s. record s { subcommand_required = true }) (new_app (codes "esi_edge"))) case_command.top) serve_command.top) check_command.top
 
--- ---- what the words say
+-- ---- what the words mean
 
--- what an option says in a subcommand's matches, where that is `case`
+-- the value of an option in a subcommand's matches, if that is `case`
 abbrev pub word_of : Text → Option (Text × List Row) → Option Text
 word_of name met = option_and_then (λ m. if bytes_eq m.0 (codes "case") then first_of name m.1 else None) met
 
--- the events of `--order`; none where it isn't there
+-- the events of `--order`; none without it
 abbrev pub order_of : Option Text → Option (List Event)
 order_of None = Some []
 order_of (Some word) = events_of word
@@ -54,7 +54,7 @@ levels_of word = levels_by (option_and_then (λ w. decimal_of w MAX_LEVELS) word
 abbrev pub is_why_of : Option (Text × List Row) → Bool
 is_why_of met = is_set (word_of (codes "why") met)
 
--- what the matches of a subcommand, where that is `case`, ask for
+-- what the matches of a subcommand, if that is `case`, ask for
 pub record AsksOf (met : Option (Text × List Row)) (order : List Event) (ahead levels : ℕ) : Type 0 where
   pub order_is : order_of (word_of (codes "order") met) ≡ Some order
   pub ahead_is : ahead_of (word_of (codes "ahead") met) ≡ Some ahead
@@ -89,26 +89,26 @@ IsAsked met (Case order ahead levels is_why) = AsksOf met order.items ahead leve
 IsAsked met (Serve setup) = AsksServeOf met setup
 IsAsked met (Check checking) = AsksCheckOf met checking
 
--- why the rows of `serve` ask for nothing
+-- why the rows of `serve` are refused
 abbrev pub IsRefusedToServe : List Row → Refusal → Type 0
 IsRefusedToServe rows (refusal.Serve option) = IsWrong rows option
 IsRefusedToServe rows refusal.NoMemory = Unit {0}
 IsRefusedToServe rows _ = ⊥
 
--- and those of `check`: for want of memory alone
+-- and those of `check`: only out of memory
 abbrev pub IsRefusedToCheck : Refusal → Type 0
 IsRefusedToCheck refusal.NoMemory = Unit {0}
 IsRefusedToCheck _ = ⊥
 
--- the name of the subcommand whose matches these are
+-- the name of the subcommand with these matches
 abbrev pub name_of : Option (Text × List Row) → Option Text
 name_of met = option_map (λ m. m.0) met
 
--- the matches are those of no other subcommand than `case`
+-- the matches are of no subcommand other than `case`
 abbrev pub IsOfCase : Option Text → Type 0
 IsOfCase name = (name ≢ Some (codes "serve")) × (name ≢ Some (codes "check"))
 
--- why they ask for nothing: what an option of their own subcommand says, or want of memory
+-- why they are refused: for the value of an option of their own subcommand, or out of memory
 abbrev pub IsRefusedBy : Option (Text × List Row) → Refusal → Type 0
 IsRefusedBy met (refusal.Words error) = ⊥
 IsRefusedBy met refusal.Order = IsOfCase (name_of met) × (order_of (word_of (codes "order") met) ≡ None)
@@ -119,16 +119,16 @@ IsRefusedBy met refusal.NoMemory = Unit {0}
 
 -- ---- what the words ask for
 
--- the words are those of `case`, and ask for its run by these events, with so many slots ahead and levels
+-- the words are those of `case`, and ask to run it by these events, with this many slots ahead and levels
 pub record AsksCase (words : List Text) (order : List Event) (ahead levels : ℕ) : Type 0 where
   pub taken : fault_of program words ≡ []
   pub says : AsksOf (subcommand_of program words) order ahead levels
 
--- they ask to be told why the page has a fault, or not
+-- they ask for the reason of the page's fault, or not
 abbrev pub AsksWhy : List Text → Bool → Type 0
 AsksWhy words is_why = is_why_of (subcommand_of program words) ≡ is_why
 
--- the words are those of `serve`, and ask for a server that is set up so
+-- the words are those of `serve`, and ask for a server with this setup
 pub record AsksServe (words : List Text) (setup : Setup) : Type 0 where
   pub taken : fault_of program words ≡ []
   pub says : AsksServeOf (subcommand_of program words) setup
@@ -144,7 +144,7 @@ Asks words (Case order ahead levels is_why) = AsksCase words order.items ahead l
 Asks words (Serve setup) = AsksServe words setup
 Asks words (Check checking) = AsksCheck words checking
 
--- the words are refused so: as `clap` defines it, or for what an option says, or memory ran out
+-- the words are refused for this: as `clap` defines it, or for the value of an option, or memory ran out
 abbrev pub IsRefused : List Text → Refusal → Type 0
 IsRefused words (refusal.Words error) = HasKind (fault_of program words) error
 IsRefused words refusal.NoMemory = Unit {0}

@@ -1,4 +1,4 @@
--- Laws of the command line: what words that are written out ask for.
+-- Laws of the command line: what words that are given in full ask for.
 use Rattle.std.specs.Prelude.{◌≡◌, ◌≢◌, ◌↔◌, ◌≤◌, ℕ, Bool, true, false, List, [], ◌∷◌, map, codes}
 use Rattle.std.specs.Str.{byte}
 use Rattle.clap.specs.Words.{Text}
@@ -45,7 +45,7 @@ IsAhead word ahead = WritesNumber word ahead × (ahead ≤ MAX_AHEAD)
 abbrev pub IsLevels : Text → ℕ → Type 0
 IsLevels word levels = WritesNumber word levels × AreLevels levels
 
--- the words ask for no case
+-- the words don't ask for a case
 abbrev pub AskForNone : List Text → Type 0
 AskForNone words = (order : List Event) (ahead levels : ℕ) → AsksCase words order ahead levels → ⊥
 
@@ -54,42 +54,42 @@ abbrev pub DefaultsAreAsked : Type 0
 DefaultsAreAsked = (name : Text) (order : List Event) (ahead levels : ℕ)
     → AsksCase (plain_words name) order ahead levels ↔ ((order ≡ []) × (ahead ≡ 16) × (levels ≡ 4))
 
--- `--order` asks for the events that its word lists, and for no case where it lists none
+-- `--order` asks for the events that its value lists, and for no case if it lists none
 abbrev pub OrderIsAsked : Type 0
 OrderIsAsked = (name word : Text) → IsPlain word → (order : List Event) (ahead levels : ℕ)
     → AsksCase (order_words name word) order ahead levels ↔ (Lists word order × (ahead ≡ 16) × (levels ≡ 4))
 
--- `--ahead` asks for the number of slots that its word writes, and for no case where it writes none
+-- `--ahead` asks for the number of slots that its value writes, and for no case if it writes none
 abbrev pub AheadIsAsked : Type 0
 AheadIsAsked = (name word : Text) → IsPlain word → (order : List Event) (ahead levels : ℕ)
     → AsksCase (ahead_words name word) order ahead levels ↔ ((order ≡ []) × IsAhead word ahead × (levels ≡ 4))
 
--- `--levels` asks for the number of levels that its word writes, and for no case where it writes none
+-- `--levels` asks for the number of levels that its value writes, and for no case if it writes none
 abbrev pub LevelsAreAsked : Type 0
 LevelsAreAsked = (name word : Text) → IsPlain word → (order : List Event) (ahead levels : ℕ)
     → AsksCase (levels_words name word) order ahead levels ↔ ((order ≡ []) × (ahead ≡ 16) × IsLevels word levels)
 
--- the three together
+-- the three options together
 abbrev pub AllAreAsked : Type 0
 AllAreAsked = (name list slots depth : Text) → IsPlain list → IsPlain slots → IsPlain depth → (order : List Event) (ahead levels : ℕ)
     → AsksCase (all_words name list slots depth) order ahead levels ↔ (Lists list order × IsAhead slots ahead × IsLevels depth levels)
 
--- `--why` asks to be told why, and without it nobody does; the run is that of no option
+-- `--why` asks for the reason of a fault, and without it nothing does; the run is the same as without the option
 abbrev pub WhyIsAsked : Type 0
 WhyIsAsked = (name : Text) → AsksWhy (why_words name) true × AsksWhy (plain_words name) false
     × ((order : List Event) (ahead levels : ℕ) → AsksCase (why_words name) order ahead levels ↔ ((order ≡ []) × (ahead ≡ 16) × (levels ≡ 4)))
 
--- a word that writes no number from 1 to 8 is refused
+-- a value that isn't a number from 1 to 8 is refused
 abbrev pub OtherLevelsAreRefused : Type 0
 OtherLevelsAreRefused = (name word : Text) → IsPlain word → ((n : ℕ) → IsLevels word n → ⊥) → AskForNone (levels_words name word)
 
--- an option without its word is refused
+-- an option without its value is refused
 abbrev pub OptionsWantWords : Type 0
 OptionsWantWords = (name : Text) → AskForNone (name ∷ codes "case" ∷ codes "--order" ∷ [])
     × AskForNone (name ∷ codes "case" ∷ codes "--ahead" ∷ [])
     × AskForNone (name ∷ codes "case" ∷ codes "--levels" ∷ [])
 
--- an option that stands twice is refused
+-- an option that is given twice is refused
 abbrev pub OptionsStandOnce : Type 0
 OptionsStandOnce = (name one other : Text) → IsPlain one → IsPlain other
     → AskForNone (name ∷ codes "case" ∷ codes "--order" ∷ one ∷ codes "--order" ∷ other ∷ [])
@@ -102,7 +102,7 @@ OptionsStandOnce = (name one other : Text) → IsPlain one → IsPlain other
 abbrev pub AskForCheck : List Text → List Text → Bool → Type 0
 AskForCheck words files is_strict = (checking : Checking) → AsksCheck words checking ↔ ((map (λ file. file.now) checking.files.items ≡ files) × (checking.is_strict ≡ is_strict))
 
--- the words that stand behind the command name files; `-` is one, and `--strict` none, before them or between
+-- the words after the command name files; `-` is one, and `--strict` isn't, before them or between
 abbrev pub FilesAreAsked : Type 0
 FilesAreAsked = (name file other : Text) → IsPlain file → IsPlain other
     → AskForCheck (name ∷ codes "check" ∷ file ∷ []) (file ∷ []) false

@@ -1,4 +1,4 @@
--- What stands behind each way in which the program ends, over any reader and writer.
+-- What is true at each way in which the program ends, over any reader and writer.
 use Rattle.std.specs.Prelude.{◌≡◌, ◌⊎◌, ℕ, Bool, true, false, List, Option, Result, Ok, Err, Vec}
 use Rattle.std.specs.Global.{Global}
 use Rattle.std.specs.Io.KnownBytes.{Keeps}
@@ -20,11 +20,11 @@ use Rattle.edge_main.specs.declared.program.Done.{Done}
 use Rattle.edge_main.specs.declared.program.Done.TheVariants.{Ran, Explains, Serves, Checks}
 use Rattle.edge_main.specs.CommandLine.{AsksCase, AsksCheck, AsksServe, AsksWhy}
 
--- the words ask for a case at so many levels, whatever its events and its slots ahead are
+-- the words ask for a case with this many levels, whatever its events and its slots ahead are
 abbrev pub AsksLevels : List Text → ℕ → Type 0
 AsksLevels words levels = (order : List Event) × (ahead : ℕ) × AsksCase words order ahead levels
 
--- nothing was written, and the words ask to serve so
+-- nothing was written, and the words ask to serve with this setup
 pub record AsksToServe (words : List Text) (before after : Option (List ℕ)) (setup : Setup) : Type 0 where
   pub asks : AsksServe words setup
   pub within : IsWithin setup.pages
@@ -35,7 +35,7 @@ pub record AsksToCheck (words : List Text) (before after : Option (List ℕ)) (c
   pub asks : AsksCheck words checking
   pub untouched : after ≡ before
 
--- what was read and written, by the words of the command line, where the program ends so
+-- what was read and written, by the words of the command line, if the program ends with this status
 abbrev pub Ends : List Text → Option (List ℕ) → Option (List ℕ) → Option (List ℕ) → Status → Type 0
 Ends words input before after Page = (levels : ℕ) × AsksLevels words levels × Prints levels input before after PagePrinted
 Ends words input before after PageFault = (levels : ℕ) × AsksLevels words levels × Prints levels input before after FaultPrinted
@@ -50,13 +50,13 @@ Ends words input before after BadOrder = ⊥
 Ends words input before after (BadOption option) = ⊥
 Ends words input before after NotText = ⊥
 
--- a page's fault was printed, and the words ask why: of this text
+-- a page's fault was printed, and the words ask for its reason, in this text
 pub record AsksWhyOf (words : List Text) (input before after : Option (List ℕ)) (text : List ℕ) : Type 0 where
   pub printed : Ends words input before after PageFault
   pub asks : AsksWhy words true
   pub whole : IsInput input text
 
--- where a page's fault is all that was told, nobody asked why
+-- if a page's fault is all that was reported, nobody asked for its reason
 abbrev pub IsUnasked : List Text → Status → Type 0
 IsUnasked words PageFault = AsksWhy words false
 IsUnasked words _ = Unit {0}
@@ -70,7 +70,7 @@ abbrev pub explained_by : Result RanCase CaseFault → Done
 explained_by (Ok ran) = explains_by ran.text ran.end
 explained_by (Err fault) = Ran (status_of (Err fault))
 
--- the same of what came of the words
+-- what was read and written, by what the words led to
 abbrev pub Does : List Text → Option (List ℕ) → Option (List ℕ) → Option (List ℕ) → Done → Type 0
 Does words input before after (Ran status) = Ends words input before after status × IsUnasked words status
 Does words input before after (Explains text) = AsksWhyOf words input before after text.items

@@ -29,7 +29,7 @@ code_of BadCase = 3
 code_of NoMemory = 4
 code_of InputOutput = 5
 
--- the line on standard error, where the program itself writes one
+-- the line on standard error, if the program itself writes one
 abbrev pub line_of : Status → Option (List ℕ)
 line_of Page = None
 line_of PageFault = None
@@ -53,19 +53,19 @@ status_of (Err fault.NoMemory) = NoMemory
 status_of (Err fault.Read) = InputOutput
 status_of (Err fault.Write) = InputOutput
 
--- how it ends where help was asked for, by whether that could be printed
+-- how it ends if help was asked for, by whether that could be printed
 abbrev pub help_status : {T E : Type 0} → Result T E → Status
 help_status (Ok printed) = Page
 help_status (Err e) = InputOutput
 
--- how it may end where `clap` has something to say of the command line
+-- how it may end if `clap` has something to say about the command line
 abbrev pub IsEndOf : ErrorKind → Status → Type 0
 IsEndOf OutOfMemory status = status ≡ NoMemory
 IsEndOf DisplayHelp status = (status ≡ Page) ⊎ (status ≡ InputOutput)
 IsEndOf DisplayVersion status = (status ≡ Page) ⊎ (status ≡ InputOutput)
 IsEndOf _ status = status ≡ Usage
 
--- how it may end where the command line asks for nothing
+-- how it may end if the command line is refused
 abbrev pub IsRefusedAs : Refusal → Status → Type 0
 IsRefusedAs (refusal.Words error) status = IsEndOf (kind_of error) status
 IsRefusedAs refusal.Order status = status ≡ BadOrder

@@ -1,4 +1,4 @@
-//! What the command line asks for, and why it asks for nothing.
+//! What the command line asks for, and why it is refused.
 
 ghost use Rattle.std.specs.Prelude.{◌≡◌};
 ghost use Rattle.edge_main.specs.declared.asked.Refusal.TheVariants as refused;
@@ -12,7 +12,7 @@ use std::alloc::AllocError;
 /// What the words of the command line ask for.
 #[derive(Drop)]
 pub(crate) enum Asked<'a> {
-    /// `case`: standard input is a case, which is to be run.
+    /// `case`: standard input is a case, to be run.
     Case {
         /// The events that run first.
         order: Vec<Event>,
@@ -20,29 +20,29 @@ pub(crate) enum Asked<'a> {
         ahead: u16,
         /// The levels of includes under the page.
         levels: u8,
-        /// Whether it is to be told why the page has a fault.
+        /// Whether to report why the page has a fault.
         is_why: bool,
     },
-    /// `serve`: pages are to be served as it says.
+    /// `serve`: pages are to be served with these options.
     Serve(Setup),
     /// `check`: these templates are to be checked.
     Check(Checking<'a>),
 }
 
-/// Why the words ask for nothing.
+/// Why the words are refused.
 #[derive(Drop)]
 pub(crate) enum Refusal {
-    /// `clap` refuses them, shows help for them, or finds no memory.
+    /// `clap` refuses them, shows help for them, or runs out of memory.
     Words(Error),
-    /// What `--order` names is no list of events.
+    /// The value of `--order` isn't a list of events.
     Order,
-    /// What `--ahead` names is no number within the limits.
+    /// The value of `--ahead` isn't a number within the limits.
     Ahead,
-    /// What `--levels` names is no number within the limits.
+    /// The value of `--levels` isn't a number within the limits.
     Levels,
-    /// What an option of `serve` names is no use.
+    /// The value of an option of `serve` is invalid.
     Serve(Named),
-    /// A growth was refused.
+    /// An allocation failed.
     NoMemory,
 }
 

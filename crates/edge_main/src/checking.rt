@@ -1,4 +1,4 @@
-//! Templates that are checked, file by file.
+//! Checks templates, file by file.
 ghost use Rattle.std.specs.Prelude.{◌≡◌};
 ghost use Rattle.edge_main.specs.Checked.{checked_as};
 
@@ -11,16 +11,16 @@ use std::rt::Files;
 use std::{fs, io};
 use template_check::{ReportFault, report};
 
-/// What came of all files.
+/// The totals over all files.
 #[derive(Clone, Copy, Drop)]
 struct Sum {
-    /// How many were checked.
+    /// How many files were checked.
     files: u64,
-    /// How many couldn't be read.
+    /// How many files couldn't be read.
     unread: u64,
-    /// How many have a fault.
+    /// How many files have a fault.
     errors: u64,
-    /// How many warnings were told.
+    /// How many warnings were reported.
     warnings: u64,
 }
 
@@ -39,8 +39,8 @@ impl Sum {
     }
 }
 
-/// Checks the files in order, and tells on standard output what is wrong with each. A file that can't
-/// be read is told on standard error, and the others are checked all the same.
+/// Checks the files in order, and reports on standard output what is wrong with each. A file that can't
+/// be read is reported on standard error, and the others are checked all the same.
 pub(crate) fn check(rt: &HostRuntime, checking: &Checking<'_>) -> Status {
     match check_files(rt, checking.files.as_slice()) {
         Ok(sum) => {
@@ -53,7 +53,7 @@ pub(crate) fn check(rt: &HostRuntime, checking: &Checking<'_>) -> Status {
     }
 }
 
-// The sum in words. Where standard error can't be written the status alone tells.
+// Prints the totals. If standard error can't be written, only the status reports them.
 fn told(rt: &impl Eprint, sum: Sum) {
     let Sum {
         files,
@@ -105,7 +105,7 @@ where
     Ok(text)
 }
 
-// Tells of one file, and counts it.
+// Checks one file, reports on it, and counts it.
 fn check_text<R: AllocGlobal, W: Write>(
     rt: &R,
     writer: &mut W,

@@ -31,14 +31,14 @@ fn command<'a>(alloc: Global) -> Result<Command<'a>, AllocError>
         .subcommand(check)
 }
 
-// What an option of `case` says.
+// The value of an option of `case`.
 fn word_of<'a>(matches: &ArgMatches<'a>, name: &str) -> Option<&'a str>
     ensures { option_map (λ word. word.now) result ≡ word_of name.now (subcommand_rows_of matches.now) }
 {
     matches.subcommand_matches("case")?.get_str(name)
 }
 
-// The events that `--order` names.
+// The events that `--order` lists.
 fn order_of(alloc: Global, word: Option<&str>) -> Result<Option<Vec<Event>>, NoMemory>
     ensures { IfOk result (λ order. option_map (λ events. events.items) order ≡ order_of (option_map (λ w. w.now) word.entry)) }
 {
@@ -48,7 +48,7 @@ fn order_of(alloc: Global, word: Option<&str>) -> Result<Option<Vec<Event>>, NoM
     }
 }
 
-// The number that `--ahead` names, within its limits.
+// The value of `--ahead`, if within its limits.
 fn ahead_of(word: Option<&str>) -> Option<u16>
     ensures value { result ≡ ahead_of (option_map (λ w. w.now) word.entry) }
     ensures within { IfSome result (λ ahead. ahead ≤ MAX_AHEAD) }
@@ -57,7 +57,7 @@ fn ahead_of(word: Option<&str>) -> Option<u16>
     Some(ahead as u16)
 }
 
-// The number that `--levels` names, within its limits.
+// The value of `--levels`, if within its limits.
 fn levels_of(word: Option<&str>) -> Option<u8>
     ensures value { result ≡ levels_of (option_map (λ w. w.now) word.entry) }
     ensures within { IfSome result AreLevels }
@@ -84,7 +84,7 @@ fn asked_by<'a>(alloc: Global, matches: &ArgMatches<'a>) -> Result<Asked<'a>, Re
     case_asked_by(alloc, matches)
 }
 
-// The matches of the subcommand, where it has this name.
+// The matches of the subcommand, if it has this name.
 fn matches_of<'b, 'a>(matches: &'b ArgMatches<'a>, name: &str) -> Option<&'b ArgMatches<'a>>
     ensures met { IfSome result (λ own. subcommand_rows_of matches.now ≡ Some (name.now, rows_of (found_of own.now))) }
     ensures other { IfNone result (name_of (subcommand_rows_of matches.now) ≢ Some name.now) }

@@ -1,8 +1,8 @@
 //! Laws of the command line. Each function's clauses are its laws; none of them does anything.
 ghost use Rattle.edge_main.specs.Laws.{DefaultsAreAsked, OrderIsAsked, AheadIsAsked, LevelsAreAsked, AllAreAsked, WhyIsAsked, OtherLevelsAreRefused, OptionsWantWords, OptionsStandOnce, FilesAreAsked, FilesAreWanted};
 
-/// What words that are written out ask for. The law speaks of words of an option that don't begin
-/// with `-`; no others can be read.
+/// What words that are given in full ask for. The law is about words of an option that don't begin
+/// with `-`, since no others can be read.
 pub fn words_ask()
     ensures default { DefaultsAreAsked }
     ensures order { OrderIsAsked }
@@ -12,15 +12,15 @@ pub fn words_ask()
     ensures why { WhyIsAsked }
 {}
 
-/// Words that ask for nothing: another number of levels, an option without its word, an option that
-/// stands twice.
+/// Words that are refused: a number of levels outside the limits, an option without its value, an option
+/// given twice.
 pub fn words_are_refused()
     ensures levels { OtherLevelsAreRefused }
     ensures without { OptionsWantWords }
     ensures twice { OptionsStandOnce }
 {}
 
-/// What the words of `check` ask for, where they are written out; a name of a file doesn't begin with `-`, but for
+/// What the words of `check` ask for, given in full; a file's name doesn't begin with `-`, except for
 /// standard input's.
 pub fn files_are_asked()
     ensures files { FilesAreAsked }

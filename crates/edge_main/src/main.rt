@@ -1,5 +1,5 @@
-//! The program `esi_edge`: it reads a case text, assembles its page and prints what that comes to,
-//! serves pages over HTTP, or tells what is wrong with templates.
+//! The program `esi_edge`: it reads a case text, assembles its page and prints the outcome,
+//! serves pages over HTTP, or reports what is wrong with templates.
 #![tactic(auto)]
 
 ghost use Rattle.clap.specs.Words.{kind_of};
@@ -37,7 +37,7 @@ fn main(rt: HostRuntime) -> ExitCode {
         Err(status) => status,
     };
     if let Some(line) = status.line() {
-        // Where standard error can't be written the status alone tells.
+        // If standard error can't be written, only the status says it.
         let _ = eprintln!(rt; "{line}");
     }
     status.exit_code()
@@ -61,7 +61,7 @@ fn run<'a>(rt: &HostRuntime, words: &'a [String]) -> Done<'a>
     }
 }
 
-// Tells why the words ask for nothing.
+// Reports why the words are refused.
 fn refused(rt: &HostRuntime, refusal: &Refusal) -> Status
     ensures { IsRefusedAs refusal.now result }
 {
@@ -75,7 +75,7 @@ fn refused(rt: &HostRuntime, refusal: &Refusal) -> Status
     }
 }
 
-// Prints what the command line's judge has to say.
+// Prints what `clap` has to say about the words.
 fn told(rt: &HostRuntime, error: &clap::Error) -> Status
     ensures { IsEndOf (kind_of error.now) result }
 {
@@ -83,7 +83,7 @@ fn told(rt: &HostRuntime, error: &clap::Error) -> Status
         ErrorKind::OutOfMemory => Status::NoMemory,
         ErrorKind::DisplayHelp | ErrorKind::DisplayVersion => Status::of_help(error.print(rt)),
         _ => {
-            // Where standard error can't be written the status alone tells.
+            // If standard error can't be written, only the status says it.
             let _ = error.print(rt);
             Status::Usage
         }

@@ -11,25 +11,25 @@ use edge_setup::{Checking, Setup};
 use std::alloc::Global;
 use std::io::{Read, Write};
 
-/// What came of the words.
+/// What the words led to.
 #[derive(Drop)]
 pub(crate) enum Done<'a> {
-    /// A case was run, and ended so.
+    /// A case was run, and ended like this.
     Ran(Status),
-    /// A case was run whose page has a fault, and its text is to tell why.
+    /// A case was run whose page has a fault; its text is here to say why.
     Explains(Vec<u8>),
-    /// Pages are to be served as it says.
+    /// Pages are to be served with these options.
     Serves(Setup),
     /// These templates are to be checked.
     Checks(Checking<'a>),
 }
 
-/// Judges the words of the command line whole, and then runs the case that they ask for, by the
-/// events, with the slots ahead and at the levels that they name, and hands its text on where they ask why
-/// its page has a fault; or hands on how they ask to serve, or
-/// what they ask to check.
+/// Judges the words of the command line as a whole, then runs the case that they ask for, with the
+/// events, the slots ahead and the levels that they name. Its text is handed on if they ask why
+/// its page has a fault. If they ask to serve or to check instead, this is handed on
+/// to the caller.
 ///
-/// Where they ask for no case, nothing was read or written.
+/// If they don't ask for a case, nothing is read or written.
 pub(crate) fn run_words<'a, R: Read, W: Write>(
     alloc: Global,
     words: &'a [String],

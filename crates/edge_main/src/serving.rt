@@ -1,4 +1,4 @@
-//! The server: pages over a cache between all clients, what origins answer, and the machine's clock.
+//! The server: pages over a cache that all clients share, what origins answer, and the machine's clock.
 ghost use Rattle.edge_setup.specs.Words.{IsWithin};
 
 use crate::status::Status;
@@ -17,10 +17,10 @@ use std::sync::Arc;
 use std::time::{Clock, Duration};
 use std::{io, str};
 
-// What pages are assembled of.
+// What pages are assembled from.
 type Kept = Cache<HyperSource, Seconds>;
 
-/// Serves as it is set up, until so many connections as that names were accepted and have ended.
+/// Serves with this setup, until the number of connections in it have been accepted and have ended.
 pub(crate) fn serve<R>(rt: &R, setup: Setup) -> Result<ServeEnd, Status>
 where
     R: ServerRuntime + Print + Eprint + Send + Sync,
@@ -48,7 +48,7 @@ where
     Ok(serve_accepts(rt, &sockets, &service, &log, threads, accept))
 }
 
-// A number of milliseconds; 0 is no limit.
+// A limit of this many milliseconds; 0 means no limit.
 fn limit_of(millis: u32) -> Option<Duration> {
     if millis == 0 {
         None
@@ -146,7 +146,7 @@ impl<R: Clock> fetch_workers::Clock<R> for Seconds {
     }
 }
 
-/// What is told of each request, where that is asked for.
+/// What is logged about each request, if that is asked for.
 #[derive(Clone, Copy)]
 struct AccessLog {
     is_kept: bool,
@@ -157,7 +157,7 @@ impl<R: AllocGlobal + Clock + Eprint> Journal<R> for AccessLog {
         self.is_kept
     }
 
-    // One write for the line, so that threads don't mix theirs. Where it can't be told, it isn't.
+    // One write for the whole line, so that threads don't mix theirs. A line that can't be written is dropped.
     fn served(&self, rt: &R, record: &RequestRecord) {
         let second = match rt.since_1970() {
             Ok(time) => time.as_secs(),
@@ -178,7 +178,7 @@ impl<R: AllocGlobal + Clock + Eprint> Journal<R> for AccessLog {
     }
 }
 
-// What can be told of bytes that came from a client.
+// The printable form of bytes that came from a client.
 fn text(bytes: &[u8]) -> &str {
     match str::from_utf8(bytes) {
         Ok(text) if !text.is_empty() => text,

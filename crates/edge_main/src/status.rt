@@ -15,23 +15,23 @@ pub(crate) enum Status {
     Page,
     /// A page's fault was printed.
     PageFault,
-    /// The server has served so many connections as it was to.
+    /// The server has served the number of connections that it was to.
     Served,
-    /// The files were checked, and have no fault.
+    /// The files were checked and have no fault.
     Checked,
     /// A file has a fault, or a warning that counts as one.
     FaultFound,
-    /// The command line is no use of the program.
+    /// The command line is invalid.
     Usage,
-    /// What `--order` names is no list of events.
+    /// The value of `--order` isn't a list of events.
     BadOrder,
     /// What an option names is no use.
     BadOption(Named),
     /// A word of the command line isn't UTF-8.
     NotText,
-    /// Standard input is no case text.
+    /// Standard input isn't a case text.
     BadCase,
-    /// A growth was refused.
+    /// An allocation failed.
     NoMemory,
     /// A read or a write failed.
     InputOutput,
@@ -51,7 +51,7 @@ impl Status {
         }
     }
 
-    /// The status of help whose printing ended so.
+    /// The status after printing help, by how that ended.
     pub(crate) fn of_help(printed: io::Result<()>) -> Status
         ensures { result ≡ help_status printed }
     {
@@ -75,7 +75,7 @@ impl Status {
         })
     }
 
-    /// The line for standard error, where there is one; on usage `clap` writes its own text.
+    /// The line for standard error, if there is one; on usage `clap` writes its own text.
     pub(crate) fn line(self) -> Option<&'static str>
         ensures { option_map (λ line. line.now) result ≡ line_of self }
     {

@@ -1,4 +1,4 @@
-//! Why the page of a case has a fault: which of the case's templates are none.
+//! Why the page of a case has a fault: which of the case's templates are invalid.
 ghost use Rattle.std.specs.Prelude.{◌≡◌};
 
 use crate::status::Status;
@@ -8,11 +8,11 @@ use std::alloc::AllocGlobal;
 use std::io::Eprint;
 use template_check::{Message, check};
 
-/// Tells on standard error each template of this case text that is none, by URL, line and column.
+/// Reports on standard error each invalid template of this case text, by URL, line and column.
 pub(crate) fn explain<R: AllocGlobal + Eprint>(rt: &R, text: &[u8]) -> Status
     ensures { result ≡ Status.PageFault }
 {
-    // The page's fault is printed already: where the reason can't be had, that is all that is told.
+    // The page's fault is printed already: if the reason can't be found, nothing more is reported.
     match explained(rt, text) {
         Ok(false) => {
             let _ = eprintln!(rt; "{NO_TEMPLATE}");
@@ -25,11 +25,11 @@ pub(crate) fn explain<R: AllocGlobal + Eprint>(rt: &R, text: &[u8]) -> Status
     Status::PageFault
 }
 
-// What may be wrong where every template is one.
+// What may be wrong if every template is valid.
 const NO_TEMPLATE: &str =
     "each template of the case can be read: is an answer that is asked missing or no success, or --levels too small?";
 
-// Tells each template that is none, and whether there is one.
+// Reports each invalid template, and returns whether there is one.
 fn explained<R: AllocGlobal + Eprint>(rt: &R, text: &[u8]) -> Result<bool, NoMemory> {
     let mut is_told = false;
     for answer in &templates_in(rt.alloc(), text)? {
@@ -38,7 +38,7 @@ fn explained<R: AllocGlobal + Eprint>(rt: &R, text: &[u8]) -> Result<bool, NoMem
     Ok(is_told)
 }
 
-// Tells why an answer's body is no template, where it is none.
+// Reports why an answer's body isn't a template, if it isn't; returns whether it did.
 fn explained_of<R: AllocGlobal + Eprint>(rt: &R, answer: &Answer) -> Result<bool, NoMemory> {
     let body = answer.share_body()?;
     let Some(fault) = check(rt.alloc(), &body)? else {
@@ -49,7 +49,7 @@ fn explained_of<R: AllocGlobal + Eprint>(rt: &R, answer: &Answer) -> Result<bool
         text: body.as_bytes(),
         fault,
     };
-    // Where standard error can't be written the status alone tells.
+    // If standard error can't be written, only the status says it.
     let _ = eprintln!(rt; "{url}:{message}");
     Ok(true)
 }

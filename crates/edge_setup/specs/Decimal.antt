@@ -7,6 +7,6 @@ use Rattle.std.specs.Str.Parse.{digits_value}
 abbrev pub is_decimal : List ℕ → Bool
 is_decimal text = nat_lt 0 (length text) && list_all is_ascii_digit text
 
--- the number that a text writes, where it is at most so large
+-- the number that a text writes, if it is at most the limit
 unfoldable pub decimal_of : List ℕ → ℕ → Option ℕ
 decimal_of text most = if is_decimal text && nat_le (digits_value 10 text) most then Some (digits_value 10 text) else None

@@ -8,7 +8,7 @@ use Rattle.clap.specs.Words.{Text}
 use Rattle.edge_setup.specs.Words.{NamesOrigin, SayOrigins, SayNoOrigins}
 use Rattle.edge_setup.specs.declared.setup.Origin.{Origin}
 
--- the word is no authority and address
+-- the word isn't an authority and an address
 abbrev pub IsNoOrigin : Text → Type 0
 IsNoOrigin word = (authority : Text) (address : SocketAddr) → NamesOrigin word authority address → ⊥
 
@@ -16,7 +16,7 @@ IsNoOrigin word = (authority : Text) (address : SocketAddr) → NamesOrigin word
 abbrev pub has : Text → List Origin → Bool
 has authority origins = list_any (λ origin. bytes_eq origin.authority.items authority) origins
 
--- what was found is what the words of the option say, and nothing only where they say none
+-- what was found is what the words of the option name, and nothing only if they name none
 abbrev pub AreFound : Option (List Text) → Option (Vec Origin Global) → Type 0
 AreFound words (Some origins) = SayOrigins words origins.items
 AreFound words None = SayNoOrigins words

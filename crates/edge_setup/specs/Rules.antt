@@ -7,7 +7,7 @@ use Rattle.clap.specs.declared.builder.action.ArgAction.TheVariants.{Append, Set
 abbrev pub named_option : Text → Rule
 named_option name = record (new_rule name) { long = Some name; value_names = 1 }
 
--- the same, with what it says where it isn't there
+-- such an option with a default
 abbrev pub with_default : Text → Rule → Rule
 with_default word option = record option { defaults = word ∷ [] }
 
@@ -15,7 +15,7 @@ with_default word option = record option { defaults = word ∷ [] }
 abbrev pub wanted : Rule → Rule
 wanted option = record option { required = true }
 
--- the same, which may stand more than once
+-- such an option that may be given more than once
 abbrev pub repeated : Rule → Rule
 repeated option = record option { action = Some Append }
 

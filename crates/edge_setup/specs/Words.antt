@@ -1,4 +1,4 @@
--- What the options of `serve` say, by the rows of `clap`'s matches.
+-- What the options of `serve` mean, by the rows of `clap`'s matches.
 use Rattle.std.specs.Prelude.{◌≡◌, ◌≤◌, ℕ, Bool, false, ◌||◌, bytes_eq, List, [], ◌∷◌, map, codes, Option, Some, None}
 use Rattle.std.specs.Str.{byte}
 use Rattle.std.specs.List.{list_any}
@@ -24,12 +24,12 @@ use Rattle.edge_setup.specs.declared.setup.SetupFault.TheVariants as fault
 abbrev pub most_accepts : ℕ
 most_accepts = 18446744073709551615
 
--- after how many connections the server ends: as many as can be counted, where no word says so
+-- after how many connections the server ends: as many as can be counted, if no word says so
 abbrev pub accepts_of : Option Text → Option ℕ
 accepts_of None = Some most_accepts
 accepts_of (Some word) = decimal_of word most_accepts
 
--- whether a flag is there
+-- whether a flag is set
 abbrev pub is_set : Option Text → Bool
 is_set word = option_map_or (λ w. bytes_eq w (codes "true")) word false
 
@@ -46,28 +46,28 @@ pub record NamesOrigin (word : Text) (authority : List ℕ) (address : SocketAdd
   pub cut : around (byte "=") word ≡ Some (authority, last)
   pub named : IsSocketText last address
 
--- the words are these origins, in order
+-- the words name these origins, in order
 abbrev pub AreOrigins : List Text → List Origin → Type 0
 AreOrigins [] [] = Unit {0}
 AreOrigins [] (o ∷ os) = ⊥
 AreOrigins (w ∷ ws) [] = ⊥
 AreOrigins (w ∷ ws) (o ∷ os) = NamesOrigin w o.authority.items o.address × AreOrigins ws os
 
--- a text stands twice among these
+-- a text comes twice among these
 abbrev pub stands_twice : List Text → Bool
 stands_twice [] = false
 stands_twice (t ∷ ts) = list_any (bytes_eq t) ts || stands_twice ts
 
--- what origins are asked for by
+-- the authorities by which origins are chosen
 abbrev pub authorities : List Origin → List Text
 authorities origins = map (λ origin. origin.authority.items) origins
 
--- the words of the option are these origins, each authority once; without the option there is none
+-- the words of the option name these origins, each authority once; without the option there are none
 abbrev pub SayOrigins : Option (List Text) → List Origin → Type 0
 SayOrigins None origins = origins ≡ []
 SayOrigins (Some words) origins = AreOrigins words origins × (stands_twice (authorities origins) ≡ false)
 
--- the words of the option are no such origins
+-- the words of the option don't name such origins
 abbrev pub SayNoOrigins : Option (List Text) → Type 0
 SayNoOrigins words = (origins : List Origin) → SayOrigins words origins → ⊥
 
@@ -95,7 +95,7 @@ pub record SaysSetup (rows : List Row) (setup : Setup) : Type 0 where
   pub pages_are : SaysPages rows setup.pages
   pub serving_is : SaysServing rows setup.serving
 
--- what an option says is no use
+-- the value of an option is invalid
 abbrev pub IsWrong : List Row → Named → Type 0
 IsWrong rows named.Listen = (address : SocketAddr) → IsAddress (first_of (codes "listen") rows) address → ⊥
 IsWrong rows named.Origin = SayNoOrigins (all_of (codes "origin") rows)
@@ -121,7 +121,7 @@ refusal_of named.Timeout = timeout.refusal
 refusal_of named.ClientTimeout = client_timeout.refusal
 refusal_of named.Threads = threads.refusal
 
--- why the options ask for nothing
+-- why the options are refused
 abbrev pub IsRefusedBy : List Row → SetupFault → Type 0
 IsRefusedBy rows (fault.Wrong option) = IsWrong rows option
 IsRefusedBy rows fault.NoMemory = Unit {0}

@@ -2,8 +2,8 @@
 ghost use Rattle.std.specs.Prelude.{◌≡◌, ◌≤◌, IfSome};
 ghost use Rattle.edge_setup.specs.Decimal.{decimal_of};
 
-/// The number that a text writes in decimal digits, with any number of leading zeros; none where it
-/// writes none, or one above `most`. Takes no memory.
+/// The number that a text writes in decimal digits, with any number of leading zeros; `None` if it
+/// isn't one, or is above `most`. Takes no memory.
 ///
 /// Our profile.
 #[tactic(auto, unfolding(crate::specs::Decimal::decimal_of))]
@@ -20,7 +20,7 @@ pub fn decimal_of(text: &[u8], most: u64) -> Option<u64>
         if !digit.is_ascii_digit() {
             return None;
         }
-        // Kept small: what is above the limit stays so.
+        // Kept small: once above the limit it stays above.
         total = (total * 10 + u128::from(*digit - b'0')).min(above);
     }
     if total < above {

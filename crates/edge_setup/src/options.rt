@@ -7,7 +7,7 @@ ghost use Rattle.edge_setup.specs.Rules.{named_flag, named_option};
 use clap::{Arg, ArgAction, Command};
 use std::alloc::{AllocError, Global};
 
-/// An option `--NAME` with one word.
+/// An option `--NAME` with a value.
 pub fn option<'a>(alloc: Global, name: &'a str, value: &'a str, help: &'a str) -> Arg<'a>
     ensures rule { rule_of result ≡ named_option name.entry.now }
     ensures local { result.global ≡ false }
@@ -18,7 +18,7 @@ pub fn option<'a>(alloc: Global, name: &'a str, value: &'a str, help: &'a str) -
         .help(help)
 }
 
-/// An option `--NAME` that takes no word.
+/// An option `--NAME` without a value.
 pub fn flag<'a>(alloc: Global, name: &'a str, help: &'a str) -> Arg<'a>
     ensures rule { rule_of result ≡ named_flag name.entry.now }
     ensures local { result.global ≡ false }
@@ -29,7 +29,7 @@ pub fn flag<'a>(alloc: Global, name: &'a str, help: &'a str) -> Arg<'a>
         .help(help)
 }
 
-/// A command with one option more.
+/// A command with one more option.
 pub fn with_option<'a>(command: Command<'a>, option: Arg<'a>) -> Result<Command<'a>, AllocError>
     requires { option.global ≡ false }
     ensures app { IfOk result (λ more. app_of more ≡ with_rule (app_of command.entry) (rule_of option.entry)) }

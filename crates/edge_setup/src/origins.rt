@@ -10,7 +10,7 @@ use edge_types::around;
 use std::alloc::{AllocError, Global};
 use std::net::SocketAddr;
 
-/// The origins that `--origin` names; none where a word names none, or an authority stands twice.
+/// The origins that `--origin` names; `None` if a word doesn't name one, or an authority is given twice.
 pub(crate) fn origins_of(
     alloc: Global,
     matches: &ArgMatches<'_>,
@@ -23,7 +23,7 @@ pub(crate) fn origins_of(
     }
 }
 
-// The origins that words are.
+// The origins that the words name.
 fn origins_in(alloc: Global, words: &[&str]) -> Result<Option<Vec<Origin>>, AllocError>
     ensures { IfOk result (spec.AreFound (Some (map (λ word. word.now) words.now))) }
 {
@@ -39,7 +39,7 @@ fn origins_in(alloc: Global, words: &[&str]) -> Result<Option<Vec<Origin>>, Allo
     Ok(Some(origins))
 }
 
-// Adds an origin, where none has its authority.
+// Adds an origin, if no other has its authority.
 fn add(origins: &mut Vec<Origin>, origin: Origin) -> Result<bool, AllocError>
     ensures new { IfOk result (λ added. added ≡ not (spec.has origin.authority.items origins.old.items)) }
     ensures more { IfOk result (λ added. IsTrue added → origins.new.items ≡ origins.old.items ++ origin ∷ []) }
@@ -62,7 +62,7 @@ fn has(origins: &[Origin], authority: &[u8]) -> bool
         .any(|origin| origin.authority.as_slice() == authority)
 }
 
-// The origin that a word is.
+// The origin that a word names.
 fn origin_of(alloc: Global, word: &str) -> Result<Option<Origin>, AllocError>
     ensures { IfOk result (λ found. MatchOption found (spec.IsNoOrigin word.now) (λ origin. NamesOrigin word.now origin.authority.items origin.address)) }
 {

@@ -1,4 +1,4 @@
-//! What a server is told.
+//! The setup of a server.
 
 ghost use Rattle.std.specs.Prelude.{◌≡◌};
 ghost use Rattle.edge_setup.specs.Words.{refusal_of};
@@ -20,9 +20,9 @@ pub struct Origin {
 /// How pages are assembled and kept.
 #[derive(Clone, Copy)]
 pub struct Pages {
-    /// The threads that may work for a page.
+    /// The most threads that work for one page.
     pub workers: u8,
-    /// How many slots posts may open ahead.
+    /// The most slots that posts open ahead.
     pub ahead: u16,
     /// The levels of includes under a page.
     pub levels: u8,
@@ -33,15 +33,15 @@ pub struct Pages {
 /// How connections are served.
 #[derive(Clone, Copy)]
 pub struct Serving {
-    /// After so many connections the server ends.
+    /// The server ends after this many connections.
     pub accept: u64,
-    /// The milliseconds that a fetch may take; 0 for no limit.
+    /// The milliseconds that a fetch may take; 0 means no limit.
     pub timeout: u32,
-    /// The milliseconds that a client may take; 0 for no limit.
+    /// The milliseconds that a client may take; 0 means no limit.
     pub client_timeout: u32,
-    /// The connections that are served at once.
+    /// The most connections that are served at once.
     pub threads: u16,
-    /// Whether each request is told on standard error.
+    /// Whether each request is reported on standard error.
     pub logs: bool,
 }
 
@@ -50,7 +50,7 @@ pub struct Serving {
 pub struct Setup {
     /// Where the server listens.
     pub listen: SocketAddr,
-    /// The origins, no two of one authority.
+    /// The origins, no two with the same authority.
     pub origins: Vec<Origin>,
     /// How pages are assembled and kept.
     pub pages: Pages,
@@ -58,28 +58,28 @@ pub struct Setup {
     pub serving: Serving,
 }
 
-/// The options of `serve` whose words may be no use.
+/// The options of `serve` whose values may be invalid.
 #[derive(Clone, Copy, Drop, PartialEq, Eq)]
 pub enum Named {
-    /// `--listen`: no address.
+    /// `--listen`: not an address.
     Listen,
-    /// `--origin`: no authority with an address, or one that stands twice.
+    /// `--origin`: not an authority with an address, or an authority given twice.
     Origin,
-    /// `--workers`: no number within the limits.
+    /// `--workers`: not a number within the limits.
     Workers,
-    /// `--ahead`: no number within the limits.
+    /// `--ahead`: not a number within the limits.
     Ahead,
-    /// `--levels`: no number within the limits.
+    /// `--levels`: not a number within the limits.
     Levels,
-    /// `--capacity`: no number within the limits.
+    /// `--capacity`: not a number within the limits.
     Capacity,
-    /// `--accept`: no number within the limits.
+    /// `--accept`: not a number within the limits.
     Accept,
-    /// `--timeout`: no number within the limits.
+    /// `--timeout`: not a number within the limits.
     Timeout,
-    /// `--client-timeout`: no number within the limits.
+    /// `--client-timeout`: not a number within the limits.
     ClientTimeout,
-    /// `--threads`: no number within the limits.
+    /// `--threads`: not a number within the limits.
     Threads,
 }
 
@@ -105,12 +105,12 @@ impl Named {
     }
 }
 
-/// Why the words of `serve` ask for nothing.
+/// Why the words of `serve` are refused.
 #[derive(Clone, Copy, Drop, PartialEq, Eq)]
 pub enum SetupFault {
-    /// What an option says is no use.
+    /// The value of this option is invalid.
     Wrong(Named),
-    /// A growth was refused.
+    /// An allocation failed.
     NoMemory,
 }
 

@@ -12,14 +12,14 @@ use clap::ArgMatches;
 use std::alloc::Global;
 use std::net::SocketAddr;
 
-/// What an option says.
+/// The value of an option.
 pub(crate) fn word_of<'a>(matches: &ArgMatches<'a>, name: &str) -> Option<&'a str>
     ensures { option_map (λ word. word.now) result ≡ first_of name.now (rows_of (found_of matches.now)) }
 {
     matches.get_str(name)
 }
 
-// After how many connections the server ends.
+// The number of connections after which the server ends.
 fn accepts_of(word: Option<&str>) -> Option<u64>
     ensures { result ≡ accepts_of (option_map (λ w. w.now) word.entry) }
 {
@@ -29,14 +29,14 @@ fn accepts_of(word: Option<&str>) -> Option<u64>
     }
 }
 
-// The address that a word is.
+// The address that a word writes.
 fn address_of(word: Option<&str>) -> Option<SocketAddr>
     ensures { MatchOption result ((address : SocketAddr) → IsAddress (option_map (λ w. w.now) word.entry) address → ⊥) (IsAddress (option_map (λ w. w.now) word.entry)) }
 {
     word?.parse().ok()
 }
 
-/// Whether a flag is there, by what its option says.
+/// Whether a flag is set, by its option's value.
 pub fn is_set(word: Option<&str>) -> bool
     ensures { result ≡ is_set (option_map (λ w. w.now) word.entry) }
 {
@@ -72,8 +72,8 @@ fn serving_of(matches: &ArgMatches<'_>) -> Result<Serving, Named>
     })
 }
 
-/// What the options of `serve` ask for, or the first in the order of their limits that says nothing
-/// that can be used.
+/// What the options of `serve` ask for, or the first of them, in the order of their limits, whose value
+/// is invalid.
 ///
 /// Our profile.
 pub fn setup_of(alloc: Global, matches: &ArgMatches<'_>) -> Result<Setup, SetupFault>

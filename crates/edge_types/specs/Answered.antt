@@ -1,4 +1,4 @@
--- What an origin answered, and which answers the edge takes in.
+-- What an origin answered, and which answers the edge accepts.
 use Rattle.std.specs.Prelude.{ℕ, ◌≤◌, Bool, false, ◌&&◌, nat_le, List, [], length, All, ⊤}
 use Rattle.edge_types.specs.declared.answer.Reply.{Reply}
 use Rattle.edge_types.specs.declared.answer.Reply.TheVariants.{Failed, Got}
@@ -9,7 +9,7 @@ pub record Answered : Type 0 where
   pub url : List ℕ
   pub reply : Reply
 
--- nothing could be had
+-- nothing could be fetched
 abbrev pub failed : List ℕ → Answered
 failed url = record { url = url; reply = Failed }
 
@@ -21,7 +21,7 @@ got url status content_type control body = record { url = url; reply = Got statu
 abbrev pub IsPrintable : ℕ → Type 0
 IsPrintable b = (32 ≤ b) × (b ≤ 126)
 
--- what the edge takes in of an answer
+-- which answers the edge accepts
 pub record IsAcceptable (status : ℕ) (content_type body : List ℕ) : Type 0 where
   pub status_from : 200 ≤ status
   pub status_to : status ≤ 599
@@ -29,7 +29,7 @@ pub record IsAcceptable (status : ℕ) (content_type body : List ℕ) : Type 0 w
   pub type_length : length content_type ≤ 256
   pub type_printable : All IsPrintable content_type
 
--- a failure, or an answer that the edge takes in
+-- a failure, or an answer that the edge accepts
 abbrev pub IsWithinLimits : Reply → Type 0
 IsWithinLimits Failed = ⊤
 IsWithinLimits (Got status content_type control body) = IsAcceptable status content_type body
@@ -48,7 +48,7 @@ abbrev pub processed : Reply → Bool
 processed Failed = false
 processed (Got status content_type control body) = is_success status && control.esi
 
--- the body, which a failure doesn't have
+-- the body; a failure has none
 abbrev pub body_of : Reply → List ℕ
 body_of Failed = []
 body_of (Got status content_type control body) = body

@@ -11,7 +11,7 @@ is_blank b = b == byte " " || b == byte "\t"
 abbrev pub AreBlank : List ℕ → Type 0
 AreBlank text = list_all is_blank text ≡ true
 
--- the text from its first byte on that is no blank
+-- the text from its first byte on that isn't a blank
 abbrev pub skip_blanks : List ℕ → List ℕ
 skip_blanks [] = []
 skip_blanks (b ∷ bs) = if is_blank b then skip_blanks bs else b ∷ bs

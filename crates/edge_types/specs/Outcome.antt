@@ -1,4 +1,4 @@
--- What a page comes to, as its reader sees it.
+-- The outcome of a page, as its reader sees it.
 use Rattle.std.specs.Prelude.{ℕ, List, codes}
 use Rattle.edge_types.specs.declared.outcome.Outcome.{Outcome}
 use Rattle.edge_types.specs.declared.outcome.Outcome.TheVariants as outcome

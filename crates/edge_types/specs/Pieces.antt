@@ -6,7 +6,7 @@ use Rattle.std.specs.List.{concat}
 abbrev pub joined : List (List ℕ) → List ℕ
 joined pieces = concat pieces
 
--- the pieces with these bytes after them: nothing makes no piece
+-- the pieces with these bytes after them: no bytes make no piece
 abbrev pub with_piece : List (List ℕ) → List ℕ → List (List ℕ)
 with_piece pieces [] = pieces
 with_piece pieces (byte ∷ bytes) = pieces ++ (byte ∷ bytes) ∷ []

@@ -21,6 +21,6 @@ pub record Places (firsts : BTreeMap ℕ ℕ) (others : BTreeMap (List ℕ) ℕ)
   pub first : (print : ℕ) → get nat_cmp firsts print ≡ position (has_print print) answers
   -- an answer that is not the first of its fingerprint is in `others`
   pub rest : (url : List ℕ) → (position (is_of url) answers ≡ position (has_print (print_of url)) answers) ⊎ (get (slice_cmp nat_cmp) others url ≡ position (is_of url) answers)
-  -- what is in `others` is in its place
+  -- what is in `others` is the right place
   pub right : (url : List ℕ) → (get (slice_cmp nat_cmp) others url ≡ None) ⊎ (get (slice_cmp nat_cmp) others url ≡ position (is_of url) answers)
   pub once : IsTable answers

@@ -8,6 +8,6 @@ use Rattle.edge_types.specs.declared.request.Request.{Request}
 abbrev pub query_of : List ℕ → List ℕ
 query_of text = after_first (λ b. b == byte "?") (before_first (λ b. b == byte "#") text)
 
--- a request that says nothing
+-- a request without fields and without a query
 abbrev pub empty_request : Request
 empty_request = record { host = []; cookie = []; referer = []; user_agent = []; accept_language = []; query = [] }

@@ -1,4 +1,4 @@
--- What origins answer, as a whole: of each URL at most one answer.
+-- What origins answer, all together: at most one answer for each URL.
 use Rattle.std.specs.Prelude.{◌≡◌, ◌≢◌, ℕ, Bool, bytes_eq, List, find, All, AllPairs, Option, Some, None}
 use Rattle.edge_types.specs.declared.answer.Reply.{Reply}
 use Rattle.edge_types.specs.declared.answer.Reply.TheVariants.{Failed}
@@ -16,7 +16,7 @@ abbrev pub reply_in : Option Answered → Reply
 reply_in (Some answer) = answer.reply
 reply_in None = Failed
 
--- the reply of a URL: a URL that isn't there can't be had
+-- the reply of a URL: one that isn't there can't be fetched
 abbrev pub reply_of : List Answered → List ℕ → Reply
 reply_of table url = reply_in (answer_of table url)
 

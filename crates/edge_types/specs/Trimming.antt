@@ -1,4 +1,4 @@
--- What is left of a text without the blanks at its ends, told without a search.
+-- What is left of a text without the blanks at its ends, stated without a search.
 use Rattle.std.specs.Prelude.{◌≡◌, ◌↔◌, ℕ, false, List, [], ◌∷◌, ◌++◌}
 use Rattle.edge_types.specs.Blanks.{is_blank, AreBlank, trimmed}
 
@@ -12,6 +12,6 @@ pub record IsTrimmed (text middle : List ℕ) : Type 0 where
   pub begins : (first : ℕ) (rest : List ℕ) → middle ≡ first ∷ rest → is_blank first ≡ false
   pub ends : (front : List ℕ) (last : ℕ) → middle ≡ front ++ last ∷ [] → is_blank last ≡ false
 
--- A trimmed text is what stands between the blanks at its ends, and nothing else is.
+-- A trimmed text is what is between the blanks at its ends, and nothing else is.
 abbrev pub TrimsTexts : Type 0
 TrimsTexts = (text middle : List ℕ) → (trimmed text ≡ middle) ↔ IsTrimmed text middle

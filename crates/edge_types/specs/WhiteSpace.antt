@@ -7,7 +7,7 @@ use Rattle.std.specs.Str.{byte}
 abbrev pub is_ws : ℕ → Bool
 is_ws b = b == byte " " || (b == byte "\t" || (b == byte "\r" || b == byte "\n"))
 
--- how many bytes of white space stand at the front
+-- how many bytes of white space are at the front
 abbrev pub ws_len : List ℕ → ℕ
 ws_len text = prefix_len is_ws text
 

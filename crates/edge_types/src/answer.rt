@@ -18,16 +18,16 @@ pub const MAX_CONTENT_TYPE: usize = 256;
 /// The longest body, in bytes.
 pub const MAX_BODY: usize = 262_144;
 
-/// What came of asking a URL.
+/// The result of fetching a URL.
 #[derive(Drop, PartialEq, Eq)]
 pub enum Reply {
-    /// Nothing could be had.
+    /// Nothing could be fetched.
     Failed,
     /// An origin answered.
     Got {
         /// The HTTP status.
         status: u16,
-        /// The `Content-Type` field; empty for an absent one.
+        /// The `Content-Type` field; empty if absent.
         content_type: Octets,
         /// What the origin asks of the edge.
         control: Control,
@@ -36,7 +36,7 @@ pub enum Reply {
     },
 }
 
-/// A URL and what came of asking it, within the limits of the edge.
+/// A URL and the result of fetching it, within the limits of the edge.
 #[derive(Drop)]
 pub struct Answer {
     url: PageUrl,
@@ -56,7 +56,7 @@ impl Model for Answer {
 impl Answer {
     ghost use Rattle.edge_types.specs.Answered.{IsAcceptable, IsWithinLimits, failed, got, succeeded, processed, body_of};
 
-    /// The answer of a URL that could not be had. Takes no memory.
+    /// The answer of a URL that could not be fetched. Takes no memory.
     pub fn failed(url: PageUrl) -> Answer
         ensures { result ≡ failed url }
     {
@@ -68,9 +68,9 @@ impl Answer {
 
     /// The answer of a URL with this head and body. Takes no memory.
     ///
-    /// None where the status is not `MIN_STATUS` to `MAX_STATUS`, the body is longer than
+    /// `None` if the status is not `MIN_STATUS` to `MAX_STATUS`, the body is longer than
     /// `MAX_BODY` bytes, or the content type is longer than `MAX_CONTENT_TYPE` bytes or has one
-    /// that is neither printable ASCII nor a space; what was passed is dropped then.
+    /// that is neither printable ASCII nor a space; the arguments are dropped then.
     pub fn got(
         url: PageUrl,
         status: u16,
@@ -102,7 +102,7 @@ impl Answer {
         &self.url
     }
 
-    /// What came of it. Takes no memory.
+    /// The result of fetching it. Takes no memory.
     pub fn reply(&self) -> &Reply
         ensures value { result.now ≡ self.now.reply }
         ensures limits { IsWithinLimits result.now }
@@ -110,7 +110,7 @@ impl Answer {
         &self.reply
     }
 
-    /// The body, which a failure doesn't have. Takes no memory.
+    /// The body; a failure has none. Takes no memory.
     pub fn body(&self) -> &[u8]
         ensures { result.now ≡ body_of self.now.reply }
     {
@@ -120,7 +120,7 @@ impl Answer {
         }
     }
 
-    /// A second owner of the body, which a failure doesn't have.
+    /// A second owner of the body; a failure has none.
     pub fn share_body(&self) -> Result<SharedBytes, NoMemory>
         ensures { IfOk result (λ body. body ≡ body_of self.now.reply) }
     {
@@ -158,7 +158,7 @@ impl Answer {
 
 ghost use Rattle.edge_types.specs.Answered.{IsAcceptable, is_success};
 
-// Whether the edge takes in an answer with this head and body.
+// Whether the edge accepts an answer with this head and body.
 fn is_acceptable(status: u16, content_type: &Octets, body: &SharedBytes) -> bool
     ensures { IsTrue result ↔ IsAcceptable status content_type.now body.now }
 {

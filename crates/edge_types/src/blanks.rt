@@ -23,7 +23,7 @@ pub fn skip_blanks(mut text: &[u8]) -> &[u8]
     text
 }
 
-// The text up to its last byte that is no blank.
+// The text up to its last byte that isn't a blank.
 fn skip_last_blanks(mut text: &[u8]) -> &[u8]
     ensures { result.now ≡ reverse (skip_blanks (reverse text.now)) }
 {

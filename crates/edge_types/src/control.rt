@@ -9,7 +9,7 @@
 pub struct Control {
     /// The answer is not to be stored.
     pub no_store: bool,
-    /// For how many seconds the answer is fresh; `None` where nothing says so.
+    /// For how many seconds the answer is fresh; `None` if nothing says so.
     pub max_age: Option<u32>,
     /// For how many seconds past `max_age` the answer may bridge a failing origin.
     pub extension: u32,

@@ -15,7 +15,7 @@ pub fn find_byte(byte: u8, text: &[u8]) -> Option<usize>
     memchr(byte, text)
 }
 
-/// What stands before the first of this byte, and after it; none without one. Takes no memory.
+/// What is before the first of this byte, and what is after it; `None` without one. Takes no memory.
 #[tactic(auto, unfolding(crate::specs::Halves::around))]
 pub fn around(mark: u8, text: &[u8]) -> Option<(&[u8], &[u8])>
     ensures value { option_map lent_pair result ≡ around mark text.now }

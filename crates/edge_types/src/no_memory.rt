@@ -1,9 +1,9 @@
-//! Want of memory: what every call that allocates may tell, by itself or among its refusals.
+//! Out of memory: what every call that allocates may return, alone or among its refusals.
 
 use std::alloc::{AllocError, AllocFailed};
 use thiserror::Error;
 
-/// Memory ran out: a growth was refused.
+/// Memory ran out: an allocation failed.
 #[derive(Clone, Copy, Debug, Drop, PartialEq, Eq, Error)]
 #[error("out of memory: try again with more of it")]
 pub struct NoMemory;

@@ -1,4 +1,4 @@
-//! What a page comes to.
+//! The outcome of a page.
 
 ghost use Rattle.std.specs.Prelude.{◌≡◌};
 
@@ -12,7 +12,7 @@ pub enum Outcome {
     Page {
         /// The HTTP status.
         status: u16,
-        /// The `Content-Type` field; empty for an absent one.
+        /// The `Content-Type` field; empty if absent.
         content_type: Octets,
         /// The body.
         body: PageBody,
@@ -24,11 +24,11 @@ pub enum Outcome {
 /// Why a page can't be assembled.
 #[derive(Clone, Copy, Debug, Drop, PartialEq, Eq)]
 pub enum PageFault {
-    /// The page itself could not be had.
+    /// The page itself could not be fetched.
     PageFetch,
-    /// The page is no template; the place of the fault, in bytes.
+    /// The page isn't a template; the place of the fault, in bytes.
     BadTemplate(usize),
-    /// An include could not be had, and nothing stood in for it.
+    /// An include could not be fetched, and nothing stood in for it.
     IncludeFailed,
     /// The page tries more legs than the edge allows.
     TooManyLegs,

@@ -30,7 +30,7 @@ impl Model for PageBody {
 impl PageBody {
     ghost use Rattle.edge_types.specs.Pieces.{joined, IsPiece};
 
-    /// A body of no bytes. Takes no memory.
+    /// An empty body. Takes no memory.
     pub fn new(alloc: Global) -> PageBody
         ensures { result ≡ [] }
     {
@@ -54,7 +54,7 @@ impl PageBody {
         self.len == 0
     }
 
-    /// The bytes of the piece of this number, from 0; none past the last. Takes no memory.
+    /// The bytes of the piece with this number, from 0; `None` past the last. Takes no memory.
     pub fn piece(&self, i: usize) -> Option<&[u8]>
         ensures value { option_copied result ≡ slice_get self.now i }
         ensures nonempty { IfSome result (λ bytes. IsPiece bytes.now) }
@@ -65,7 +65,7 @@ impl PageBody {
         }
     }
 
-    /// A second owner of the piece of this number, from 0; none past the last.
+    /// A second owner of the piece with this number, from 0; `None` past the last.
     pub fn shared_piece(&self, i: usize) -> Result<Option<SharedBytes>, NoMemory>
         ensures { IfOk result (λ piece. piece ≡ slice_get self.now i) }
     {
@@ -86,9 +86,9 @@ impl PageBody {
 impl PageBody {
     ghost use Rattle.edge_types.specs.Pieces.{with_piece};
 
-    /// Adds a piece at the end; one of no bytes makes none.
+    /// Adds a piece at the end; an empty one isn't added.
     ///
-    /// A refusal, also of a body longer than `usize::MAX`, leaves the body as it was and drops
+    /// A refusal, which also comes if the body would exceed `usize::MAX`, leaves the body as it was and drops
     /// the piece.
     pub fn push(&mut self, piece: SharedBytes) -> Result<(), NoMemory>
         ensures ok { OnOk result (self.new ≡ with_piece self.old piece) }
@@ -106,7 +106,7 @@ impl PageBody {
         Ok(())
     }
 
-    /// Takes back every piece after the first `mark`. Takes no memory.
+    /// Removes every piece after the first `mark`. Takes no memory.
     pub fn cut(&mut self, mark: usize)
         ensures { self.new ≡ take mark self.old }
     {

@@ -1,4 +1,4 @@
-//! The URLs that an edge asks.
+//! The URLs that an edge fetches.
 ghost use Rattle.std.specs.Prelude.{◌≡◌, ◌↔◌, None, Some, IfOk, IsErr};
 
 use crate::no_memory::NoMemory;
@@ -10,10 +10,10 @@ use url::{ParseError, Url};
 
 /// The longest text that is resolved.
 pub const MAX_TEXT: usize = 8192;
-/// The longest URL that is asked.
+/// The longest URL that is fetched.
 pub const MAX_URL: usize = 2048;
 
-/// A URL that an edge asks. Contracts see its bytes.
+/// A URL that an edge fetches. Contracts see its bytes.
 #[derive(Drop)]
 pub struct PageUrl {
     url: Arc<Url>,
@@ -34,10 +34,10 @@ impl Model for PageUrl {
 impl PageUrl {
     ghost use Rattle.edge_types.specs.Asked.{asked, resolve, authority_of};
 
-    /// The URL that a text stands for by itself, without its `#` part.
+    /// The URL that a text denotes on its own, without its `#` part.
     ///
-    /// None where the text is longer than `MAX_TEXT` bytes or isn't UTF-8, where it is no URL, and
-    /// where the URL isn't `http`, has a user name or a password, or is longer than `MAX_URL`
+    /// `None` if the text is longer than `MAX_TEXT` bytes, isn't UTF-8 or isn't a URL, and
+    /// if the URL isn't `http`, has a user name or a password, or is longer than `MAX_URL`
     /// bytes.
     pub fn parse(alloc: Global, text: &[u8]) -> Result<Option<PageUrl>, NoMemory>
         ensures { IfOk result (λ found. found ≡ asked None text.now) }
@@ -51,14 +51,14 @@ impl PageUrl {
         }
     }
 
-    /// The URL that a text stands for in a template at this one; none as in `parse`.
+    /// The URL that a text denotes in a template at this one; `None` as in `parse`.
     pub fn resolve(&self, alloc: Global, text: &[u8]) -> Result<Option<PageUrl>, NoMemory>
         ensures { IfOk result (λ found. found ≡ resolve self.now text.now) }
     {
         join(alloc, &self.url, text)
     }
 
-    /// The URL's bytes. A URL stands for itself. Takes no memory.
+    /// The URL's bytes. A URL denotes itself. Takes no memory.
     #[tactic(auto, unfolding(crate::specs::Asked::url_text))]
     pub fn as_bytes(&self) -> &[u8]
         ensures value { result.now ≡ self.now }
@@ -67,7 +67,7 @@ impl PageUrl {
         self.url.as_str().as_bytes()
     }
 
-    /// The host, with `:port` where that isn't 80. Takes no memory.
+    /// The host, followed by `:port` if that isn't 80. Takes no memory.
     pub fn authority(&self) -> &[u8]
         ensures { result.now ≡ authority_of self.now }
     {
@@ -87,7 +87,7 @@ impl PageUrl {
 impl PageUrl {
     ghost use Rattle.edge_types.specs.Asked.{asked_of};
 
-    // The URL without its fragment, where the edge asks it.
+    // The URL without its fragment, if the edge fetches it.
     #[tactic(auto, using(crate::proofs::AskedLemmas::is_asked), unfolding(crate::specs::Asked::asked_of))]
     fn of(alloc: Global, mut url: Url) -> Result<Option<PageUrl>, NoMemory>
         ensures { IfOk result (λ found. found ≡ asked_of url) }
@@ -111,7 +111,7 @@ ghost use Rattle.url.specs.Parts.{IsValid};
 ghost use Rattle.url.specs.Parser.{IsOutOfRoom};
 ghost use Rattle.edge_types.specs.Asked.{asked};
 
-// The URL that a text stands for against a base.
+// The URL that a text denotes relative to a base.
 fn join(alloc: Global, base: &Url, text: &[u8]) -> Result<Option<PageUrl>, NoMemory>
     ensures { IfOk result (λ found. found ≡ asked (Some base.now) text.now) }
 {
@@ -124,7 +124,7 @@ fn join(alloc: Global, base: &Url, text: &[u8]) -> Result<Option<PageUrl>, NoMem
     }
 }
 
-// What a parser's error comes to: want of memory, or no URL.
+// What a parser's error means: out of memory, or not a URL.
 fn refused(e: ParseError) -> Result<Option<PageUrl>, NoMemory>
     ensures none { IfOk result (λ found. found ≡ None) }
     ensures room { IsErr result ↔ IsOutOfRoom e }
@@ -135,7 +135,7 @@ fn refused(e: ParseError) -> Result<Option<PageUrl>, NoMemory>
     }
 }
 
-// Whether the edge asks the URL.
+// Whether the edge fetches the URL.
 #[tactic(auto, using(crate::proofs::AskedLemmas::none_if_empty), unfolding(crate::specs::Asked::is_page, crate::specs::Asked::url_text))]
 fn is_page(url: &Url) -> bool
     ensures value { result ≡ is_page url.now }
@@ -147,7 +147,7 @@ fn is_page(url: &Url) -> bool
         && url.password().is_none()
 }
 
-// The text, where it is short enough and UTF-8.
+// The text, if it is short enough and UTF-8.
 #[tactic(auto, unfolding(crate::specs::Asked::resolvable))]
 fn resolvable(text: &[u8]) -> Option<&str>
     ensures { option_copied result ≡ resolvable text.now }

@@ -1,4 +1,4 @@
-//! What a reader's request says, as far as templates can ask for it.
+//! A reader's request, as far as templates can ask for it.
 
 ghost use Rattle.std.specs.Prelude.{◌≡◌, IfOk};
 
@@ -27,7 +27,7 @@ pub struct Request {
 impl Request {
     ghost use Rattle.edge_types.specs.Query.{empty_request};
 
-    /// A request with no field and no query. Takes no memory.
+    /// A request without fields and without a query. Takes no memory.
     pub fn empty(alloc: Global) -> Request
         ensures { result ≡ empty_request }
     {
@@ -80,7 +80,7 @@ pub fn query_of(text: &[u8]) -> &[u8]
 ghost use Rattle.std.specs.Prelude.{◌==◌, ◌≤◌, length};
 ghost use Rattle.std.specs.List.{position_or_len};
 
-// The place of the first such byte, or the length where there is none.
+// The place of the first such byte, or the length if there is none.
 fn place_or_len(byte: u8, text: &[u8]) -> usize
     ensures first { result ≡ position_or_len (λ b. b == byte) text.now }
     ensures within { result ≤ length text.now }

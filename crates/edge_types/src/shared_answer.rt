@@ -25,7 +25,7 @@ impl Model for SharedAnswer {
 }
 
 impl SharedAnswer {
-    /// Keeps this owner. Takes no memory.
+    /// Wraps this owner. Takes no memory.
     pub fn of(answer: Arc<Answer>) -> SharedAnswer
         ensures { result ≡ arc_value answer }
     {

@@ -33,7 +33,7 @@ impl SharedBytes {
         }
     }
 
-    /// Keeps these bytes, and copies none; what it takes is a count of owners.
+    /// Keeps these bytes and copies none; it allocates only a count of owners.
     pub fn of(bytes: Vec<u8>) -> Result<SharedBytes, NoMemory>
         ensures { IfOk result (λ shared. shared ≡ bytes.items) }
     {
@@ -42,7 +42,7 @@ impl SharedBytes {
         })
     }
 
-    /// Copies these bytes, for owners to come.
+    /// Copies these bytes, for several owners.
     pub fn copy_of(alloc: Global, bytes: &[u8]) -> Result<SharedBytes, NoMemory>
         ensures { IfOk result (λ shared. shared ≡ bytes.now) }
     {
@@ -70,7 +70,7 @@ impl SharedBytes {
         self.len() == 0
     }
 
-    /// A second owner. It is refused only where the count of owners is full.
+    /// A second owner. Refused only if the count of owners is full.
     pub fn share(&self) -> Result<SharedBytes, NoMemory>
         ensures { IfOk result (λ shared. shared ≡ self.now) }
     {
@@ -79,7 +79,7 @@ impl SharedBytes {
         })
     }
 
-    /// A second owner, of the bytes `from` to `to` alone. It is refused only where the count of
+    /// A second owner, of the bytes `from` to `to` alone. Refused only if the count of
     /// owners is full.
     pub fn part(&self, from: usize, to: usize) -> Result<SharedBytes, NoMemory>
         requires order { from ≤ to }
@@ -91,7 +91,7 @@ impl SharedBytes {
         })
     }
 
-    /// Gives the bytes out as a frame's. Takes no memory.
+    /// Gives the bytes up as those of a frame. Takes no memory.
     pub fn into_bytes(self) -> Bytes
         ensures { result ≡ self }
     {

@@ -1,4 +1,4 @@
-//! What origins answer, as a whole. Clauses see the list of the answers, in the order in which
+//! What origins answer, all together. Clauses see the list of the answers, in the order in which
 //! they were put in; no URL is answered twice.
 
 ghost use Rattle.std.specs.Prelude.{◌≡◌, ◌++◌, ◌∷◌, [], IsSome, IsErrAnd, OnOk, OnErr, ◌↔◌, IfErr, IfSome, IfNone, None};
@@ -40,13 +40,13 @@ impl Model for Table {
     ghost invariant = { λ t. Places t.firsts t.others t.answers.items };
 }
 
-/// Why a table doesn't take an answer.
+/// Why a table refuses an answer.
 #[derive(Clone, Copy, Debug, Drop, PartialEq, Eq, Error)]
 pub enum InsertFault {
     /// The table has an answer of that URL.
     #[error("the table has an answer of this URL: insert one answer of each")]
     Twice,
-    /// A growth was refused.
+    /// An allocation failed.
     #[error("out of memory: try again with more of it")]
     NoMemory,
 }
@@ -55,7 +55,7 @@ impl Table {
     ghost use Rattle.edge_types.specs.Table.{answer_of, IsTable};
     ghost use Rattle.std.specs.Option.{option_copied};
 
-    /// A table of no answers. Takes no memory.
+    /// An empty table. Takes no memory.
     pub fn new(alloc: Global) -> Table
         ensures { result ≡ [] }
     {
@@ -66,7 +66,7 @@ impl Table {
         }
     }
 
-    // The place of the first answer of this fingerprint.
+    // The place of the first answer with this fingerprint.
     fn first(&self, print: u64) -> Option<usize>
         ensures { result ≡ position (has_print print) self.now }
     {
@@ -84,7 +84,7 @@ impl Table {
         }
     }
 
-    /// The answer of a URL; none where the table has none. Takes no memory.
+    /// The answer of a URL; `None` if the table has none. Takes no memory.
     pub fn get(&self, url: &PageUrl) -> Option<&Arc<Answer>>
         ensures none { IfNone result (answer_of self.now url.now ≡ None) }
         ensures some { IfSome result (λ answer. answer_of self.now url.now ≡ Some (arc_value answer.now)) }
@@ -102,10 +102,10 @@ impl Table {
         self.get(url).is_some()
     }
 
-    /// Takes an answer in.
+    /// Inserts an answer.
     ///
-    /// `Twice` where the table has an answer of that URL, else `NoMemory` where a growth is
-    /// refused. A refusal hands the answer back and leaves the table as it was.
+    /// `Twice` if the table has an answer of that URL, else `NoMemory` if an allocation
+    /// fails. A refusal hands the answer back and leaves the table as it was.
     pub fn insert(&mut self, answer: Arc<Answer>) -> Result<(), (InsertFault, Arc<Answer>)>
         ensures ok { OnOk result (self.new ≡ self.old ++ arc_value answer ∷ []) }
         ensures twice { IsErrAnd result (λ (fault, back). fault ≡ InsertFault.Twice) ↔ IsSome (answer_of self.old (arc_value answer).url) }
@@ -120,7 +120,7 @@ impl Table {
         }
     }
 
-    // Takes in an answer of a URL that has none.
+    // Inserts an answer of a URL that has none.
     fn add(&mut self, answer: &Arc<Answer>) -> Result<(), NoMemory>
         requires { answer_of self.old (arc_value answer.now).url ≡ None }
         ensures ok { OnOk result (self.new ≡ self.old ++ arc_value answer.now ∷ []) }

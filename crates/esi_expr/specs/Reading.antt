@@ -22,7 +22,7 @@ abbrev pub after_ws : List ℕ → List ℕ
 after_ws [] = []
 after_ws (b ∷ bs) = if is_ws b then after_ws bs else b ∷ bs
 
--- what follows this byte, which white space may stand before
+-- what follows this byte, which may have white space before it
 unfoldable pub after_sign : ℕ → List ℕ → Option (List ℕ)
 after_sign sign text = after_byte sign (after_ws text)
 
@@ -48,15 +48,15 @@ symbol_at [] = None
 symbol_at (b ∷ []) = alone b []
 symbol_at (b ∷ c ∷ cs) = if c == byte "=" then paired b cs else alone b (c ∷ cs)
 
--- the same, which white space may stand before
+-- what the reader above finds, which may have white space before it
 unfoldable pub comparison_at : List ℕ → Option (Comparison × List ℕ)
 comparison_at text = symbol_at (after_ws text)
 
--- a text, cut
+-- a text, cut in two
 abbrev pub cut : ℕ → List ℕ → List ℕ × List ℕ
 cut n text = (take n text, drop n text)
 
--- the longest run of digits at the front, where it has 1 to 18
+-- the longest run of digits at the front, if it has 1 to 18
 unfoldable pub digits_at : List ℕ → Option (List ℕ × List ℕ)
 digits_at text = if is_digit_count (prefix_len is_ascii_digit text) then Some (cut (prefix_len is_ascii_digit text) text) else None
 
@@ -73,7 +73,7 @@ abbrev pub numbered : List ℕ → Option (List ℕ × List ℕ) → Option (Ope
 numbered sign None = None
 numbered sign (Some found) = Some (operand.Number (sign ++ found.0), found.1)
 
--- the operand at the front of a text, by the first byte, which tells its kind, and what follows that byte
+-- the operand at the front of a text, by the first byte, which shows its kind, and what follows that byte
 abbrev pub operand_by : ℕ → List ℕ → List ℕ → Option (Operand × List ℕ)
 operand_by b bs text =
     if b == byte "$" then referred (reference_at text)
@@ -85,7 +85,7 @@ abbrev pub operand_in : List ℕ → Option (Operand × List ℕ)
 operand_in [] = None
 operand_in (b ∷ bs) = operand_by b bs (b ∷ bs)
 
--- the same, which white space may stand before
+-- what the reader above finds, which may have white space before it
 unfoldable pub operand_at : List ℕ → Option (Operand × List ℕ)
 operand_at text = operand_in (after_ws text)
 
@@ -111,7 +111,7 @@ operand_or here (Some found) = Ok found
 abbrev pub wanted_at : List ℕ → Found Operand
 wanted_at text = operand_or (after_ws text) (operand_at text)
 
--- an operand alone, or compared with the one behind a comparison
+-- an operand alone, or compared with the one after a comparison
 abbrev pub compared : Operand → List ℕ → Option (Comparison × List ℕ) → Found Neg
 compared left text None = Ok (Filled left, text)
 compared left text (Some by) = do
@@ -124,12 +124,12 @@ plain_at text = do
   left ← wanted_at text
   compared left.0 left.1 (comparison_at left.1)
 
--- reading on behind a sign, where it stands there
+-- reading on after a sign, if it is there
 abbrev pub behind : {A : Type 0} → Option (List ℕ) → A × List ℕ → (List ℕ → Found A) → Found A
 behind None here onward = Ok here
 behind (Some rest) here onward = onward rest
 
--- to what has been read, what follows it behind such signs, one after another; as many as the number at most
+-- to what has been read, what follows it after such signs, one after another, at most this many times
 unfoldable pub joined_at : {A B : Type 0} → (A → B → A) → ℕ → (List ℕ → Found B) → ℕ → A → List ℕ → Found A
 joined_at join sign next zero front text = Ok (front, text)
 joined_at join sign next (suc n) front text =
@@ -152,25 +152,25 @@ abbrev pub closed : Test → List ℕ → Option (List ℕ) → Found Neg
 closed inner here None = Err (wanted.Closing, here)
 closed inner here (Some rest) = Ok (Group inner, rest)
 
--- behind `!`
+-- what follows `!`
 abbrev pub not_with : (List ℕ → Found Neg) → List ℕ → Found Neg
 not_with neg text = do
   inner ← neg text
   Ok (Not inner.0, inner.1)
 
--- behind `(`
+-- what follows `(`
 abbrev pub group_with : (List ℕ → Found Neg) → List ℕ → Found Neg
 group_with neg text = do
   inner ← test_with neg text
   closed inner.0 (after_ws inner.1) (after_sign (byte ")") inner.1)
 
--- by what follows `!` and what follows `(`, where they stand there
+-- by what follows `!` and what follows `(`, if they are there
 abbrev pub nested : Option (List ℕ) → Option (List ℕ) → List ℕ → (List ℕ → Found Neg) → Found Neg
 nested (Some rest) parenthesis text neg = not_with neg rest
 nested None (Some rest) text neg = group_with neg rest
 nested None None text neg = plain_at text
 
--- a negation with at most as many `!` and `(` round an operand as the number says
+-- a negation with at most this many `!` and `(` around an operand
 unfoldable pub neg_at : ℕ → List ℕ → Found Neg
 neg_at zero text = plain_at text
 neg_at (suc n) text = nested (after_sign (byte "!") text) (after_sign (byte "(") text) text (neg_at n)

@@ -35,7 +35,7 @@ IsOperand (operand.Number spelling) bytes = (is_number spelling ≡ true) × (by
 abbrev pub SpellsOperand : Operand → List ℕ → Type 0
 SpellsOperand one piece = (bytes : List ℕ) × IsOperand one bytes × Padded bytes piece
 
--- Comparisons bind tightest, then `!`, then `&`, then the bar. White space may stand before each part.
+-- Comparisons bind tightest, then `!`, then `&`, then the bar. White space may come before each part.
 abbrev mutual
   pub Spells : Test → List ℕ → Type 0
   Spells (Single only) piece = SpellsConj only piece
@@ -55,7 +55,7 @@ abbrev mutual
   SpellsNeg (Compared left by right) piece =
       (before : List ℕ) × (sign : List ℕ) × (after : List ℕ) × SpellsOperand left before × Padded (symbol by) sign × SpellsOperand right after × (piece ≡ before ++ (sign ++ after))
 
--- the most `(` and `!` that stand round an operand, counted together
+-- the most `(` and `!` around an operand, counted together
 abbrev mutual
   pub nesting : Test → ℕ
   nesting (Single only) = conj_nesting only
@@ -71,7 +71,7 @@ abbrev mutual
   neg_nesting (Filled only) = 0
   neg_nesting (Compared left by right) = 0
 
--- the text is this test: its spelling, and white space or none
+-- the text is this test: its spelling, and white space or none after it
 pub record IsTest (one : Test) (text : List ℕ) : Type 0 where
   pub piece : List ℕ
   pub ws : List ℕ

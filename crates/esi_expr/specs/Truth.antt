@@ -18,7 +18,7 @@ text_of request (operand.Reference reference) = value_of request reference
 text_of request (operand.Quoted bytes) = bytes
 text_of request (operand.Number spelling) = spelling
 
--- whether a comparison asks for this order
+-- whether a comparison is true of this order
 abbrev pub accepts : Comparison → Ordering → Bool
 accepts comparison.EqualTo order = is_eq order
 accepts comparison.Unequal order = is_ne order
@@ -32,11 +32,11 @@ abbrev pub order_by : Option ℤ → Option ℤ → List ℕ → List ℕ → Or
 order_by (Some m) (Some n) left right = int_cmp m n
 order_by _ _ left right = slice_cmp nat_cmp left right
 
--- the order of two texts: that of the numbers where both are numbers
+-- the order of two texts: that of the numbers if both are numbers
 unfoldable pub order_of : List ℕ → List ℕ → Ordering
 order_of left right = order_by (number_of left) (number_of right) left right
 
--- whether a comparison of two texts is true: never where one is empty
+-- whether a comparison of two texts is true: never if one is empty
 abbrev pub compares : List ℕ → Comparison → List ℕ → Bool
 compares [] by right = false
 compares (b ∷ bs) by [] = false

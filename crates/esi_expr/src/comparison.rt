@@ -1,4 +1,4 @@
-// Comparisons of texts.
+//! Comparisons of texts.
 
 ghost use Rattle.std.specs.Prelude.{◌≡◌};
 ghost use Rattle.esi_expr.specs.Truth.{accepts, order_of, compares};
@@ -8,7 +8,7 @@ use crate::number::number_of;
 use std::cmp::Ordering;
 
 impl Comparison {
-    // Whether it asks for this order.
+    // Whether the comparison is true of this order.
     fn accepts(self, order: Ordering) -> bool
         ensures { result ≡ accepts self order }
     {
@@ -23,7 +23,7 @@ impl Comparison {
     }
 }
 
-// The order of two texts: that of the numbers where both are numbers, else the one byte by byte.
+// The order of two texts: of the numbers if both are numbers, else byte by byte.
 #[tactic(auto, unfolding(crate::specs::Truth::order_of))]
 fn order_of(left: &[u8], right: &[u8]) -> Ordering
     ensures { result ≡ order_of left.now right.now }
@@ -34,7 +34,7 @@ fn order_of(left: &[u8], right: &[u8]) -> Ordering
     }
 }
 
-/// Whether a comparison of two texts is true; never where one of them is empty.
+/// Whether a comparison of two texts is true; never if one of them is empty.
 pub(crate) fn compares(left: &[u8], by: Comparison, right: &[u8]) -> bool
     ensures { result ≡ compares left.now by right.now }
 {

@@ -23,10 +23,10 @@ pub enum Comparison {
     Above,
 }
 
-/// What stands for a text in a test.
+/// An operand of a test, which has a text.
 #[derive(Drop)]
 pub enum Operand {
-    /// A reference, which stands for its value.
+    /// A reference, which denotes its value.
     Reference(Reference),
     /// The bytes between two quotes.
     Quoted(Octets),
@@ -40,7 +40,7 @@ pub enum Operand {
 pub struct Expr {
     /// The first conjunction.
     pub first: Conjunction,
-    /// Those behind it, in the text's order.
+    /// Those after it, in the text's order.
     pub more: Vec<Conjunction>,
 }
 
@@ -59,7 +59,7 @@ impl Expr {
 pub struct Conjunction {
     /// The first negation.
     pub first: Negation,
-    /// Those behind it, in the text's order.
+    /// Those after it, in the text's order.
     pub more: Vec<Negation>,
 }
 
@@ -72,7 +72,7 @@ impl Conjunction {
     }
 }
 
-/// A part of a test that `&` and the bar don't cut.
+/// A part of a test that neither `&` nor the bar divides.
 #[cycle(expression)]
 #[derive(Drop)]
 pub enum Negation {

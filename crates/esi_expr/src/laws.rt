@@ -6,13 +6,13 @@ ghost use Rattle.esi_expr.specs.Laws.{ReadsTests, TestsAreOne};
 use crate::number::DIGIT_LIMIT;
 use crate::reading::NESTING_LIMIT;
 
-/// What is read is spelled so, and what is spelled so is read; a text spells one test at most.
+/// What is read is spelled by the text, and what is spelled is read; a text spells at most one test.
 pub fn tests_are_read()
     ensures read { ReadsTests }
     ensures one { TestsAreOne }
 {}
 
-/// The limits of a test, in figures.
+/// The limits of a test, as numbers.
 ///
 /// Our profile.
 pub fn limits_of_tests()

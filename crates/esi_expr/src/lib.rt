@@ -1,4 +1,4 @@
-//! Tests: the texts of `test` attributes, read, and whether they hold for a reader's request.
+//! Tests: how the texts of `test` attributes are read, and whether they hold for a reader's request.
 #![tactic(auto)]
 
 mod comparison;

@@ -1,4 +1,4 @@
-// Texts that are numbers.
+//! Texts that are numbers.
 
 ghost use Rattle.std.specs.Prelude.{◌≡◌, ◌<◌, ◌^◌, true};
 ghost use Rattle.std.specs.Char.{is_ascii_digit};
@@ -11,7 +11,7 @@ ghost use Rattle.esi_expr.specs.Numbers.{is_digit_count, are_digits, is_negative
 /// Our profile.
 pub const DIGIT_LIMIT: usize = 18;
 
-/// The number that a text is: an optional `-` and 1 to 18 digits. `None` where it is no number.
+/// The number that a text is: an optional `-` and 1 to 18 digits. `None` if it isn't a number.
 #[tactic(auto, unfolding(crate::specs::Numbers::number_of))]
 pub(crate) fn number_of(text: &[u8]) -> Option<i64>
     ensures { result ≡ number_of text.now }
@@ -28,14 +28,14 @@ pub(crate) fn number_of(text: &[u8]) -> Option<i64>
     }
 }
 
-// Whether a minus stands at the front.
+// Whether the text begins with a minus.
 fn is_negative(text: &[u8]) -> bool
     ensures { result ≡ is_negative text.now }
 {
     matches!(text, [b'-', ..])
 }
 
-// What follows the minus, where one stands at the front.
+// What follows the minus, if the text begins with one.
 fn after_minus(text: &[u8]) -> &[u8]
     ensures { result.now ≡ after_minus text.now }
 {
@@ -45,7 +45,7 @@ fn after_minus(text: &[u8]) -> &[u8]
     }
 }
 
-// Whether the text is as many digits as a number may have.
+// Whether the text consists of digits, as many as a number may have.
 fn are_digits(text: &[u8]) -> bool
     ensures { result ≡ are_digits text.now }
 {
@@ -58,14 +58,14 @@ fn all_digits(text: &[u8]) -> bool
     text.iter().all(|byte| byte.is_ascii_digit())
 }
 
-/// Whether a number may have so many digits.
+/// Whether a number may have this many digits.
 pub(crate) fn is_digit_count(len: usize) -> bool
     ensures { result ≡ is_digit_count len }
 {
     0 < len && len <= DIGIT_LIMIT
 }
 
-// What digits stand for.
+// The value of digits.
 fn magnitude(digits: &[u8]) -> u64
     requires { are_digits digits.now ≡ true }
     ensures value { result ≡ digits_value 10 digits.now }

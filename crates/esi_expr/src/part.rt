@@ -1,4 +1,4 @@
-// The parts of a test's text, each with the white space before it.
+//! The parts of a test's text, each with the white space before it.
 
 ghost use Rattle.std.specs.Prelude.{◌≡◌, ◌≤◌, length, IfOk};
 ghost use Rattle.std.specs.Char.{is_ascii_digit};
@@ -15,7 +15,7 @@ use edge_types::{NoMemory, Octets, is_ws};
 use esi_vars::{after_byte, cut_at, reference_at};
 use std::alloc::Global;
 
-/// The quotation mark round texts.
+/// The quotation mark around texts.
 const QUOTE: u8 = b'\'';
 
 /// What follows the white space at the front.
@@ -40,7 +40,7 @@ pub(crate) fn after_sign(sign: u8, text: &[u8]) -> Option<&[u8]>
     after_byte(sign, after_ws(text))
 }
 
-// The comparison of this byte and `=`.
+// The comparison spelled by this byte and `=`.
 fn paired(first: u8, rest: &[u8]) -> Option<(Comparison, &[u8])>
     ensures { shown result ≡ paired first rest.now }
 {
@@ -53,7 +53,7 @@ fn paired(first: u8, rest: &[u8]) -> Option<(Comparison, &[u8])>
     }
 }
 
-// The comparison of this byte alone.
+// The comparison spelled by this byte alone.
 fn alone(first: u8, rest: &[u8]) -> Option<(Comparison, &[u8])>
     ensures { shown result ≡ alone first rest.now }
 {
@@ -76,7 +76,7 @@ pub(crate) fn comparison_at(text: &[u8]) -> Option<(Comparison, &[u8])>
     }
 }
 
-// How many digits stand at the front.
+// How many digits are at the front.
 fn digits_len(text: &[u8]) -> usize
     ensures value { result ≡ prefix_len is_ascii_digit text.now }
     ensures within { result ≤ length text.now }
@@ -89,7 +89,7 @@ fn digits_len(text: &[u8]) -> usize
     text.len()
 }
 
-// The longest run of digits, where a number may have so many, and what follows it.
+// The longest run of digits, if a number may have that many, and what follows it.
 #[tactic(auto, unfolding(crate::specs::Reading::digits_at))]
 fn digits_at(text: &[u8]) -> Option<(&[u8], &[u8])>
     ensures { shown_run result ≡ digits_at text.now }
@@ -112,7 +112,7 @@ fn referred(alloc: Global, text: &[u8]) -> Result<Option<(Operand, &[u8])>, NoMe
     }
 }
 
-// Bytes between quotes as an operand, behind the first quote, and what follows the second.
+// Bytes between quotes as an operand, from after the first quote on, and what follows the second.
 fn quoted(alloc: Global, text: &[u8]) -> Result<Option<(Operand, &[u8])>, NoMemory>
     ensures { IfOk result (λ found. shown found ≡ quoted (cut_at 39 text.now)) }
 {
@@ -125,7 +125,7 @@ fn quoted(alloc: Global, text: &[u8]) -> Result<Option<(Operand, &[u8])>, NoMemo
     }
 }
 
-// A number as an operand, behind its sign, and what follows it.
+// A number as an operand, from after its sign on, and what follows it.
 fn numbered<'a>(
     alloc: Global,
     sign: &[u8],

@@ -10,7 +10,7 @@ use crate::stop::{Halt, Stop, Wanted};
 use edge_types::NoMemory;
 use std::alloc::Global;
 
-/// The most `(` and `!` round an operand, counted together.
+/// The most `(` and `!` around an operand, counted together.
 ///
 /// Our profile.
 pub const NESTING_LIMIT: u8 = 32;
@@ -71,7 +71,7 @@ fn test_at(alloc: Global, nesting: u8, text: &[u8]) -> Result<(Expr, &[u8]), Hal
     Ok((Expr::of(first, more), rest))
 }
 
-// A negation with at most so many `!` and `(` round an operand.
+// A negation with at most this many `!` and `(` around an operand.
 #[cycle(reading)]
 #[tactic(auto, using(crate::proofs::Fuel::above), unfolding(crate::specs::Reading::neg_at))]
 fn negation_at(alloc: Global, nesting: u8, text: &[u8]) -> Result<(Negation, &[u8]), Halt>
@@ -84,7 +84,7 @@ fn negation_at(alloc: Global, nesting: u8, text: &[u8]) -> Result<(Negation, &[u
     }
 }
 
-// The same with at most so many behind the first `!` or `(`.
+// A negation with at most this many after its first `!` or `(`.
 #[cycle(reading)]
 #[tactic(auto, unfolding(crate::specs::Reading::neg_at))]
 fn nested_at(alloc: Global, nesting: u8, text: &[u8]) -> Result<(Negation, &[u8]), Halt>
@@ -99,7 +99,7 @@ fn nested_at(alloc: Global, nesting: u8, text: &[u8]) -> Result<(Negation, &[u8]
     }
 }
 
-// Behind `!`.
+// What follows `!`.
 #[cycle(reading)]
 fn not_at(alloc: Global, nesting: u8, text: &[u8]) -> Result<(Negation, &[u8]), Halt>
     ensures { Finds neg_of result (spec.not_with (spec.neg_at nesting) text.now) }
@@ -108,7 +108,7 @@ fn not_at(alloc: Global, nesting: u8, text: &[u8]) -> Result<(Negation, &[u8]), 
     Ok((Negation::Not(Box::new(alloc, inner)?), rest))
 }
 
-// Behind `(`.
+// What follows `(`.
 #[cycle(reading)]
 fn group_at(alloc: Global, nesting: u8, text: &[u8]) -> Result<(Negation, &[u8]), Halt>
     ensures { Finds neg_of result (spec.group_with (spec.neg_at nesting) text.now) }
@@ -125,7 +125,7 @@ fn group_at(alloc: Global, nesting: u8, text: &[u8]) -> Result<(Negation, &[u8])
 
 /// Reads the test that a text is, or says where its reading stops.
 ///
-/// At most `NESTING_LIMIT` `(` and `!` may stand round an operand, and a number has at most `DIGIT_LIMIT` digits.
+/// At most `NESTING_LIMIT` `(` and `!` may be around an operand, and a number has at most `DIGIT_LIMIT` digits.
 ///
 /// Source: ESI Language Specification 1.0, "Expressions" and "Operators"; the spelling of operands and the limits are
 /// our profile.

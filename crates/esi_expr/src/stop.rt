@@ -3,7 +3,7 @@
 use edge_types::NoMemory;
 use std::alloc::AllocFailed;
 
-/// What a test needs to go on.
+/// What a test needs in order to go on.
 #[derive(Clone, Copy, Debug, Drop, PartialEq, Eq)]
 pub enum Wanted {
     Operand,
@@ -13,7 +13,7 @@ pub enum Wanted {
     Closing,
 }
 
-/// What is wanted, and the text from there on.
+/// What is wanted, and the rest of the text from there on.
 #[derive(Clone, Copy, Drop)]
 pub struct Stop<'a> {
     pub wanted: Wanted,

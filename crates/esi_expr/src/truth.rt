@@ -10,7 +10,7 @@ use edge_types::Request;
 use esi_vars::value;
 
 impl Operand {
-    // The text that it stands for.
+    // The text that it denotes.
     fn text<'a>(&'a self, request: &'a Request) -> &'a [u8]
         ensures { result.now ≡ text_of request.now self.now }
     {

@@ -1,4 +1,4 @@
--- The URLs that the sources of a template stand for: those that are fetched ahead, and those that a log may have. Which
+-- The URLs that the sources of a template denote: those that are fetched ahead, and those that a log may have. Which
 -- are fetched ahead is our profile.
 use Rattle.std.specs.Prelude.{◌≡◌, ℕ, true, List, [], ◌∷◌, ◌++◌, filter_map, Any, Contains, Option, Some, None, Result, Ok, Err, if◌then◌else◌}
 use Rattle.edge_types.specs.declared.request.Request.{Request}
@@ -22,8 +22,8 @@ alt_sources (Some alt) = alt ∷ []
 abbrev pub include_sources : code.Include → List (List Part)
 include_sources include = include.src ∷ alt_sources include.alt
 
--- the sources to fetch ahead: of each choose those of the branch that is taken, of each try those of the attempt, then
--- those of the except. An inline of a branch that isn't taken can still be reached by its name; its sources are asked
+-- the sources to fetch ahead: of each choose those of its branch that is taken, of each try those of its attempt, then
+-- those of the except. An inline in a branch that isn't taken can still be reached by its name; its sources are asked
 -- for when they are reached.
 abbrev mutual
   pub ahead_in : Request → Element → List (List Part)
@@ -50,7 +50,7 @@ abbrev pub unless_inline : List ℕ → Option Elements → Option (List ℕ)
 unless_inline w (Some content) = None
 unless_inline w None = Some w
 
--- the URL that a leg of this URL, or of none, asks in the template of the URL u with the tree t
+-- the URL that a leg with this URL, or with none, asks for in the template of the URL u with the tree t
 abbrev pub asked_url : List ℕ → Elements → Option (List ℕ) → Option (List ℕ)
 asked_url u t None = None
 asked_url u t (Some w) = unless_inline w (inline_for u w t)
@@ -59,7 +59,7 @@ asked_url u t (Some w) = unless_inline w (inline_for u w t)
 unfoldable pub ahead : Request → List ℕ → Elements → List (List ℕ)
 ahead r u t = filter_map (λ s. asked_url u t (resolve u (substituted r s))) (ahead_sources r t)
 
--- the URLs to fetch ahead for an answer: none where its body isn't processed or is no template
+-- the URLs to fetch ahead for an answer: none if its body isn't processed or isn't a template
 abbrev pub ahead_of_tree : Request → List ℕ → Result Elements ℕ → List (List ℕ)
 ahead_of_tree r u (Ok t) = ahead r u t
 ahead_of_tree r u (Err place) = []
@@ -67,7 +67,7 @@ ahead_of_tree r u (Err place) = []
 unfoldable pub ahead_of : Request → Answered → List (List ℕ)
 ahead_of r answer = if processed answer.reply then ahead_of_tree r answer.url (tree_of (body_of answer.reply)) else []
 
--- all sources of a template, those of branches that aren't taken too
+-- all sources of a template, including those in branches that aren't taken
 abbrev mutual
   pub sources_in : Element → List (List Part)
   sources_in (Text text) = []
@@ -88,13 +88,13 @@ abbrev mutual
   sources_among (When test content rest) = sources content ++ sources_among rest
   sources_among (Otherwise content rest) = sources content ++ sources_among rest
 
--- a source of the template of the URL u with the tree t stands for the URL w
+-- a source of the template of the URL u with the tree t denotes the URL w
 pub record HasSource (r : Request) (u : List ℕ) (t : Elements) (w : List ℕ) : Type 0 where
   pub source : List Part
   pub stands : Contains (sources t) source
   pub is_url : resolve u (substituted r source) ≡ Some w
 
--- the answer's body is a template that is processed, and a source of it stands for the URL w
+-- the answer's body is a template that is processed, and a source of it denotes the URL w
 pub record LeadsTo (r : Request) (w : List ℕ) (answer : Answered) : Type 0 where
   pub t : Elements
   pub is_processed : processed answer.reply ≡ true
@@ -106,7 +106,7 @@ pub record AsksFor (r : Request) (w : List ℕ) (answer : Answered) : Type 0 whe
   pub leads : LeadsTo r w answer
   pub unnamed : inline_for answer.url w leads.t ≡ None
 
--- the URL w may be asked next, after these answers: the page's own is the first
+-- the URL w may be asked for next, after these answers: the page's own is the first
 abbrev pub MayFollow : Request → List ℕ → List Answered → List ℕ → Type 0
 MayFollow r u [] w = w ≡ u
 MayFollow r u (first ∷ more) w = Any (LeadsTo r w) (first ∷ more)

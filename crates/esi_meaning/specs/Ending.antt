@@ -1,4 +1,4 @@
--- How a run of the code ends, beside the run that it stands for.
+-- How a run of the code ends, next to the run of the meaning that it implements.
 use Rattle.std.specs.Prelude.{◌≡◌, ℕ, ◌+◌, ◌<◌, ◌≤◌, List, ◌++◌, length, Some, None}
 use Rattle.edge_types.specs.Pieces.{joined}
 use Rattle.esi_meaning.specs.declared.limits.TheConstants.{MAX_LEGS}
@@ -12,13 +12,13 @@ pub record Counts (run : Run) (old new : ℕ) : Type 0 where
   pub sum : new ≡ old + length run.legs
   pub few : new ≤ MAX_LEGS
 
--- pieces of this text stand after those that were there
+-- pieces with this text come after those that were there
 pub record Adds (text : List ℕ) (old new : List (List ℕ)) : Type 0 where
   pub pieces : List (List ℕ)
   pub appended : new ≡ old ++ pieces
   pub spell : joined pieces ≡ text
 
--- the run's text stands after what was there
+-- the run's text comes after what was there
 pub record GivesText (run : Run) (old new : List (List ℕ)) : Type 0 where
   pub text : List ℕ
   pub gave : run.text ≡ Some text

@@ -4,17 +4,17 @@ use Rattle.std.specs.Option.{option_or, option_map}
 use Rattle.edge_types.specs.Asked.{resolve}
 use Rattle.esi_tree.specs.Tree.{Element, Text, VarsText, Include, Choose, Try, Vars, Inline, Nothing, Elements, End, Then, Branches, NoBranch, When, Otherwise}
 
--- a text stands for this URL
+-- a text denotes this URL
 abbrev pub is_url : List ℕ → Option (List ℕ) → Bool
 is_url w None = false
 is_url w (Some found) = bytes_eq found w
 
--- an inline of this name, in a template at the URL u, names w; no reference in a name is replaced
+-- an inline with this name, in a template at the URL u, names w; no reference in a name is replaced
 unfoldable pub names : List ℕ → List ℕ → List ℕ → Bool
 names u w name = is_url w (resolve u name)
 
 -- the content of the first inline, in text order, that names w in a template at the URL u; it counts wherever it
--- stands, also in a branch that isn't taken
+-- is, even in a branch that isn't taken
 abbrev mutual
   pub inline_in : List ℕ → List ℕ → Element → Option Elements
   inline_in u w (Text text) = None
@@ -41,7 +41,7 @@ pub record NamedBody : Type 0 where
   pub name : List ℕ
   pub content : Elements
 
--- the inlines of a template in text order, those that stand in another after it
+-- the inlines of a template in text order, those inside another after it
 abbrev mutual
   pub inlines_in : Element → List NamedBody
   inlines_in (Text text) = []
@@ -63,7 +63,7 @@ abbrev mutual
   inlines_among (When test content rest) = inlines content ++ inlines_among rest
   inlines_among (Otherwise content rest) = inlines content ++ inlines_among rest
 
--- an inline whose name stands for a URL
+-- an inline whose name denotes a URL
 pub record UrlBody : Type 0 where
   pub url : List ℕ
   pub content : Elements
@@ -71,7 +71,7 @@ pub record UrlBody : Type 0 where
 abbrev pub with_url : List ℕ → NamedBody → Option UrlBody
 with_url u inline = option_map (λ w. record { url = w; content = inline.content }) (resolve u inline.name)
 
--- the inlines of the template of the URL u with the tree t, each name resolved once; those that stand for no URL are
+-- the inlines of the template of the URL u with the tree t, each name resolved once; those that don't denote a URL are
 -- left out
 unfoldable pub inline_urls : List ℕ → Elements → List UrlBody
 inline_urls u t = filter_map (with_url u) (inlines t)

@@ -1,6 +1,6 @@
--- The sequential meaning of a page: what each element gives, which legs it tries, and the outcome. What an element gives
--- is that of the ESI Language Specification 1.0; that branches and the parts of a try stand in any order, that an inline
--- is processed where it stands, levels, the count of legs and the order of the faults are our profile.
+-- The sequential meaning of a page: what each element outputs, which legs it tries, and the outcome. What an element
+-- outputs is that of the ESI Language Specification 1.0; that branches and the parts of a try come in any order, that
+-- an inline is processed in its place, levels, the count of legs and the order of the faults are our profile.
 use Rattle.std.specs.Prelude.{ℕ, zero, suc, ◌≤◌, Bool, true, false, nat_lt, List, [], ◌∷◌, length, take, Option, Some, None, Result, Ok, Err, if◌then◌else◌}
 use Rattle.edge_types.specs.declared.request.Request.{Request}
 use Rattle.edge_types.specs.declared.answer.Reply.{Reply}
@@ -20,14 +20,14 @@ use Rattle.esi_meaning.specs.declared.limits.TheConstants.{MAX_LEGS, MIN_LEVELS,
 use Rattle.esi_meaning.specs.Inlines.{inline_for}
 use Rattle.esi_meaning.specs.Run.{Leg, Asks, AsksNobody, Run, gives, tries, in_turn, or_else}
 
--- What the elements give, where `leg` says what a `src` or an `alt` comes to.
+-- What the elements output, where `leg` says what a `src` or an `alt` results in.
 
--- an alt, where it is given
+-- an alt, if it is given
 abbrev pub alt_run : (List Part → Run) → Option (List Part) → Run
 alt_run leg None = gives None
 alt_run leg (Some alt) = leg alt
 
--- an include that can't be had
+-- an include that can't be fetched
 abbrev pub on_error : Bool → Run
 on_error true = gives (Some [])
 on_error false = gives None
@@ -56,7 +56,7 @@ abbrev mutual
   elements_run r leg End = gives (Some [])
   elements_run r leg (Then first rest) = in_turn (element_run r leg first) (elements_run r leg rest)
 
-  -- the first `when` whose test holds, else the otherwise, wherever it stands
+  -- the first `when` whose test holds, else the otherwise, wherever it is
   pub chosen_run : Request → (List Part → Run) → Run → Branches → Run
   chosen_run r leg otherwise NoBranch = otherwise
   chosen_run r leg otherwise (When test content rest) =
@@ -69,29 +69,29 @@ chosen_content r otherwise NoBranch = otherwise
 chosen_content r otherwise (When test content rest) = if holds r test then content else chosen_content r otherwise rest
 chosen_content r otherwise (Otherwise content rest) = chosen_content r content rest
 
--- an answer that isn't processed: its body as it stands, where the fetch succeeded
+-- an answer that isn't processed: its body as it is, if the fetch succeeded
 abbrev pub unprocessed_run : Reply → Run
 unprocessed_run reply = gives (if succeeded reply then Some (body_of reply) else None)
 
--- A leg, one level down: `below` says what the legs of a template of the URL and the tree come to.
+-- A leg, one level down: `below` says what the legs of a template of the URL and the tree result in.
 module _ (r : Request) (below : List ℕ → Elements → List Part → Run) where
-  -- A text of the URL w, processed. Which tree a text has is told by esi_tree's `Template`; its law `ReadsTexts` says
+  -- A text of the URL w, processed. Which tree a text has is said by esi_tree's `Template`; its law `ReadsTexts` says
   -- that `tree_of` reads just this tree.
   abbrev pub template_run : List ℕ → Result Elements ℕ → Run
   template_run w (Ok t) = elements_run r (below w t) t
   template_run w (Err place) = gives None
 
-  -- what an origin's reply comes to
+  -- what an origin's reply results in
   abbrev pub reply_run : List ℕ → Reply → Run
   reply_run w reply = if processed reply then template_run w (tree_of (body_of reply)) else unprocessed_run reply
 
-  -- a leg of the URL w in the template of the URL u with the tree t: the content of an inline of this template, which
-  -- asks nobody, or else what the origin replies; the leg is tried at level n
+  -- a leg with the URL w in the template of the URL u with the tree t: the content of an inline of this template, for
+  -- which nothing is fetched, or else what the origin replies; the leg is tried at level n
   abbrev pub named_run : List Answered → ℕ → List ℕ → Elements → List ℕ → Option Elements → Run
   named_run T n u t w (Some content) = tries AsksNobody (elements_run r (below u t) content)
   named_run T n u t w None = tries (Asks n w) (reply_run w (reply_of T w))
 
-  -- a leg of this URL, or of none
+  -- a leg with this URL, or with none
   abbrev pub resolved_run : List Answered → ℕ → List ℕ → Elements → Option (List ℕ) → Run
   resolved_run T n u t None = tries AsksNobody (gives None)
   resolved_run T n u t (Some w) = named_run T n u t w (inline_for u w t)
@@ -105,12 +105,12 @@ leg_run r T (suc n) u t s = resolved_run r (leg_run r T n) T (suc n) u t (resolv
 abbrev pub page_run : Request → List Answered → ℕ → List ℕ → Elements → Run
 page_run r T n u t = elements_run r (leg_run r T n u t) t
 
--- the page's text under its status and content type
+-- the page's text with its status and content type
 abbrev pub text_outcome : ℕ → List ℕ → Option (List ℕ) → Shown
 text_outcome status content_type None = Fault IncludeFailed
 text_outcome status content_type (Some text) = Page status content_type text
 
--- too many legs are told before a failure
+-- too many legs are reported before a failure
 abbrev pub run_outcome : ℕ → ℕ → List ℕ → Run → Shown
 run_outcome limit status content_type run =
     if nat_lt limit (length run.legs) then Fault TooManyLegs else text_outcome status content_type run.text
@@ -119,14 +119,14 @@ run_outcome limit status content_type run =
 unfoldable pub most_legs : ℕ
 most_legs = MAX_LEGS
 
--- the URLs that legs ask
+-- the URLs that legs ask for
 abbrev pub urls : List Leg → List (List ℕ)
 urls [] = []
 urls (Asks n w ∷ legs) = w ∷ urls legs
 urls (AsksNobody ∷ legs) = urls legs
 
 module _ (r : Request) (T : List Answered) (L : ℕ) (u : List ℕ) where
-  -- The legs of a page, where it is processed and a template.
+  -- The legs of a page, if it is processed and a template.
   abbrev pub tree_legs : Result Elements ℕ → List Leg
   tree_legs (Ok t) = (page_run r T L u t).legs
   tree_legs (Err place) = []
@@ -144,15 +144,15 @@ module _ (r : Request) (T : List Answered) (L : ℕ) (u : List ℕ) where
       if processed (Got status content_type control body) then tree_outcome status content_type (tree_of body)
       else Page status content_type body
 
-  -- the outcome of the page at the URL u, for the request r over the table T, at L levels
+  -- the outcome of the page at the URL u, for the request r over the table T, with L levels
   unfoldable pub outcome : Shown
   outcome = reply_outcome (reply_of T u)
 
-  -- the first of its legs, as many as a page may try
+  -- the first of its legs, at most as many as a page may try
   abbrev pub page_legs : List Leg
   page_legs = take most_legs (reply_legs (reply_of T u))
 
-  -- the URLs that the outcome rests on: the page's, and those that these legs ask
+  -- the URLs that the outcome depends on: the page's, and those that these legs ask for
   unfoldable pub asked : List (List ℕ)
   asked = u ∷ urls page_legs
 

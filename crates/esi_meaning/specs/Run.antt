@@ -1,8 +1,8 @@
--- What processing a piece of a template comes to: the legs that it tries, in order, and its text, or none where it
+-- What processing a piece of a template results in: the legs that it tries, in order, and its text, or none if it
 -- fails. A leg is one `src` or one `alt` that is tried.
 use Rattle.std.specs.Prelude.{ℕ, List, [], ◌∷◌, ◌++◌, Option, Some, None}
 
--- a leg: the level at which it is tried and the URL that it asks, or one that asks nobody
+-- a leg: the level at which it is tried and the URL that it asks for, or one for which nothing is fetched
 pub data Leg : Type 0 where
   Asks : (level : ℕ) (url : List ℕ) → Leg
   AsksNobody : Leg
@@ -15,11 +15,11 @@ pub record Run : Type 0 where
 abbrev pub gives : Option (List ℕ) → Run
 gives text = record { legs = []; text = text }
 
--- a leg, and then what it comes to
+-- a leg, and then what it results in
 abbrev pub tries : Leg → Run → Run
 tries leg after = record { legs = leg ∷ after.legs; text = after.text }
 
--- a run, and then one that depends on what the first gave
+-- a run, and then one that depends on the result of the first
 abbrev pub followed : Run → (Option (List ℕ) → Run) → Run
 followed a next = record { legs = a.legs ++ (next a.text).legs; text = (next a.text).text }
 
@@ -32,7 +32,7 @@ abbrev pub behind : Run → Option (List ℕ) → Run
 behind b None = gives None
 behind b (Some front) = record { legs = b.legs; text = with_front front b.text }
 
--- a and then b: nothing of b is tried where a fails
+-- a and then b: nothing of b is tried if a fails
 abbrev pub in_turn : Run → Run → Run
 in_turn a b = followed a (behind b)
 
@@ -40,6 +40,6 @@ abbrev pub instead : Run → Option (List ℕ) → Run
 instead b None = b
 instead b (Some text) = gives (Some text)
 
--- a, or b where a fails: nothing of b is tried where a has a text
+-- a, or b if a fails: nothing of b is tried if a has a text
 abbrev pub or_else : Run → Run → Run
 or_else a b = followed a (instead b)

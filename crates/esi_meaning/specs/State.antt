@@ -20,7 +20,7 @@ abbrev pub state_from : Option (List ℕ) → Shown → State
 state_from (Some w) result = Waiting w
 state_from None result = Done result
 
--- over the table T: the first URL asked that isn't logged, or else the outcome
+-- over the table T: the first URL asked for that isn't logged, or else the outcome
 abbrev pub state_over : Request → List Answered → List Answered → ℕ → List ℕ → State
 state_over r log T L u = state_from (find (is_missing log) (asked r T L u)) (outcome r T L u)
 
@@ -28,12 +28,12 @@ state_over r log T L u = state_from (find (is_missing log) (asked r T L u)) (out
 unfoldable pub state : Request → List Answered → ℕ → List ℕ → State
 state r log L u = state_over r log log L u
 
--- the log has no answer of the URL that the leg asks
+-- the log has no answer of the URL that the leg asks for
 abbrev pub lacks : List Answered → Leg → Bool
 lacks log (Asks level w) = is_missing log w
 lacks log AsksNobody = false
 
--- The leg at which a page waits: the first of its legs whose URL isn't logged. A page that waits for its own URL waits at
--- none: it has no legs yet.
+-- The leg at which a page waits: the first of its legs whose URL isn't logged. A page that waits for its own URL waits
+-- at none: it has no legs yet.
 unfoldable pub waits_at : Request → List Answered → ℕ → List ℕ → Option Leg
 waits_at r log L u = find (lacks log) (page_legs r log L u)

@@ -1,4 +1,5 @@
-// The branch of a choose that is taken.
+//! The branch of a choose that is taken.
+
 ghost use Rattle.std.specs.Prelude.{◌≡◌, ◌≤◌};
 ghost use Rattle.esi_tree.specs.Shown.{elements_of, branches_of};
 ghost use Rattle.esi_tree.specs.Tree.{End, depth, branches_depth};
@@ -16,7 +17,7 @@ pub(crate) fn chosen<'a>(request: &Request, branches: &'a [Branch]) -> &'a [Node
     chosen_among(request, branches)
 }
 
-// The same, over the branches in turn.
+// The content that is taken among these branches, tried in turn.
 fn chosen_among<'a>(request: &Request, branches: &'a [Branch]) -> &'a [Node]
     ensures { elements_of result.now ≡ chosen_content request.now End (branches_of branches.now) }
 {

@@ -1,4 +1,5 @@
-// The evaluator: it goes over a template's tree as the meaning does.
+//! The evaluator: it walks a template's tree as the meaning does.
+
 ghost use Rattle.std.specs.Prelude.{◌≤◌, IfOk};
 ghost use Rattle.std.specs.Arc.{arc_value};
 ghost use Rattle.esi_tree.specs.Shown.{element_of, elements_of, branches_of};
@@ -22,7 +23,7 @@ use esi_vars::Part;
 use std::alloc::Global;
 use std::sync::Arc;
 
-/// What a page is processed with.
+/// What a page is processed with: what stays the same throughout.
 #[derive(Clone, Copy)]
 pub(crate) struct Setting<'a> {
     pub(crate) alloc: Global,
@@ -30,7 +31,7 @@ pub(crate) struct Setting<'a> {
     pub(crate) table: &'a Table,
 }
 
-/// Where a template stands: how many levels are left under it, and its URL.
+/// The place of a template: how many levels are left under it, and its URL.
 #[derive(Clone, Copy)]
 pub(crate) struct Standing<'a> {
     pub(crate) level: u8,
@@ -106,7 +107,7 @@ fn element(
     }
 }
 
-// A choose: the branch that is taken.
+// A choose: its branch that is taken.
 #[cycle(evaluator)]
 #[tactic(auto, using(crate::proofs::Legs::chosen_run_content))]
 fn choose(
@@ -145,7 +146,7 @@ fn one_of(
     }
 }
 
-// An include: its src, else what stands for it.
+// An include: its src, else what replaces it.
 #[cycle(evaluator)]
 fn include(
     setting: &Setting<'_>,
@@ -163,7 +164,7 @@ fn include(
     }
 }
 
-// What stands for an include whose src can't be had: its alt, else what `onerror` asks for.
+// What replaces an include whose src can't be fetched: its alt, else what `onerror` asks for.
 #[cycle(evaluator)]
 fn alternative(
     setting: &Setting<'_>,
@@ -227,7 +228,7 @@ fn named(
     }
 }
 
-// A leg that an inline of its template gives: it asks nobody.
+// A leg that an inline of its template answers: nothing is fetched.
 #[cycle(evaluator)]
 fn inlined(
     setting: &Setting<'_>,
@@ -267,7 +268,7 @@ fn fetched(
     }
 }
 
-// What an origin's answer comes to.
+// What an origin's answer results in.
 #[cycle(evaluator)]
 fn answered(
     setting: &Setting<'_>,

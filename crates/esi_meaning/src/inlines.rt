@@ -1,4 +1,5 @@
-// The inline of a template that a URL names.
+//! The inline of a template that a URL names.
+
 ghost use Rattle.std.specs.Prelude.{◌≡◌, ◌≤◌, IfOk, IfSome};
 ghost use Rattle.esi_tree.specs.Shown.{element_of, elements_of, branches_of};
 ghost use Rattle.esi_tree.specs.Tree.{depth};
@@ -11,7 +12,7 @@ use std::alloc::Global;
 
 /// The content of the first inline, in text order, that names a URL in a template at this base.
 ///
-/// It goes over the whole template for each leg, and resolves the name of each inline anew.
+/// It walks the whole template for each leg, and resolves the name of each inline anew.
 #[tactic(auto, using(crate::proofs::Depths::depth_inline_for))]
 pub(crate) fn inline_for<'a>(
     alloc: Global,
@@ -27,7 +28,7 @@ pub(crate) fn inline_for<'a>(
     inline_among(alloc, base, url, nodes)
 }
 
-// The same, over the elements in turn.
+// The content of the first inline among these elements that names the URL.
 #[cycle(inlines)]
 fn inline_among<'a>(
     alloc: Global,
@@ -102,7 +103,7 @@ fn inline_in_branches<'a>(
     Ok(None)
 }
 
-// Whether the inline of this name names the URL.
+// Whether the inline with this name names the URL.
 #[tactic(auto, unfolding(crate::specs::Inlines::names))]
 fn names(alloc: Global, base: &PageUrl, url: &PageUrl, name: &[u8]) -> Result<bool, NoMemory>
     ensures { IfOk result (λ b. b ≡ names base.now url.now name.now) }

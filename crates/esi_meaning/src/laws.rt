@@ -9,19 +9,19 @@ ghost use Rattle.esi_meaning.specs.Laws.{OneListOfTokens, OneTreeOfTokens};
 
 use crate::limits::{MAX_LEGS, MAX_LEVELS, MIN_LEVELS};
 
-/// The outcome of a page rests on the replies of the URLs that are asked for it, and on nothing
+/// The outcome of a page depends on the replies of the URLs that are asked for it, and on nothing
 /// else.
 pub fn outcome_rests_on_asked()
     ensures { OutcomeRestsOnAsked }
 {}
 
-/// What a page waits for, or its outcome, rests on the answers that are in: whatever the missing
+/// What a page waits for, or its outcome, depends on the answers that are in: whatever the missing
 /// answers are, it is the same.
 pub fn state_rests_on_log()
     ensures { StateRestsOnLog }
 {}
 
-/// The logged answers alone say what a page waits for, or its outcome: every table that agrees
+/// The logged answers alone determine what a page waits for, or its outcome: every table that agrees
 /// with them says the same.
 pub fn logged_answers_suffice()
     ensures { LoggedAnswersSuffice }
@@ -39,7 +39,7 @@ pub fn done_is_outcome()
     ensures { DoneIsOutcome }
 {}
 
-/// A page that waits for a URL waits for its own and at no leg, or at a leg that asks this URL, at
+/// A page that waits for a URL waits either for its own, at no leg, or at a leg that asks for it, at
 /// one of the levels under the page.
 pub fn waits_at_leg()
     ensures { WaitsAtLeg }
@@ -50,8 +50,8 @@ pub fn leg_is_waited_for()
     ensures { LegIsWaitedFor }
 {}
 
-/// What was fetched and isn't asked changes no outcome: a table with one answer more, of a URL
-/// that isn't asked, gives the same.
+/// What was fetched and isn't asked for changes no outcome: a table with one more answer, of a URL
+/// that isn't asked for, gives the same.
 pub fn unasked_changes_nothing()
     ensures { UnaskedChangesNothing }
 {}
@@ -61,14 +61,14 @@ pub fn asks_few()
     ensures { AsksFew }
 {}
 
-/// Of a try whose attempt fails the except alone has text, and the legs of both are counted.
+/// If the attempt of a try fails, only the except has text, and the legs of both are counted.
 ///
 /// Source: ESI Language Specification 1.0, "try"; the count of legs is our profile.
 pub fn failed_attempt_leaves_no_text()
     ensures { FailedAttemptLeavesNoText }
 {}
 
-/// Of a try whose attempt has a text no more than the attempt is tried.
+/// If the attempt of a try has a text, nothing more than the attempt is tried.
 ///
 /// Source: ESI Language Specification 1.0, "try".
 pub fn attempt_with_text_stands()
@@ -76,7 +76,7 @@ pub fn attempt_with_text_stands()
 {}
 
 /// A choose is the content of its first `when` whose test holds, else of its otherwise, wherever
-/// this stands, else nothing; and of this content the sources are fetched ahead.
+/// that is, else nothing; and the sources of this content are fetched ahead.
 ///
 /// Source: ESI Language Specification 1.0, "choose"; the order of branches and what is fetched
 /// ahead are our profile.
@@ -91,26 +91,26 @@ pub fn first_inline_counts()
     ensures { FirstInlineCounts }
 {}
 
-/// The inline that counts for a URL is the first of this URL in the list of the template's inlines
+/// The inline that counts for a URL is the first with this URL in the list of the template's inlines
 /// in which each name is resolved once.
 pub fn inlines_by_url()
     ensures { InlinesByUrl }
 {}
 
-/// What is fetched ahead for a template is a URL that a `src` or an `alt` of it stands for, and
+/// What is fetched ahead for a template is a URL that a `src` or an `alt` of it denotes, and
 /// that no inline of it names.
 pub fn ahead_has_source()
     ensures { AheadHasSource }
 {}
 
-/// What is asked for a page is its own URL, or one that a `src` or an `alt` stands for in the
+/// What is asked for a page is its own URL, or one that a `src` or an `alt` denotes in the
 /// template of an answer, and that no inline of this template names.
 pub fn asked_has_source()
     ensures { AskedHasSource }
 {}
 
-/// No answers are a legal log; a legal log grows by the answer of a URL that may follow and isn't
-/// logged; such a URL is the one that a page waits for, and each that is fetched ahead for a
+/// A log without answers is legal; a legal log may grow by the answer of a URL that may follow and isn't
+/// logged; such a URL is the one that a page waits for, or one that is fetched ahead for a
 /// logged answer, then and later.
 pub fn legal_logs()
     ensures nothing { NothingIsLegal }
@@ -126,7 +126,7 @@ pub fn one_list_of_tokens_and_one_tree()
     ensures tree { OneTreeOfTokens }
 {}
 
-/// The limits of a page, in figures.
+/// The limits of a page, as numbers.
 pub fn limits_of_pages()
     ensures legs { MAX_LEGS ≡ 1000 }
     ensures fewest { MIN_LEVELS ≡ 1 }

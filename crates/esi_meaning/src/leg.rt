@@ -7,12 +7,12 @@ use edge_types::{MAX_TEXT, NoMemory, PageUrl, Request};
 use esi_vars::{Part, substitute_within};
 use std::alloc::Global;
 
-/// The URL that a source stands for, its references replaced, in a template at this base; none as in
-/// `PageUrl::resolve`. `NoMemory` where a growth is refused.
+/// The URL that a source denotes, its references replaced, in a template at this base; `None` as in
+/// `PageUrl::resolve`. `NoMemory` if an allocation fails.
 ///
 /// Source: ESI Language Specification 1.0, "include" and "Variables".
 //
-// A text that is too long to be resolved is given up while it is made: a long field of the request
+// A text that gets too long to be resolved is given up while it is made: a long field of the request
 // can be asked for many times in one text.
 pub fn leg_url(
     alloc: Global,

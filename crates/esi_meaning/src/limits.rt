@@ -1,4 +1,5 @@
-// How far a page may go.
+//! How far a page may go.
+
 ghost use Rattle.std.specs.Prelude.{◌↔◌, IsTrue};
 ghost use Rattle.esi_meaning.specs.Meaning.{AreLevels};
 
@@ -17,7 +18,7 @@ pub const MIN_LEVELS: u8 = 1;
 /// Our profile.
 pub const MAX_LEVELS: u8 = 8;
 
-/// Whether a page may have so many levels under it: `MIN_LEVELS` to `MAX_LEVELS`. Takes no
+/// Whether a page may have this many levels under it: `MIN_LEVELS` to `MAX_LEVELS`. Takes no
 /// memory.
 ///
 /// Our profile.

@@ -1,4 +1,5 @@
-// The outcome of a page.
+//! The outcome of a page.
+
 ghost use Rattle.std.specs.Prelude.{◌≡◌, IfOk};
 ghost use Rattle.std.specs.Arc.{arc_value};
 ghost use Rattle.edge_types.specs.Answered.{body_of};
@@ -17,11 +18,11 @@ use esi_tree::{TreeFault, template};
 use std::alloc::Global;
 use std::sync::Arc;
 
-/// The outcome of the page at this URL, where a table has what the origins answer.
+/// The outcome of the page at this URL, given a table of what the origins answer.
 ///
 /// A fragment's body is read as a template anew each time that a leg reaches it, and the inlines of
-/// a template are looked through anew for each of its legs. `are_levels` tests the number of levels.
-/// `NoMemory` where a growth was refused, which leaves nothing behind.
+/// a template are searched anew for each of its legs. `are_levels` tests the number of levels.
+/// `NoMemory` if an allocation failed, which leaves nothing behind.
 ///
 /// Source: ESI Language Specification 1.0, "ESI Language" and "Variables"; inlines by name, the
 /// order of the faults and the limits of legs and levels are our profile.
@@ -47,7 +48,7 @@ pub fn plain_page(
     }
 }
 
-// The outcome of a page of this answer.
+// The outcome of a page with this answer.
 fn answered_page(
     setting: &Setting<'_>,
     url: &PageUrl,

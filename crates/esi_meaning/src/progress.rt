@@ -1,4 +1,5 @@
-// How far a page has come: its legs so far and its text so far. Nothing here calls itself.
+//! How far a page has come: its legs and its text so far. Nothing here is recursive.
+
 ghost use Rattle.std.specs.Prelude.{◌≡◌, ◌+◌, ◌<◌, ◌≤◌, ◌↔◌, IsTrue, IfOk, OnOk, None, Some};
 ghost use Rattle.std.specs.Bool.{OnTrue};
 ghost use Rattle.std.specs.Arc.{arc_value};
@@ -17,11 +18,11 @@ use std::sync::Arc;
 /// How a run ends.
 #[derive(Clone, Copy, Debug, Drop, PartialEq, Eq)]
 pub(crate) enum Ending {
-    /// Its text stands at the end of the output.
+    /// Its text is at the end of the output.
     Complete,
     /// It failed, and the output is as it was.
     Failed,
-    /// It goes on to one leg more than a page may try.
+    /// It needs one more leg than a page may try.
     TooManyLegs,
 }
 
@@ -34,7 +35,7 @@ pub(crate) struct Progress {
     pub(crate) body: PageBody,
 }
 
-/// A text that is given out as it stands.
+/// Outputs a text as it is.
 pub(crate) fn push_text(text: &SharedBytes, progress: &mut Progress) -> Result<Ending, NoMemory>
     requires { progress.old.legs ≤ MAX_LEGS }
     ensures { IfOk result
@@ -44,7 +45,7 @@ pub(crate) fn push_text(text: &SharedBytes, progress: &mut Progress) -> Result<E
     Ok(Ending::Complete)
 }
 
-/// A text that is given out with the values of its references.
+/// Outputs a text with the values of its references.
 pub(crate) fn push_values(
     alloc: Global,
     request: &Request,
@@ -60,7 +61,7 @@ pub(crate) fn push_values(
     Ok(Ending::Complete)
 }
 
-/// An include that can't be had: nothing, or a failure.
+/// An include that can't be fetched: nothing, or a failure.
 pub(crate) fn on_error(goes_on: bool) -> Ending
     ensures { (p : Progress) → p.legs ≤ MAX_LEGS → Ends (on_error goes_on) p p result }
 {
@@ -71,7 +72,7 @@ pub(crate) fn on_error(goes_on: bool) -> Ending
     }
 }
 
-/// A leg that asks nobody and has no text.
+/// A leg that fetches nothing and has no text.
 pub(crate) fn no_leg(progress: &mut Progress) -> Ending
     requires { progress.old.legs ≤ MAX_LEGS }
     ensures { Ends (tries AsksNobody (gives None)) progress.old progress.new result }
@@ -82,7 +83,7 @@ pub(crate) fn no_leg(progress: &mut Progress) -> Ending
     Ending::Failed
 }
 
-/// Counts one leg more, unless the page may try no more.
+/// Counts one more leg, unless the page may try no more.
 pub(crate) fn count_leg(legs: &mut u16) -> bool
     ensures room { IsTrue result ↔ (legs.old < MAX_LEGS) }
     ensures counted { OnTrue result (legs.new ≡ legs.old + 1) }
@@ -94,7 +95,7 @@ pub(crate) fn count_leg(legs: &mut u16) -> bool
     true
 }
 
-/// An answer that isn't processed: its body as it stands, where the fetch succeeded.
+/// An answer that isn't processed: its body as it is, if the fetch succeeded.
 pub(crate) fn unprocessed(answer: &Arc<Answer>, progress: &mut Progress) -> Result<Ending, NoMemory>
     requires { progress.old.legs ≤ MAX_LEGS }
     ensures { IfOk result
@@ -107,7 +108,7 @@ pub(crate) fn unprocessed(answer: &Arc<Answer>, progress: &mut Progress) -> Resu
     Ok(Ending::Complete)
 }
 
-/// Adds an answer's body at the end of a page's, as it stands.
+/// Adds an answer's body at the end of a page's, as it is.
 pub(crate) fn push_whole(answer: &Arc<Answer>, page: &mut PageBody) -> Result<(), NoMemory>
     ensures { OnOk result (Adds (body_of (arc_value answer.now).reply) page.old page.new) }
 {

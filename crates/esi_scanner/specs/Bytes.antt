@@ -26,11 +26,11 @@ abbrev pub begins_ws : List ℕ → Bool
 begins_ws [] = false
 begins_ws (b ∷ bs) = is_ws b
 
--- how many bytes of an element's name stand there
+-- how many bytes of an element's name are there
 abbrev pub element_len : List ℕ → ℕ
 element_len text = prefix_len is_element_byte text
 
--- how many bytes of an attribute's name stand there
+-- how many bytes of an attribute's name are there
 abbrev pub attribute_len : List ℕ → ℕ
 attribute_len text = prefix_len is_attribute_byte text
 
@@ -38,16 +38,16 @@ attribute_len text = prefix_len is_attribute_byte text
 abbrev pub begins_with : List ℕ → List ℕ → Bool
 begins_with text bytes = starts_with nat_eq text bytes
 
--- what follows these bytes, where the text begins with them
+-- what follows these bytes, if the text begins with them
 abbrev pub after_bytes : List ℕ → List ℕ → Option (List ℕ)
 after_bytes text bytes = if begins_with text bytes then Some (drop (length bytes) text) else None
 
--- how many bytes stand before the first place from which the text passes the test
+-- how many bytes are before the first place from which the text passes the test
 abbrev pub bytes_before : (List ℕ → Bool) → List ℕ → ℕ
 bytes_before test [] = 0
 bytes_before test (b ∷ bs) = if test (b ∷ bs) then 0 else bytes_before test bs + 1
 
--- one reader after another: the second reads on where the first found something
+-- one reader after another: the second reads on if the first found something
 infixl 10 ◌>>=◌
 abbrev pub ◌>>=◌ : {A B : Type 0} → Option A → (A → Option B) → Option B
 o >>= f = option_and_then f o
@@ -57,6 +57,6 @@ abbrev pub shown : {A : Type 0} → Option (A × Bor (List ℕ)) → Option (A �
 shown None = None
 shown (Some found) = Some (found.0, found.1.now)
 
--- the same of a reader that finds bytes
+-- what such a reader returns that finds bytes
 abbrev pub shown_pair : Option (Bor (List ℕ) × Bor (List ℕ)) → Option (List ℕ × List ℕ)
 shown_pair found = option_map lent_pair found

@@ -1,4 +1,4 @@
--- Attribute values, in which `&amp;` and the like stand for single bytes.
+-- Attribute values, in which `&amp;` and the like denote single bytes.
 use Rattle.std.specs.Prelude.{ℕ, zero, suc, List, [], ◌∷◌, length, codes, Option, Some, None, find}
 use Rattle.std.specs.Str.{byte}
 use Rattle.esi_scanner.specs.declared.entity.Entity.{Entity}
@@ -13,7 +13,7 @@ entity_text Gt = codes "&gt;"
 entity_text Quot = codes "&quot;"
 entity_text Apos = codes "&apos;"
 
--- the byte for which it stands
+-- the byte that it denotes
 abbrev pub entity_byte : Entity → ℕ
 entity_byte Amp = byte "&"
 entity_byte Lt = byte "<"
@@ -21,7 +21,7 @@ entity_byte Gt = byte ">"
 entity_byte Quot = byte "\""
 entity_byte Apos = byte "'"
 
--- all of them
+-- all entities
 abbrev pub entities : List Entity
 entities = Amp ∷ Lt ∷ Gt ∷ Quot ∷ Apos ∷ []
 

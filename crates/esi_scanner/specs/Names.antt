@@ -28,7 +28,7 @@ elements =
     element.Include ∷ element.Inline ∷ element.Choose ∷ element.When ∷ element.Otherwise ∷ element.Try
     ∷ element.Attempt ∷ element.Except ∷ element.Comment ∷ element.Remove ∷ element.Vars ∷ []
 
--- the element whose name the bytes are
+-- the element whose name the bytes spell
 unfoldable pub element_of : List ℕ → Option ElementName
 element_of bytes = find (λ name. bytes_eq (element_text name) bytes) elements
 
@@ -44,7 +44,7 @@ known_text known.Test = codes "test"
 abbrev pub known_attributes : List KnownAttribute
 known_attributes = known.Src ∷ known.Alt ∷ known.OnError ∷ known.Name ∷ known.Test ∷ []
 
--- the attribute whose name the bytes are, among those that have a meaning
+-- the attribute whose name the bytes spell, among those that have a meaning
 unfoldable pub known_of : List ℕ → Option KnownAttribute
 known_of bytes = find (λ name. bytes_eq (known_text name) bytes) known_attributes
 
@@ -62,12 +62,12 @@ abbrev pub attribute_text : AttributeName → List ℕ
 attribute_text (Known name) = known_text name
 attribute_text (Other bytes) = bytes
 
--- a known name where one was found, else the bytes
+-- a known name if one was found, else the bytes
 abbrev known_or_other : Option KnownAttribute → List ℕ → AttributeName
 known_or_other (Some name) bytes = Known name
 known_or_other None bytes = Other bytes
 
--- the name that the bytes are
+-- the name that the bytes spell
 unfoldable pub attribute_name_of : List ℕ → AttributeName
 attribute_name_of bytes = known_or_other (known_of bytes) bytes
 

@@ -24,17 +24,17 @@ walked_on others seen text None = (false, text)
 walked_on others seen text (Some first) =
     if list_any (bytes_eq first.0) seen then (true, text) else others (first.0 ∷ seen) first.1
 
--- what stands behind at most n attributes, up to one whose name came before; and whether one did
+-- what follows at most n attributes, up to one whose name came before; and whether one did
 unfoldable pub walked : ℕ → List (List ℕ) → List ℕ → Bool × List ℕ
 walked zero seen text = (false, text)
 walked (suc n) seen text = walked_on (λ more rest. walked n more rest) seen text (skipped_at text)
 
--- of a value that can't be read
+-- the problem of a value that can't be read
 abbrev pub value_problem : List ℕ → Problem
 value_problem [] = problem.NoQuote
 value_problem (b ∷ bs) = if is_quote b then problem.OpenQuote else problem.NoQuote
 
--- of what follows an attribute's name
+-- the problem of what follows an attribute's name
 abbrev value_or_equals : Option (List ℕ) → Problem
 value_or_equals None = problem.NoEquals
 value_or_equals (Some value) = value_problem value
@@ -42,19 +42,19 @@ value_or_equals (Some value) = value_problem value
 abbrev pub attribute_problem : List ℕ → Problem
 attribute_problem text = value_or_equals (equals_at text)
 
--- of an attribute, where there is white space before it
+-- the problem of an attribute, if there is white space before it
 abbrev named_problem : Option (List ℕ × List ℕ) → Problem
 named_problem None = problem.NoSpace
 named_problem (Some name) = attribute_problem name.1
 
--- of what stands behind the attributes, where no tag ends there
+-- the problem of what follows the attributes, if no tag ends there
 unfoldable pub end_problem : List ℕ → Problem × List ℕ
 end_problem text =
     let after = after_ws text in
     if length after == 0 then (problem.TextEnds, after)
     else (if attribute_len after == 0 then (problem.StrayByte, after) else (named_problem (name_at text), after))
 
--- of what stands behind the attributes: where a tag ends there, its element is the one that has to have an end
+-- the problem of what follows the attributes: if a tag ends there, its element is the one that has to have an end
 abbrev unended_problem : List ℕ → List ℕ → Option (Bool × List ℕ) → Problem × List ℕ
 unended_problem text rest (Some end) = (problem.NoRemoveEnd, text)
 unended_problem text rest None = end_problem rest
@@ -66,7 +66,7 @@ abbrev opened_problem : List ℕ → Option (ElementName × List ℕ) → Proble
 opened_problem text None = (problem.UnknownElement, text)
 opened_problem text (Some name) = walked_problem text (walked (length name.1) [] name.1)
 
--- of an opening tag, behind its `<esi:`
+-- the problem of an opening tag, from after its `<esi:` on
 unfoldable pub open_problem : List ℕ → Problem × List ℕ
 open_problem text = opened_problem text (element_at text)
 
@@ -76,17 +76,17 @@ closed_problem text (Some name) =
     let after = after_ws name.1 in
     if length after == 0 then (problem.TextEnds, after) else (problem.StrayByte, after)
 
--- of a closing tag, behind its `</esi:`
+-- the problem of a closing tag, from after its `</esi:` on
 unfoldable pub close_problem : List ℕ → Problem × List ℕ
 close_problem text = closed_problem text (element_at text)
 
--- of the opener at the front, and what stands from there on where the problem is
+-- the problem of the opener at the front, and the text from where the problem is
 unfoldable pub problem_of : List ℕ → Problem × List ℕ
 problem_of text =
     if begins_with text (codes "<esi:") then open_problem (drop 5 text)
     else (if begins_with text (codes "</esi:") then close_problem (drop 6 text) else (problem.NoBlockEnd, text))
 
--- of the opener at a place of a text, and its own place
+-- the problem of the opener at a place of a text, and its own place
 unfoldable pub trouble_at : List ℕ → ℕ → Trouble
 trouble_at text place =
     let found = problem_of (drop (min place (length text)) text) in

@@ -27,7 +27,7 @@ abbrev pub is_remove : ElementName → Bool
 is_remove element.Remove = true
 is_remove _ = false
 
--- a remove element, behind its tag: with its content and its end, unless the tag is closed
+-- a remove element, from after its tag on: with its content and its end, unless the tag is closed
 abbrev pub removed : Bool → List ℕ → Option (Kind × List ℕ)
 removed true rest = Some (kinds.Remove, rest)
 removed false rest = after_removed rest >>= λ after. Some (kinds.Remove, after)
@@ -36,7 +36,7 @@ removed false rest = after_removed rest >>= λ after. Some (kinds.Remove, after)
 unfoldable pub opened : Tag → List ℕ → Option (Kind × List ℕ)
 opened tag rest = if is_remove tag.name then removed tag.closed rest else Some (kinds.Open tag, rest)
 
--- the token that begins with `<esi:`, of which this is what follows
+-- the token that begins with `<esi:`, given what follows that
 unfoldable pub open_at : List ℕ → Option (Kind × List ℕ)
 open_at text = tag_at text >>= λ found. opened found.0 found.1
 
@@ -53,7 +53,7 @@ mark_at false text = if begins_mark false text then Some (kinds.BlockStart, drop
 unfoldable pub text_at : Bool → List ℕ → Kind × List ℕ
 text_at block text = (kinds.Text, drop (bytes_before (begins_opener block) text) text)
 
--- a mark where one was found, else the text
+-- a mark if one was found, else the text
 abbrev pub mark_or_text : Kind × List ℕ → Option (Kind × List ℕ) → Option (Kind × List ℕ)
 mark_or_text text None = Some text
 mark_or_text text (Some mark) = Some mark
@@ -71,7 +71,7 @@ block_after block at kinds.BlockStart = Some at
 block_after block at kinds.BlockEnd = None
 block_after block at _ = block
 
--- a token before those that were read behind it
+-- a token before those that were read after it
 abbrev pub with_first : Token → Result (List Token) ℕ → Result (List Token) ℕ
 with_first token (Ok tokens) = Ok (token ∷ tokens)
 with_first token (Err at) = Err at
@@ -85,7 +85,7 @@ tokens_at_end (Some start) = Err start
 abbrev pub token_of : ℕ → List ℕ → Kind × List ℕ → Token
 token_of at text found = record { span = record { start = at; end = at + (length text - length found.1) }; kind = found.0 }
 
--- the token that was found and those behind it, or the place where none was found
+-- the token that was found and those after it, or the place where none was found
 abbrev pub then_tokens : (Option ℕ → ℕ → List ℕ → Result (List Token) ℕ) → Option ℕ → ℕ → List ℕ → Option (Kind × List ℕ) → Result (List Token) ℕ
 then_tokens others block at text None = Err at
 then_tokens others block at text (Some found) =
@@ -104,12 +104,12 @@ tokens_at (suc n) block at (b ∷ bs) =
 unfoldable pub scan_of : List ℕ → Result (List Token) ℕ
 scan_of text = tokens_at (length text) None 0 text
 
--- a refusal tells the place that reading tells
+-- a refusal reports the place that reading finds
 abbrev pub Fails : ScanFault → Result (List Token) ℕ → Type 0
 Fails (Malformed at) read = read ≡ Err at
 Fails NoMemory read = Unit {0}
 
--- what a call returned is what reading gives, unless memory ran out
+-- what a call returned is what reading yields, unless memory ran out
 abbrev pub Gives : Result (Vec Token Global) ScanFault → Result (List Token) ℕ → Type 0
 Gives (Ok tokens) read = read ≡ Ok tokens.items
 Gives (Err fault) read = Fails fault read

@@ -18,11 +18,11 @@ use Rattle.esi_scanner.specs.Entities.{entity_text, entity_byte}
 use Rattle.esi_scanner.specs.Tag.{all_distinct, names_of}
 use Rattle.esi_scanner.specs.Scan.{begins_opener, block_after}
 
--- no entity stands at the front
+-- no entity is at the front
 abbrev pub NoEntity : List ℕ → Type 0
 NoEntity raw = (entity : Entity) (rest : List ℕ) → raw ≢ entity_text entity ++ rest
 
--- at the front of a raw text stands a byte of its value, as an entity or as itself
+-- at the front of a raw text is a byte of its value, as an entity or as itself
 abbrev pub IsLetter : List ℕ → ℕ → List ℕ → Type 0
 IsLetter raw byte rest =
     ((entity : Entity) × (raw ≡ entity_text entity ++ rest) × (byte ≡ entity_byte entity)) ⊎ ((raw ≡ byte ∷ rest) × NoEntity raw)
@@ -32,7 +32,7 @@ abbrev pub SpellsValue : List ℕ → List ℕ → Type 0
 SpellsValue raw [] = raw ≡ []
 SpellsValue raw (byte ∷ value) = (rest : List ℕ) × IsLetter raw byte rest × SpellsValue rest value
 
--- white space, a name, `=` with white space round it, and a value in quotes that it doesn't hold
+-- white space, a name, `=` with white space around it, and a value in quotes that the value doesn't contain
 pub record SpellsAttribute (piece : List ℕ) (attribute : Attribute) : Type 0 where
   pub before : List ℕ
   pub before_some : 0 < length before
@@ -52,7 +52,7 @@ pub record SpellsAttribute (piece : List ℕ) (attribute : Attribute) : Type 0 w
   pub value_is : SpellsValue raw attribute.value
   pub piece_is : piece ≡ before ++ (name ++ (left ++ (codes "=" ++ (right ++ (quote ∷ (raw ++ quote ∷ []))))))
 
--- one after another
+-- attributes one after another
 abbrev pub SpellsAttributes : List ℕ → List Attribute → Type 0
 SpellsAttributes piece [] = piece ≡ []
 SpellsAttributes piece (attribute ∷ attributes) =
@@ -85,7 +85,7 @@ pub record SpellsClosedRemove (piece : List ℕ) : Type 0 where
   pub name_is : tag.name ≡ element.Remove
   pub closed : tag.closed ≡ true
 
--- a `remove` tag, any bytes, and the first `</esi:remove>` behind the tag
+-- a `remove` tag, any bytes, and the first `</esi:remove>` after the tag
 pub record SpellsRemove (piece : List ℕ) : Type 0 where
   pub opening : List ℕ
   pub tag : Tag
@@ -100,7 +100,7 @@ pub record SpellsRemove (piece : List ℕ) : Type 0 where
 abbrev pub NoOpener : Bool → ℕ → List ℕ → Type 0
 NoOpener block n text = (i : ℕ) → i < n → begins_opener block (drop i text) ≡ false
 
--- the piece, with this rest behind it, is a token of the kind, inside a block or outside
+-- the piece, with this rest after it, is a token of the kind, inside a block or outside
 abbrev pub IsSpelling : Bool → Kind → List ℕ → List ℕ → Type 0
 IsSpelling block kinds.Text piece rest = (0 < length piece) × NoOpener block (length piece) (piece ++ rest)
 IsSpelling block (kinds.Open tag) piece rest = (tag.name ≢ element.Remove) × SpellsTag piece tag
@@ -121,7 +121,7 @@ Apart kinds.Text (token ∷ tokens) = is_text token.kind ≡ false
 Apart _ tokens = Unit {0}
 
 -- The tokens spell the front of a text that begins at `at`, up to this rest. The block that is open before them, and
--- the one that is open behind them, are given by the places where they begin.
+-- the one that is open after them, are given by the places where they begin.
 abbrev pub SpellsTo : Option ℕ → ℕ → List Token → List ℕ → Option ℕ → List ℕ → Type 0
 SpellsTo block at [] text unclosed rest = (text ≡ rest) × (block ≡ unclosed)
 SpellsTo block at (token ∷ tokens) text unclosed rest =
@@ -138,7 +138,7 @@ pub record IsBadOpener (block : Bool) (text : List ℕ) : Type 0 where
   pub opener : (begins_with text (codes "<esi:") ≡ true) ⊎ (begins_with text (codes "</esi:") ≡ true)
   pub no_token : (kind : Kind) (piece rest : List ℕ) → text ≡ piece ++ rest → ¬ IsSpelling block kind piece rest
 
--- tokens spell the text up to this place, and there stands a bad opener
+-- tokens spell the text up to this place, and a bad opener is there
 pub record IsFirstBadOpener (text : List ℕ) (at : ℕ) : Type 0 where
   pub tokens : List Token
   pub unclosed : Option ℕ
@@ -156,7 +156,7 @@ pub record IsOpenBlock (text : List ℕ) (at : ℕ) : Type 0 where
 abbrev pub IsFaultAt : List ℕ → ℕ → Type 0
 IsFaultAt text at = IsFirstBadOpener text at ⊎ IsOpenBlock text at
 
--- what a refusal tells: the place of the fault, or that memory ran out
+-- what a refusal reports: the place of the fault, or that memory ran out
 abbrev pub TellsFault : List ℕ → ScanFault → Type 0
 TellsFault text (Malformed at) = IsFaultAt text at
 TellsFault text NoMemory = Unit {0}

@@ -37,12 +37,12 @@ attribute_at text = do
   quoted ← quoted_at value
   Some (record { name = attribute_name_of name.0; value = decoded quoted.0 }, quoted.1)
 
--- the first attribute and those behind it, where one was found
+-- the first attribute and those after it, if one was found
 abbrev pub then_attributes : (List ℕ → List Attribute × List ℕ) → List ℕ → Option (Attribute × List ℕ) → List Attribute × List ℕ
 then_attributes others text None = ([], text)
 then_attributes others text (Some first) = let found = others first.1 in (first.0 ∷ found.0, found.1)
 
--- as many attributes as stand there, at most n, and what follows them
+-- as many attributes as there are, at most n, and what follows them
 unfoldable pub attributes_at : ℕ → List ℕ → List Attribute × List ℕ
 attributes_at zero text = ([], text)
 attributes_at (suc n) text = then_attributes (λ rest. attributes_at n rest) text (attribute_at text)
@@ -56,7 +56,7 @@ all_distinct (name ∷ names) = not (list_any (bytes_eq name) names) && all_dist
 abbrev pub names_of : List Attribute → List (List ℕ)
 names_of attributes = map (λ (attribute : Attribute). attribute_text attribute.name) attributes
 
--- the value of the attribute of this name
+-- the value of the attribute with this name
 abbrev pub value_of : KnownAttribute → List Attribute → Option (List ℕ)
 value_of wanted [] = None
 value_of wanted (attribute ∷ attributes) = if is_named wanted attribute.name then Some attribute.value else value_of wanted attributes
@@ -95,10 +95,10 @@ closing_at text = do
   rest ← after_bytes (after_ws name.1) (codes ">")
   Some (name.0, rest)
 
--- how many bytes stand before the first `</esi:remove>`
+-- how many bytes are before the first `</esi:remove>`
 unfoldable pub removed_len : List ℕ → ℕ
 removed_len text = bytes_before (λ rest. begins_with rest (codes "</esi:remove>")) text
 
--- what follows it
+-- what follows the first `</esi:remove>`
 unfoldable pub after_removed : List ℕ → Option (List ℕ)
 after_removed text = after_bytes (drop (removed_len text) text) (codes "</esi:remove>")

@@ -1,4 +1,4 @@
-// An attribute of a tag: its name, its value.
+//! An attribute of a tag: its name, its value.
 
 ghost use Rattle.std.specs.Prelude.{◌≡◌, IfOk};
 ghost use Rattle.std.specs.Option.{option_copied};
@@ -7,7 +7,7 @@ ghost use Rattle.esi_scanner.specs.Names.{known_text, known_of, is_named, attrib
 use edge_types::{NoMemory, Octets};
 use std::alloc::Global;
 
-/// An attribute name to which an element gives a meaning.
+/// An attribute name that has a meaning on some element.
 ///
 /// Source: ESI Language Specification 1.0, "ESI Language".
 #[derive(Clone, Copy, Debug, Drop, PartialEq, Eq)]
@@ -41,7 +41,7 @@ impl KnownAttribute {
         }
     }
 
-    /// The known name that these bytes are, case for case. Takes no memory.
+    /// The known name that these bytes spell, case for case. Takes no memory.
     #[tactic(auto, unfolding(crate::specs::Names::known_of))]
     pub fn of(bytes: &[u8]) -> Option<KnownAttribute>
         ensures { result ≡ known_of bytes.now }
@@ -62,7 +62,7 @@ pub enum AttributeName {
 }
 
 impl AttributeName {
-    /// The name that these bytes are.
+    /// The name that these bytes spell.
     #[tactic(auto, unfolding(crate::specs::Names::attribute_name_of))]
     pub(crate) fn of(alloc: Global, bytes: &[u8]) -> Result<AttributeName, NoMemory>
         ensures { IfOk result (λ name. name ≡ attribute_name_of bytes.now) }

@@ -1,4 +1,4 @@
-// The attributes of one tag. Clauses see the list of them, in the text's order.
+//! The attributes of one tag. Clauses see the list of them, in the text's order.
 
 ghost use Rattle.std.specs.Prelude.{◌≡◌};
 ghost use Rattle.std.specs.Option.{option_copied};
@@ -24,7 +24,7 @@ impl Model for Attributes {
 impl Attributes {
     ghost use Rattle.esi_scanner.specs.Tag.{value_of};
 
-    /// Keeps these attributes. Takes no memory.
+    /// Wraps these attributes. Takes no memory.
     pub(crate) fn of(items: Vec<Attribute>) -> Attributes
         ensures { result ≡ items.items }
     {
@@ -38,7 +38,7 @@ impl Attributes {
         self.items.as_slice()
     }
 
-    /// Lends the decoded value of the attribute of this name; `None` where there is none. An empty value is there.
+    /// Lends the decoded value of the attribute with this name; `None` if there is none. An empty value counts as one.
     /// Compares names as enums, not by their bytes. Takes no memory.
     pub fn value(&self, name: KnownAttribute) -> Option<&[u8]>
         ensures { option_copied result ≡ value_of name self.now }
@@ -49,7 +49,7 @@ impl Attributes {
 
 ghost use Rattle.esi_scanner.specs.Tag.{value_of};
 
-// The value of the first attribute of this name.
+// The value of the first attribute with this name.
 fn value_of(attributes: &[Attribute], name: KnownAttribute) -> Option<&[u8]>
     ensures { option_copied result ≡ value_of name attributes.now }
 {

@@ -1,25 +1,25 @@
-// Runs of bytes at the front of a text.
+//! Runs of bytes at the front of a text.
 
 ghost use Rattle.std.specs.Prelude.{◌≡◌, ◌≤◌, length};
 ghost use Rattle.esi_scanner.specs.Bytes as spec;
 
 use edge_types::is_ws;
 
-// Whether the byte can stand in an element's name.
+// Whether the byte may be part of an element's name.
 fn is_element_byte(byte: u8) -> bool
     ensures { result ≡ spec.is_element_byte byte }
 {
     !(is_ws(byte) || byte == b'/' || byte == b'>')
 }
 
-// Whether the byte can stand in an attribute's name.
+// Whether the byte may be part of an attribute's name.
 fn is_attribute_byte(byte: u8) -> bool
     ensures { result ≡ spec.is_attribute_byte byte }
 {
     byte.is_ascii_alphanumeric() || matches!(byte, b'-' | b'_' | b':' | b'.')
 }
 
-// How many bytes of an element's name stand at the front.
+// How many bytes of an element's name are at the front.
 pub(crate) fn element_len(text: &[u8]) -> usize
     ensures value { result ≡ spec.element_len text.now }
     ensures within { result ≤ length text.now }
@@ -32,7 +32,7 @@ pub(crate) fn element_len(text: &[u8]) -> usize
     text.len()
 }
 
-// How many bytes of an attribute's name stand at the front.
+// How many bytes of an attribute's name are at the front.
 pub(crate) fn attribute_len(text: &[u8]) -> usize
     ensures value { result ≡ spec.attribute_len text.now }
     ensures within { result ≤ length text.now }

@@ -1,4 +1,4 @@
-// The names of the standard's elements.
+//! The names of the standard's elements.
 
 ghost use Rattle.std.specs.Prelude.{◌≡◌};
 ghost use Rattle.esi_scanner.specs.Names.{element_text, element_of};
@@ -55,7 +55,7 @@ impl ElementName {
         }
     }
 
-    /// The element whose name these bytes are, case for case. Takes no memory.
+    /// The element whose name these bytes spell, case for case. Takes no memory.
     #[tactic(auto, unfolding(crate::specs::Names::element_of))]
     pub fn of(bytes: &[u8]) -> Option<ElementName>
         ensures { result ≡ element_of bytes.now }

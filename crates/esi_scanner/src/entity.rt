@@ -1,4 +1,4 @@
-// The entities of attribute values, and the values that they spell.
+//! The entities of attribute values, and the values that they spell.
 
 ghost use Rattle.std.specs.Prelude.{◌≡◌, ◌<◌, ◌≤◌, length, IfOk, IfSome};
 ghost use Rattle.esi_scanner.specs.Entities.{entity_text, entity_byte, entity_at, decoded};
@@ -8,7 +8,7 @@ ghost use Rattle.esi_scanner.specs.Entities.{letter_at};
 use edge_types::{NoMemory, Octets};
 use std::alloc::Global;
 
-/// A spelling that stands for one byte.
+/// A spelling that denotes one byte.
 #[derive(Clone, Copy, Debug, Drop, PartialEq, Eq)]
 pub(crate) enum Entity {
     Amp,
@@ -40,7 +40,7 @@ impl Entity {
         }
     }
 
-    // The byte for which it stands.
+    // The byte that it denotes.
     fn byte(self) -> u8
         ensures { result ≡ entity_byte self }
     {

@@ -1,4 +1,4 @@
-// Why a text has no tokens.
+//! Why a text has no tokens.
 
 use edge_types::NoMemory;
 use std::alloc::AllocFailed;
@@ -10,7 +10,7 @@ pub enum ScanFault {
     /// No token begins at the opener at this place, or the block that begins there has no end.
     #[error("no token begins at byte {0}, or the block there has no end: correct it there")]
     Malformed(usize),
-    /// Memory ran out.
+    /// Out of memory.
     #[error("out of memory: try again with more of it")]
     NoMemory,
 }

@@ -1,6 +1,6 @@
 //! The tokens of a text: which of its bytes are text, and which are tags of the ESI language.
 //!
-//! `scan` is the one way in. Clauses see tokens as plain data: an attribute list is a list of names with their decoded
+//! `scan` is the only way in. Clauses see tokens as plain data: an attribute list is a list of names with their decoded
 //! values, and a byte string is a list of bytes. `specs/Spelling.antt` says which tokens spell a text and where a text
 //! has its fault, `specs/Scan.antt` how both are computed, and `laws` that the two agree.
 #![tactic(auto)]

@@ -1,4 +1,5 @@
-// Openers: where a token other than text can begin.
+//! Openers: where a token other than text can begin.
+
 ghost use Rattle.std.specs.Prelude.{◌≡◌, ℕ, false, ◌<◌, ◌≤◌, length, drop, IfSome};
 ghost use Rattle.esi_scanner.specs.Bytes.{shown, bytes_before};
 ghost use Rattle.esi_scanner.specs.Scan.{begins_mark, begins_opener, mark_at};
@@ -39,7 +40,7 @@ fn begins_opener(block: bool, text: &[u8]) -> bool
     text.starts_with(b"<esi:") || text.starts_with(b"</esi:") || begins_mark(block, text)
 }
 
-// How many bytes stand before the first that can begin an opener.
+// How many bytes are before the first that can begin an opener.
 fn plain_len(block: bool, text: &[u8]) -> usize
     ensures within { result ≤ length text.now }
     ensures plain { (i : ℕ) → i < result → begins_opener block (drop i text.now) ≡ false }
@@ -50,7 +51,7 @@ fn plain_len(block: bool, text: &[u8]) -> usize
     memchr(b'<', text).unwrap_or(text.len())
 }
 
-/// How many bytes stand before the first opener. Takes no memory.
+/// How many bytes are before the first opener. Takes no memory.
 pub(crate) fn text_len(block: bool, text: &[u8]) -> usize
     ensures value { result ≡ bytes_before (begins_opener block) text.now }
     ensures within { result ≤ length text.now }

@@ -1,4 +1,4 @@
-// Why no token begins at a place.
+//! Why no token begins at a place.
 
 ghost use Rattle.std.specs.Prelude.{◌≡◌, ◌<◌, ◌≤◌, [], length, IfOk, IfSome};
 ghost use Rattle.esi_scanner.specs.Bytes.{shown_pair};
@@ -15,19 +15,19 @@ use std::collections::BTreeSet;
 pub enum Problem {
     /// No element of the language has the name.
     UnknownElement,
-    /// No white space stands before the attribute.
+    /// No white space is before the attribute.
     NoSpace,
     /// No `=` follows the attribute's name.
     NoEquals,
-    /// The attribute's value begins with no quote.
+    /// The attribute's value doesn't begin with a quote.
     NoQuote,
-    /// The quote at which the attribute's value begins has no second one.
+    /// The quote that opens the attribute's value is never closed.
     OpenQuote,
-    /// An attribute of this name came before in the tag.
+    /// An attribute with this name came before in the tag.
     Twice,
     /// The text ends inside the tag.
     TextEnds,
-    /// The byte can't stand there in a tag.
+    /// The byte isn't allowed there in a tag.
     StrayByte,
     /// No `</esi:remove>` follows the tag.
     NoRemoveEnd,
@@ -56,8 +56,8 @@ fn skipped_at(text: &[u8]) -> Option<(&[u8], &[u8])>
     Some((name, rest))
 }
 
-// Passes attributes over up to one whose name came before, or to where none stands: whether it is the first, and what
-// stands there.
+// Skips attributes up to one whose name came before, or to where there is none: whether it was the former, and
+// what is there.
 fn walked(alloc: Global, text: &[u8]) -> Result<(bool, &[u8]), NoMemory>
     ensures value { IfOk result (λ found. shown_walk found ≡ walked (length text.now) [] text.now) }
     ensures within { IfOk result (λ found. length found.1.now ≤ length text.now) }
@@ -83,7 +83,7 @@ fn value_problem(text: &[u8]) -> Problem
     }
 }
 
-// What is wrong with an attribute that can't be read, behind its name.
+// What is wrong with an attribute that can't be read, after its name.
 fn attribute_problem(text: &[u8]) -> Problem
     ensures { result ≡ attribute_problem text.now }
 {
@@ -93,7 +93,7 @@ fn attribute_problem(text: &[u8]) -> Problem
     }
 }
 
-// What is wrong where neither an attribute nor the end of a tag can be read, and where.
+// What is wrong if neither an attribute nor the end of a tag can be read, and where.
 #[tactic(auto, unfolding(crate::specs::Problems::end_problem))]
 fn end_problem(text: &[u8]) -> (Problem, &[u8])
     ensures value { shown_problem result ≡ end_problem text.now }
@@ -112,7 +112,7 @@ fn end_problem(text: &[u8]) -> (Problem, &[u8])
     }
 }
 
-// What is wrong behind `<esi:`.
+// What is wrong after `<esi:`.
 #[tactic(auto, unfolding(crate::specs::Problems::open_problem))]
 fn open_problem(alloc: Global, text: &[u8]) -> Result<(Problem, &[u8]), NoMemory>
     ensures value { IfOk result (λ found. shown_problem found ≡ open_problem text.now) }
@@ -131,7 +131,7 @@ fn open_problem(alloc: Global, text: &[u8]) -> Result<(Problem, &[u8]), NoMemory
     }
 }
 
-// What is wrong behind `</esi:`.
+// What is wrong after `</esi:`.
 #[tactic(auto, unfolding(crate::specs::Problems::close_problem))]
 fn close_problem(text: &[u8]) -> (Problem, &[u8])
     ensures value { shown_problem result ≡ close_problem text.now }
@@ -163,11 +163,11 @@ fn problem_of(alloc: Global, text: &[u8]) -> Result<(Problem, &[u8]), NoMemory>
     }
 }
 
-/// Tells why a text is malformed at the place that `scan` told: what is wrong with the tag there, and where in it; where
+/// Says why a text is malformed at the place that `scan` reported: what is wrong with the tag there, and where; or, if
 /// no tag of the language begins there, that the block has no end. Reads that tag alone, once more.
 ///
-/// Of several attributes that are given again the first is told, and that before anything behind it. A place behind the
-/// text's end is the end. `NoMemory` comes where a growth is refused.
+/// Of several attributes that are repeated the first is reported, before anything after it. A place past the
+/// text's end counts as the end. `NoMemory` if an allocation fails.
 #[tactic(auto, unfolding(crate::specs::Problems::trouble_at))]
 pub fn trouble_at(alloc: Global, text: &[u8], place: usize) -> Result<Trouble, NoMemory>
     ensures { IfOk result (λ trouble. trouble ≡ trouble_at text.now place) }

@@ -1,4 +1,4 @@
-// The content of a `remove` element.
+//! The content of a `remove` element.
 
 ghost use Rattle.std.specs.Prelude.{◌≡◌, ◌≤◌, ◌<◌, length, IfSome, IsSome};
 ghost use Rattle.std.specs.Option.{option_copied};
@@ -8,7 +8,7 @@ use memchr::memmem;
 
 const REMOVE_END: &[u8] = b"</esi:remove>";
 
-// How many bytes stand before the first end tag; the text's length where there is none.
+// How many bytes are before the first end tag; the text's length if there isn't one.
 #[tactic(auto, using(crate::proofs::Places::removed_search))]
 fn removed_len(text: &[u8]) -> usize
     ensures value { result ≡ removed_len text.now }

@@ -1,4 +1,4 @@
-// Cuts a text into its tokens.
+//! Cuts a text into its tokens.
 
 ghost use Rattle.std.specs.Prelude.{◌≡◌, ℕ, ◌<◌, ◌≤◌, List, length, Ok, Err, IfOk, IfErr, IfSome};
 ghost use Rattle.esi_scanner.specs.declared.token.Token.{Token};
@@ -28,7 +28,7 @@ fn opened(tag: Tag, rest: &[u8]) -> Option<(Kind, &[u8])>
     }
 }
 
-// The token of an opening tag, behind its `<esi:`.
+// The token of an opening tag, from after its `<esi:` on.
 #[tactic(auto, unfolding(crate::specs::Scan::open_at))]
 fn open_at(alloc: Global, text: &[u8]) -> Result<Option<(Kind, &[u8])>, NoMemory>
     ensures value { IfOk result (λ found. shown found ≡ open_at text.now) }
@@ -40,7 +40,7 @@ fn open_at(alloc: Global, text: &[u8]) -> Result<Option<(Kind, &[u8])>, NoMemory
     }
 }
 
-// The token of a closing tag, behind its `</esi:`.
+// The token of a closing tag, from after its `</esi:` on.
 #[tactic(auto, unfolding(crate::specs::Scan::close_at))]
 fn close_at(text: &[u8]) -> Option<(Kind, &[u8])>
     ensures value { shown result ≡ close_at text.now }
@@ -109,17 +109,17 @@ fn tokens_of(alloc: Global, text: &[u8]) -> Result<Vec<Token>, ScanFault>
 /// Cuts a text into its tokens, in the text's order, from its first byte to its last.
 ///
 /// Places are offsets in bytes. Names of elements are matched case for case, and values are decoded once.
-/// `Malformed` tells the first place where an opening or a closing tag of the language begins that is none; where there
-/// is no such place, that of a `<!--esi` without its end. `NoMemory` comes where a growth is refused.
+/// `Malformed` reports the first place where an invalid opening or closing tag of the language begins; if there
+/// is no such place, that of a `<!--esi` without its end. `NoMemory` if an allocation fails.
 ///
 /// Source: ESI Language Specification 1.0, "ESI Language" and "ESI Markup Comment"; the spelling of tags in detail is our
 /// profile.
 pub fn scan(alloc: Global, text: &[u8]) -> Result<Vec<Token>, ScanFault>
-    // What is read spells the text, and what spells it is read.
+    // The tokens that are read spell the text, and tokens that spell it are read.
     ensures found { IfOk result (λ tokens. Spells text.now tokens.items) }
     ensures only { (tokens : List Token) → Spells text.now tokens → Gives result (Ok tokens) }
 
-    // A fault is told by its place, and no other place is told.
+    // A fault is reported by its place, and no other place is reported.
     ensures malformed { IfErr result (TellsFault text.now) }
     ensures refused { (at : ℕ) → IsFaultAt text.now at → Gives result (Err at) }
 

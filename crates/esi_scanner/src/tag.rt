@@ -1,4 +1,4 @@
-// Tags, read from the front of a text.
+//! Tags, read from the front of a text.
 
 ghost use Rattle.std.specs.Prelude.{◌≡◌, ◌<◌, ◌≤◌, length, IfOk, IfSome};
 ghost use Rattle.std.specs.Option.{option_copied};
@@ -19,7 +19,7 @@ use std::collections::BTreeSet;
 pub struct Tag {
     pub name: ElementName,
     pub attributes: Attributes,
-    /// It ends with `/>`, which stands for the tag and its end with nothing between.
+    /// It ends with `/>`, which means the tag and its end with nothing between.
     pub closed: bool,
 }
 
@@ -102,7 +102,7 @@ pub(crate) fn element_at(text: &[u8]) -> Option<(ElementName, &[u8])>
     Some((ElementName::of(name)?, rest))
 }
 
-/// A closing tag, behind its `</esi:`, and what follows.
+/// A closing tag, from after its `</esi:` on, and what follows.
 #[tactic(auto, unfolding(crate::specs::Tag::closing_at))]
 pub(crate) fn closing_at(text: &[u8]) -> Option<(ElementName, &[u8])>
     ensures value { shown result ≡ closing_at text.now }
@@ -113,7 +113,7 @@ pub(crate) fn closing_at(text: &[u8]) -> Option<(ElementName, &[u8])>
     Some((name, rest))
 }
 
-// As many attributes as stand there, and what follows them.
+// As many attributes as there are, and what follows them.
 fn attributes_at(alloc: Global, text: &[u8]) -> Result<(Vec<Attribute>, &[u8]), NoMemory>
     ensures value { IfOk result (λ found. (found.0.items, found.1.now) ≡ attributes_at (length text.now) text.now) }
     ensures shorter { IfOk result (λ found. length found.1.now ≤ length text.now) }
@@ -127,7 +127,7 @@ fn attributes_at(alloc: Global, text: &[u8]) -> Result<(Vec<Attribute>, &[u8]), 
     Ok((attributes, rest))
 }
 
-// Whether no name comes twice. A set of the names seen keeps this from growing with the square of their number.
+// Whether no name comes twice. A set of the names seen keeps the time from growing with the square of their number.
 fn are_distinct(alloc: Global, attributes: &[Attribute]) -> Result<bool, NoMemory>
     ensures { IfOk result (λ distinct. distinct ≡ all_distinct (names_of attributes.now)) }
 {
@@ -158,7 +158,7 @@ fn distinct_attributes_at(
     Ok(Some((Attributes::of(attributes), rest)))
 }
 
-/// An opening tag, behind its `<esi:`, and what follows; `None` where no tag stands there.
+/// An opening tag, from after its `<esi:` on, and what follows; `None` if there isn't one.
 #[tactic(auto, unfolding(crate::specs::Tag::tag_at))]
 pub(crate) fn tag_at(alloc: Global, text: &[u8]) -> Result<Option<(Tag, &[u8])>, NoMemory>
     ensures value { IfOk result (λ found. shown found ≡ tag_at text.now) }

@@ -1,9 +1,9 @@
-// The tokens of a text.
+//! The tokens of a text.
 
 use crate::element_name::ElementName;
 use crate::tag::Tag;
 
-/// Where a token stands: the places of its first byte and of the first byte after it.
+/// Where a token is: the places of its first byte and of the first byte after it.
 #[derive(Clone, Copy, Debug, Drop, PartialEq, Eq)]
 pub struct Span {
     pub start: usize,
@@ -21,7 +21,7 @@ pub enum Kind {
     Close(ElementName),
     /// A whole `remove` element, with all that it removes.
     Remove,
-    /// `<!--esi`, without the byte of white space behind it.
+    /// `<!--esi`, without the byte of white space after it.
     BlockStart,
     /// `-->`, at the end of a block.
     BlockEnd,

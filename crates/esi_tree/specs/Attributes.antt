@@ -1,4 +1,4 @@
--- What the attributes of a tag say.
+-- What the attributes of a tag mean.
 use Rattle.std.specs.Prelude.{ℕ, Bool, false, List, codes, bytes_eq, Option, Some, None, option_map}
 use Rattle.std.specs.List.{list_all}
 use Rattle.edge_types.specs.WhiteSpace.{is_ws}
@@ -24,7 +24,7 @@ abbrev is_continue : Option (List ℕ) → Bool
 is_continue None = false
 is_continue (Some value) = bytes_eq value (codes "continue")
 
--- whether `onerror` says that the page goes on without the element; any other value than `continue` says nothing
+-- whether `onerror` says that the page goes on without the element; any value other than `continue` has no meaning
 unfoldable pub continues : List Attribute → Bool
 continues attributes = is_continue (value_of known.OnError attributes)
 
@@ -32,7 +32,7 @@ continues attributes = is_continue (value_of known.OnError attributes)
 abbrev pub include_of : List Attribute → Option Include
 include_of attributes = option_map (λ src. record { src = src; alt = alt_of attributes; continues = continues attributes }) (src_of attributes)
 
--- the test of a `when`, where there is one that can be read
+-- the test of a `when`, if there is one that can be read
 abbrev pub when_test : List Attribute → Option Test
 when_test attributes = value_of known.Test attributes >>= read_test
 
@@ -40,6 +40,6 @@ when_test attributes = value_of known.Test attributes >>= read_test
 abbrev pub inline_name : List Attribute → Option (List ℕ)
 inline_name attributes = value_of known.Name attributes
 
--- white space alone
+-- only white space
 abbrev pub is_white : List ℕ → Bool
 is_white bytes = list_all is_ws bytes

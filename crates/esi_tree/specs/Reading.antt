@@ -25,7 +25,7 @@ pub data Halves : Type 0 where
   ExceptAlone : (except : Elements) → Halves
   Both : (attempt : Elements) (except : Elements) (swapped : Bool) → Halves
 
--- an element whose end hasn't come, with what its tag says and what has been read inside
+-- an element whose end hasn't come yet, with what its tag says and what has been read inside
 pub data Frame : Type 0 where
   InInclude : (include : Include) → Frame
   InComment : Frame
@@ -38,7 +38,7 @@ pub data Frame : Type 0 where
   InAttempt : (content : List Element) → Frame
   InExcept : (content : List Element) → Frame
 
--- what has been read so far: the elements that are open, the innermost first, and the elements that stand in none
+-- what has been read so far: the elements that are open, the innermost first, and the elements outside them
 pub record State : Type 0 where
   pub frames : List Frame
   pub content : List Element
@@ -47,26 +47,26 @@ pub record State : Type 0 where
 abbrev pub start : State
 start = record { frames = []; content = [] }
 
--- what an element gives to that in which it stands: an element of a run, a branch of a choose, or a part of a try
+-- what an element passes on to the one around it: an element of a run, a branch of a choose, or a part of a try
 pub data Child : Type 0 where
   AnElement : (e : Element) → Child
   ABranch : (branch : Branch) → Child
   AnAttempt : (content : Elements) → Child
   AnExcept : (content : Elements) → Child
 
--- a try's parts with the attempt; a second one is never read
+-- a try's parts with the attempt added; a second one is never read
 abbrev pub with_attempt : Elements → Halves → Halves
 with_attempt content Neither = AttemptAlone content
 with_attempt content (ExceptAlone except) = Both content except true
 with_attempt content halves = halves
 
--- and with the except
+-- and with the except added
 abbrev pub with_except : Elements → Halves → Halves
 with_except content Neither = ExceptAlone content
 with_except content (AttemptAlone attempt) = Both attempt content false
 with_except content halves = halves
 
--- an open element with one element more in its run
+-- an open element with one more element in its run
 abbrev pub with_element : Element → Frame → Frame
 with_element e (InInline name content) = InInline name (content ++ e ∷ [])
 with_element e (InVars content) = InVars (content ++ e ∷ [])
@@ -76,29 +76,29 @@ with_element e (InAttempt content) = InAttempt (content ++ e ∷ [])
 with_element e (InExcept content) = InExcept (content ++ e ∷ [])
 with_element e frame = frame
 
--- a choose with one branch more
+-- a choose with one more branch
 abbrev pub with_branch : Branch → Frame → Frame
 with_branch branch (InChoose branches) = InChoose (branches ++ branch ∷ [])
 with_branch branch frame = frame
 
--- a try with one part more
+-- a try with one more part
 abbrev pub with_half : (Halves → Halves) → Frame → Frame
 with_half more (InTry halves) = InTry (more halves)
 with_half more frame = frame
 
--- an open element with one child more
+-- an open element with one more child
 abbrev pub grown : Child → Frame → Frame
 grown (AnElement e) frame = with_element e frame
 grown (ABranch branch) frame = with_branch branch frame
 grown (AnAttempt content) frame = with_half (with_attempt content) frame
 grown (AnExcept content) frame = with_half (with_except content) frame
 
--- what stands in no element, with one child more
+-- what is outside all elements, with one more child
 abbrev pub grown_page : Child → List Element → List Element
 grown_page (AnElement e) content = content ++ e ∷ []
 grown_page child content = content
 
--- one child more at the innermost place
+-- one more child in the innermost open element
 abbrev pub put_in : Child → List Frame → List Element → State
 put_in child [] content = record { frames = []; content = grown_page child content }
 put_in child (frame ∷ outer) content = record { frames = grown child frame ∷ outer; content = content }
@@ -106,7 +106,7 @@ put_in child (frame ∷ outer) content = record { frames = grown child frame ∷
 abbrev pub put : Child → State → State
 put child state = put_in child state.frames state.content
 
--- whether any element may stand in an open one
+-- whether any element may be in an open one
 abbrev pub holds_run : Frame → Bool
 holds_run (InInclude include) = false
 holds_run InComment = false
@@ -114,7 +114,7 @@ holds_run (InChoose branches) = false
 holds_run (InTry halves) = false
 holds_run _ = true
 
--- whether any element may stand at the innermost place
+-- whether any element may come at the innermost place
 abbrev pub is_run : List Frame → Bool
 is_run [] = true
 is_run (frame ∷ outer) = holds_run frame
@@ -133,7 +133,7 @@ abbrev pub text_element : Bool → List ℕ → Element
 text_element false bytes = tree.Text bytes
 text_element true bytes = tree.VarsText (parts_of bytes)
 
--- what has been read after a run of text: where no run stands, white space alone may stand, and gives nothing
+-- what has been read after a run of text: where no run may be, only white space is allowed, and it adds nothing
 unfoldable pub after_text : List ℕ → State → Option State
 after_text bytes state =
     if is_run state.frames then Some (put (AnElement (text_element (in_vars state.frames) bytes)) state)
@@ -162,7 +162,7 @@ lacks_except Neither = true
 lacks_except (AttemptAlone attempt) = true
 lacks_except _ = false
 
--- whether an element of this name may stand in a run
+-- whether an element with this name may be in a run
 abbrev pub stands_in_run : ElementName → Bool
 stands_in_run element.Include = true
 stands_in_run element.Inline = true
@@ -172,19 +172,19 @@ stands_in_run element.Comment = true
 stands_in_run element.Vars = true
 stands_in_run _ = false
 
--- whether it may stand in a choose of these branches
+-- whether it may be in a choose with these branches
 abbrev pub stands_in_choose : ElementName → List Branch → Bool
 stands_in_choose element.When branches = true
 stands_in_choose element.Otherwise branches = not (list_any is_otherwise branches)
 stands_in_choose _ branches = false
 
--- whether it may stand in a try of these parts
+-- whether it may be in a try with these parts
 abbrev pub stands_in_try : ElementName → Halves → Bool
 stands_in_try element.Attempt halves = lacks_attempt halves
 stands_in_try element.Except halves = lacks_except halves
 stands_in_try _ halves = false
 
--- whether it may stand in an open element
+-- whether it may be in an open element
 abbrev pub stands_in : ElementName → Frame → Bool
 stands_in name (InInclude include) = false
 stands_in name InComment = false
@@ -192,12 +192,12 @@ stands_in name (InChoose branches) = stands_in_choose name branches
 stands_in name (InTry halves) = stands_in_try name halves
 stands_in name _ = stands_in_run name
 
--- whether it may stand at the innermost place
+-- whether it may come at the innermost place
 abbrev pub may_stand : ElementName → List Frame → Bool
 may_stand name [] = stands_in_run name
 may_stand name (frame ∷ outer) = stands_in name frame
 
--- the element that a tag opens, where the tag has the attributes that it needs
+-- the element that a tag opens, if the tag has the attributes that it needs
 unfoldable pub opened_by : ElementName → List Attribute → Option Frame
 opened_by element.Include attributes = include_of attributes >>= λ include. Some (InInclude include)
 opened_by element.Inline attributes = inline_name attributes >>= λ name. Some (InInline name [])
@@ -211,7 +211,7 @@ opened_by element.Comment attributes = Some InComment
 opened_by element.Remove attributes = None
 opened_by element.Vars attributes = Some (InVars [])
 
--- the same with an element open
+-- what has been read, with one more element open
 abbrev pub inside : Frame → State → State
 inside frame state = record { frames = frame ∷ state.frames; content = state.content }
 
@@ -257,7 +257,7 @@ abbrev pub try_of : Halves → Option Child
 try_of (Both attempt except swapped) = Some (AnElement (tree.Try attempt except swapped))
 try_of _ = None
 
--- what an open element gives at its end, where it may end
+-- what an open element passes on at its end, if it may end
 unfoldable pub child_of : Frame → Option Child
 child_of (InInclude include) = Some (AnElement (tree.Include include))
 child_of InComment = Some (AnElement tree.Nothing)
@@ -283,14 +283,14 @@ left_in name (frame ∷ outer) content = ended_by name frame (record { frames = 
 unfoldable pub left : ElementName → State → Option State
 left name state = left_in name state.frames state.content
 
--- what has been read after an opening tag; a closed one stands for its end too
+-- what has been read after an opening tag; a closed one counts as its end too
 unfoldable pub after_tag : Tag → State → Option State
 after_tag tag state =
     if nat_lt (length state.frames) OPEN_LIMIT
     then (entered tag.name tag.attributes state >>= λ within. if tag.closed then left tag.name within else Some within)
     else None
 
--- what has been read after one more item, where a template goes on with it
+-- what has been read after one more item, if it can continue a template
 unfoldable pub after : Item → State → Option State
 after (Text bytes) state = after_text bytes state
 after (Open tag) state = after_tag tag state
@@ -303,12 +303,12 @@ abbrev pub ended : List Frame → List Element → ℕ → Result Elements ℕ
 ended [] content end = Ok (row content)
 ended (frame ∷ outer) content end = Err end
 
--- what the other tokens give, where a template goes on with this one; else its place
+-- what the other tokens result in, if this one can continue a template; else its place
 abbrev pub then_read : (State → Result Elements ℕ) → ℕ → Option State → Result Elements ℕ
 then_read others at None = Err at
 then_read others at (Some state) = others state
 
--- The tree of the tokens that are still to be read: or the place of the first with which no template goes on, else
+-- The tree of the tokens that are still to be read: or the place of the first that can't continue a template, else
 -- that of the text's end.
 unfoldable pub read_from : List ℕ → List Token → State → Result Elements ℕ
 read_from text [] state = ended state.frames state.content (length text)

@@ -29,7 +29,7 @@ abbrev pub branch_row : List Branch → tree.Branches
 branch_row [] = tree.NoBranch
 branch_row (b ∷ bs) = branch_before b.test b.content (branch_row bs)
 
--- the element of a node, where those of the nodes in it are known
+-- the element of a node, if those of the nodes in it are known
 abbrev pub element_step : layer.Node-F tree.Element Branch → tree.Element
 element_step (layer.Text text) = tree.Text text
 element_step (layer.VarsText parts) = tree.VarsText parts

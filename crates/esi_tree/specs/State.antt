@@ -23,7 +23,7 @@ halves_of (half.AttemptAlone attempt) = reading.AttemptAlone (elements_of attemp
 halves_of (half.ExceptAlone except) = reading.ExceptAlone (elements_of except.items)
 halves_of (half.Both attempt except swapped) = reading.Both (elements_of attempt.items) (elements_of except.items) swapped
 
--- what an element gives to that in which it stands
+-- what an element passes on to the one around it
 abbrev pub shown_child : code_child.Child → reading.Child
 shown_child (given.Element node) = reading.AnElement (element_of node)
 shown_child (given.Branch branch) = reading.ABranch (branch_of branch)
@@ -47,7 +47,7 @@ frame_of (unended.Except content) = reading.InExcept (map element_of content.ite
 unfoldable pub frames_of : OpenElements → List Frame
 frames_of elements = reverse (map frame_of elements.elements.items)
 
--- the open elements with one child more in the innermost
+-- the open elements with one more child in the innermost
 abbrev pub grown_innermost : reading.Child → List Frame → List Frame
 grown_innermost child [] = []
 grown_innermost child (frame ∷ outer) = reading.grown child frame ∷ outer
@@ -61,10 +61,10 @@ is_none_open (frame ∷ outer) = false
 abbrev pub state_of : Reader → State
 state_of reader = record { frames = frames_of reader.open; content = map element_of reader.content.items }
 
--- what has been read, where a template goes on so
+-- what has been read, if it can continue a template
 abbrev pub some_if : Bool → State → Option State
 some_if goes_on state = if goes_on then Some state else None
 
--- at the end of a text a reader gives the tree of a text, and none deeper than a template may be
+-- at the end of a text a reader yields the tree of a text, and none deeper than a template may be
 abbrev pub EndsWell : State → Type 0
 EndsWell state = (end : ℕ) (t : Elements) → ended state.frames state.content end ≡ Ok t → (depth t ≤ OPEN_LIMIT + 1) × HasText t

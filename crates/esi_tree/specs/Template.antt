@@ -14,13 +14,13 @@ use Rattle.esi_tree.specs.Tree.{Element, Elements, End, Then, Branches, NoBranch
 use Rattle.esi_tree.specs.Items.{Item, Text, Open, Close, Remove, Block}
 use Rattle.esi_tree.specs.Attributes.{include_of, when_test, inline_name, is_white}
 
--- the items without the marks of blocks, which are passed over wherever they stand
+-- the items without the marks of blocks, which are skipped wherever they are
 abbrev pub struck : List Item → List Item
 struck [] = []
 struck (Block ∷ items) = struck items
 struck (item ∷ items) = item ∷ struck items
 
--- text of white space alone
+-- text of nothing but white space
 abbrev pub IsWhite : Item → Type 0
 IsWhite (Text bytes) = is_white bytes ≡ true
 IsWhite _ = ⊥
@@ -29,7 +29,7 @@ IsWhite _ = ⊥
 abbrev pub AreWhite : List Item → Type 0
 AreWhite items = AllByRecursion IsWhite items
 
--- an opening tag, what stands between it and its end, and its end; a closed tag has nothing between
+-- an opening tag, what is between it and its end, and its end; a closed tag has nothing between
 pub record Encloses (name : ElementName) (items : List Item) (Content : List Attribute → List Item → Type 0) : Type 0 where
   pub tag : Tag
   pub content : List Item
@@ -57,11 +57,11 @@ pub record IsVarsText (parts : List Part) (items : List Item) : Type 0 where
   pub parts_are : parts_of bytes ≡ parts
   pub items_are : items ≡ Text bytes ∷ []
 
--- an element of this name round such content, which needs no attribute
+-- an element with this name around such content, which needs no attribute
 abbrev pub IsPart : ElementName → (List Item → Type 0) → List Item → Type 0
 IsPart name IsContent items = Encloses name items (λ _ content. IsContent content)
 
--- a `when` of this test round such content
+-- a `when` with this test around such content
 abbrev pub IsWhen : Test → (List Item → Type 0) → List Item → Type 0
 IsWhen test IsContent items = Encloses element.When items (λ attributes content. (when_test attributes ≡ Some test) × IsContent content)
 
@@ -72,7 +72,7 @@ HasWhen (When test content rest) = Unit {0}
 HasWhen (tree.Otherwise content rest) = HasWhen rest
 
 abbrev mutual
-  -- these items are this element, where `vars` says whether a vars element stands round it
+  -- these items are this element, where `vars` says whether a vars element is around it
   pub IsElement : Bool → Element → List Item → Type 0
   IsElement vars (tree.Text bytes) items = (vars ≡ false) × (items ≡ Text bytes ∷ [])
   IsElement vars (tree.VarsText parts) items = (vars ≡ true) × IsVarsText parts items
@@ -100,14 +100,14 @@ abbrev mutual
   AreBranches vars free (tree.Otherwise content rest) items =
       (free ≡ true) × AfterWhite items (IsPart element.Otherwise (IsRun vars content)) (AreBranches vars false rest)
 
--- the most elements that are open at one place, where n are open before
+-- the most elements that are open at one place, if n are open before
 abbrev pub open_at_most : ℕ → List Item → ℕ
 open_at_most n [] = n
 open_at_most n (Open tag ∷ items) = max (n + 1) (open_at_most (if tag.closed then n else n + 1) items)
 open_at_most n (Close name ∷ items) = max n (open_at_most (n - 1) items)
 open_at_most n (item ∷ items) = max n (open_at_most n items)
 
--- no more elements are open at any place than may be
+-- at no place more elements are open than may be
 abbrev pub IsShallow : List Item → Type 0
 IsShallow items = open_at_most 0 items ≤ OPEN_LIMIT
 
@@ -116,7 +116,7 @@ pub record IsTemplate (t : Elements) (items : List Item) : Type 0 where
   pub shape : IsRun false t (struck items)
   pub shallow : IsShallow items
 
--- the items can be continued to a template, the depth of what is to come not being counted
+-- the items can be continued to a template, not counting the depth of what is to come
 pub record Begins (items : List Item) : Type 0 where
   pub more : List Item
   pub t : Elements

@@ -12,7 +12,7 @@ mutual
     VarsText : (parts : List Part) → Element
     Include : (include : code.Include) → Element
     Choose : (branches : Branches) → Element
-    -- `swapped`: the except stands before the attempt
+    -- `swapped`: the except comes before the attempt
     Try : (attempt : Elements) (except : Elements) (swapped : Bool) → Element
     Vars : (content : Elements) → Element
     Inline : (name : List ℕ) (content : Elements) → Element
@@ -30,7 +30,7 @@ mutual
     When : (test : Test) (content : Elements) (rest : Branches) → Branches
     Otherwise : (content : Elements) (rest : Branches) → Branches
 
--- how many elements stand in each other at the deepest place, a run of text counted as one
+-- how many elements are in each other at the deepest place, a run of text counted as one
 abbrev mutual
   pub element_depth : Element → ℕ
   element_depth (Text text) = 1

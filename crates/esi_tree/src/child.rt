@@ -1,4 +1,4 @@
-//! What an element gives, at its end, to the one in which it stands.
+//! What an element passes, at its end, to the one around it.
 
 use crate::node::{Branch, Node};
 

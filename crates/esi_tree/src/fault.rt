@@ -1,18 +1,18 @@
-//! Why a text is no template.
+//! Why a text isn't a template.
 
 use edge_types::NoMemory;
 use esi_scanner::ScanFault;
 use std::alloc::AllocFailed;
 use thiserror::Error;
 
-/// Why a text is no template.
+/// Why a text isn't a template.
 #[derive(Clone, Copy, Debug, Drop, PartialEq, Eq, Error)]
 pub enum TreeFault {
-    /// The place of the fault, in bytes: that of the tokens' fault, else of the first token with which no template
-    /// begins, else the text's length.
+    /// The place of the fault, in bytes: that of the tokens' fault, else of the first token that can't continue a
+    /// template, else the text's length.
     #[error("no template begins with the text up to byte {0} and what stands there: correct it there")]
     Bad(usize),
-    /// A growth was refused.
+    /// An allocation failed.
     #[error("out of memory: try again with more of it")]
     NoMemory,
 }

@@ -18,20 +18,20 @@ pub(crate) enum Halves {
     Both {
         attempt: Vec<Node>,
         except: Vec<Node>,
-        // The except stands first.
+        // The except comes first.
         swapped: bool,
     },
 }
 
 impl Halves {
-    // Puts the attempt in. A second one is never read, and would change nothing.
+    // Adds the attempt. A second one is never read, and would change nothing.
     pub(crate) fn add_attempt(&mut self, attempt: Vec<Node>)
         ensures { halves_of self.new ≡ with_attempt (elements_of attempt.items) (halves_of self.old) }
     {
         *self = mem::replace(self, Halves::Neither).with_attempt(attempt);
     }
 
-    // Puts the except in. A second one is never read, and would change nothing.
+    // Adds the except. A second one is never read, and would change nothing.
     pub(crate) fn add_except(&mut self, except: Vec<Node>)
         ensures { halves_of self.new ≡ with_except (elements_of except.items) (halves_of self.old) }
     {
@@ -66,7 +66,7 @@ impl Halves {
         }
     }
 
-    // Whether an element of this name may come next.
+    // Whether an element with this name may come next.
     pub(crate) fn admits(&self, name: ElementName) -> bool
         ensures { result ≡ stands_in_try name (halves_of self.now) }
     {
@@ -89,7 +89,7 @@ impl Halves {
         matches!(self, Halves::Neither | Halves::AttemptAlone(_))
     }
 
-    // The whole try, where both parts are there.
+    // The whole try, if both parts are there.
     pub(crate) fn into_child(self) -> Option<Child>
         ensures { option_map shown_child result ≡ try_of (halves_of self) }
     {

@@ -1,6 +1,6 @@
 //! Templates: the trees of texts.
 //!
-//! `template` is the one way in. Clauses see a template as its tree (`specs/Tree.antt`), without where it lies in
+//! `template` is the only way in. Clauses see a template as its tree (`specs/Tree.antt`), without where it lies in
 //! memory. `specs/Template.antt` says which tokens are the template of a tree, `specs/Reading.antt` how the tree, or the
 //! place of the fault, is computed from the tokens, one after another; the code is that reading.
 #![tactic(auto)]

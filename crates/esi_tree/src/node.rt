@@ -11,26 +11,26 @@ use std::sync::Arc;
 #[cycle(tree)]
 #[derive(Drop)]
 pub enum Node {
-    /// Text that is given out as it stands: a part of the template's body.
+    /// Text that is output as it is: a part of the template's body.
     Text(SharedBytes),
-    /// Text inside a `vars`, which is given out with the values of its references.
+    /// Text inside a `vars`, which is output with the values of its references.
     VarsText(Parts),
     /// A resource that replaces the element.
     Include(Include),
-    /// The branches, in the text's order, of which one is taken at most.
+    /// The branches, in the text's order, of which at most one is taken.
     Choose(Vec<Branch>),
-    /// What is tried, and what stands for it where it fails.
+    /// What is tried, and what replaces it if it fails.
     Try {
         /// What is tried.
         attempt: Vec<Node>,
-        /// What stands for it where it fails.
+        /// What replaces it if it fails.
         except: Vec<Node>,
-        /// The except stands before the attempt in the text.
+        /// The except comes before the attempt in the text.
         swapped: bool,
     },
     /// Elements in whose text references are replaced.
     Vars(Vec<Node>),
-    /// Elements that stand here and can be included by their name.
+    /// Elements that are output here and can also be included by their name.
     Inline {
         /// The name as it is written, decoded; no reference in it is replaced.
         name: Octets,
@@ -47,7 +47,7 @@ pub enum Node {
 pub struct Branch {
     /// The test of a `when`.
     pub test: Option<Arc<Expr>>,
-    /// What is processed where the branch is taken.
+    /// What is processed if the branch is taken.
     pub content: Vec<Node>,
 }
 

@@ -1,4 +1,4 @@
-//! An element whose end hasn't come: what its tag says, and what has been read inside.
+//! An element whose end hasn't come yet: what its tag says, and what has been read inside.
 ghost use Rattle.std.specs.Prelude.{◌≡◌, ◌∷◌, [], ◌++◌, map, OnOk, option_map};
 ghost use Rattle.std.specs.List.{list_any};
 ghost use Rattle.esi_tree.specs.Tree as tree;
@@ -29,7 +29,7 @@ pub(crate) enum OpenElement {
     Except(Vec<Node>),
 }
 
-// Puts one node more at the end of a run.
+// Adds one more node at the end of a run.
 pub(crate) fn push_node(run: &mut Vec<Node>, node: Node) -> Result<(), NoMemory>
     ensures { OnOk result (map element_of run.new.items ≡ map element_of run.old.items ++ element_of node ∷ []) }
 {
@@ -64,7 +64,7 @@ fn has_when(branches: &[Branch]) -> bool
     branches.iter().any(|branch| branch.is_when())
 }
 
-// Whether an element of this name may stand in a choose of these branches.
+// Whether an element with this name may be in a choose with these branches.
 #[tactic(auto, using(crate::proofs::AnyLemmas::any_map))]
 fn stands_in_choose(name: ElementName, branches: &[Branch]) -> bool
     ensures { result ≡ stands_in_choose name (map branch_of branches.now) }
@@ -82,7 +82,7 @@ fn choose(branches: Vec<Branch>) -> Child
     Child::Element(Node::Choose(branches))
 }
 
-// The choose, where one of its branches is a `when`.
+// The choose, if one of its branches is a `when`.
 #[tactic(auto, using(crate::proofs::AnyLemmas::any_map))]
 fn choose_of(branches: Vec<Branch>) -> Option<Child>
     ensures { option_map shown_child result ≡ choose_of (map branch_of branches.items) }
@@ -95,7 +95,7 @@ fn choose_of(branches: Vec<Branch>) -> Option<Child>
 }
 
 impl OpenElement {
-    // The name in its tags.
+    // The name in its tag.
     pub(crate) fn name(&self) -> ElementName
         ensures { result ≡ name_of (frame_of self.now) }
     {
@@ -113,7 +113,7 @@ impl OpenElement {
         }
     }
 
-    // Whether any element may stand in it.
+    // Whether any element may be in it.
     pub(crate) fn holds_run(&self) -> bool
         ensures { result ≡ holds_run (frame_of self.now) }
     {
@@ -133,7 +133,7 @@ impl OpenElement {
         matches!(self, OpenElement::Vars(_))
     }
 
-    // Whether an element of this name may stand in it next.
+    // Whether an element with this name may come in it next.
     pub(crate) fn admits(&self, name: ElementName) -> bool
         ensures { result ≡ stands_in name (frame_of self.now) }
     {
@@ -155,7 +155,7 @@ impl OpenElement {
             OpenElement::Otherwise(content) => push_node(content, node),
             OpenElement::Attempt(content) => push_node(content, node),
             OpenElement::Except(content) => push_node(content, node),
-            // Never comes: no node stands in these.
+            // Never happens: these contain no nodes.
             OpenElement::Include(_)
             | OpenElement::Comment
             | OpenElement::Choose(_)
@@ -166,7 +166,7 @@ impl OpenElement {
     fn add_branch(&mut self, branch: Branch) -> Result<(), NoMemory>
         ensures { OnOk result (frame_of self.new ≡ with_branch (branch_of branch) (frame_of self.old)) }
     {
-        // Always so: a branch is opened only where its choose is.
+        // Always the case: a branch is opened only in its choose.
         if let OpenElement::Choose(branches) = self {
             branches.push(branch)?;
         }
@@ -176,7 +176,7 @@ impl OpenElement {
     fn add_attempt(&mut self, content: Vec<Node>)
         ensures { frame_of self.new ≡ with_half (with_attempt (elements_of content.items)) (frame_of self.old) }
     {
-        // Always so: an attempt is opened only where its try is.
+        // Always the case: an attempt is opened only in its try.
         if let OpenElement::Try(halves) = self {
             halves.add_attempt(content);
         }
@@ -185,13 +185,13 @@ impl OpenElement {
     fn add_except(&mut self, content: Vec<Node>)
         ensures { frame_of self.new ≡ with_half (with_except (elements_of content.items)) (frame_of self.old) }
     {
-        // Always so: an except is opened only where its try is.
+        // Always the case: an except is opened only in its try.
         if let OpenElement::Try(halves) = self {
             halves.add_except(content);
         }
     }
 
-    // Puts in it what an element inside gave.
+    // Adds what an element inside it passed on.
     pub(crate) fn add(&mut self, child: Child) -> Result<(), NoMemory>
         ensures { OnOk result (frame_of self.new ≡ grown (shown_child child) (frame_of self.old)) }
     {
@@ -204,7 +204,7 @@ impl OpenElement {
         Ok(())
     }
 
-    // What it gives at its end, where it may end.
+    // What it passes on at its end, if it may end.
     #[tactic(auto, unfolding(crate::specs::Reading::child_of))]
     pub(crate) fn into_child(self) -> Option<Child>
         ensures { option_map shown_child result ≡ child_of (frame_of self) }

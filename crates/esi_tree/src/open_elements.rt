@@ -54,7 +54,7 @@ impl OpenElements {
         self.elements.last()
     }
 
-    // Whether any element may stand here.
+    // Whether any element may come here.
     pub(crate) fn is_run(&self) -> bool
         ensures { result ≡ is_run (frames_of self.now) }
     {
@@ -64,7 +64,7 @@ impl OpenElements {
         }
     }
 
-    // Whether an element of this name may stand here next.
+    // Whether an element with this name may come here next.
     pub(crate) fn admits(&self, name: ElementName) -> bool
         ensures { result ≡ may_stand name (frames_of self.now) }
     {
@@ -81,7 +81,7 @@ impl OpenElements {
         has_vars(self.elements.as_slice())
     }
 
-    // Puts in the innermost what an element inside gave.
+    // Adds to the innermost what an element inside it passed on.
     pub(crate) fn add(&mut self, child: Child) -> Result<(), NoMemory>
         ensures { OnOk result (frames_of self.new ≡ grown_innermost (shown_child child) (frames_of self.old)) }
     {

@@ -25,7 +25,7 @@ impl Model for Parts {
 }
 
 impl Parts {
-    /// The parts of this text; what stands between its references is a part of its bytes. `NoMemory` where a growth is refused; none are made then.
+    /// The parts of this text; the text between its references is lent from it. `NoMemory` if an allocation fails.
     ///
     /// Source: ESI Language Specification 1.0, "Variables".
     pub fn of(alloc: Global, text: &SharedBytes) -> Result<Parts, NoMemory>
@@ -36,7 +36,7 @@ impl Parts {
         })
     }
 
-    /// A second owner of the parts. `NoMemory` where a growth is refused; none is made then.
+    /// A second owner of the parts. `NoMemory` if an allocation fails; none is made then.
     pub fn share(&self) -> Result<Parts, NoMemory>
         ensures { IfOk result (λ shared. shared ≡ self.now) }
     {

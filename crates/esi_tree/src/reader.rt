@@ -19,7 +19,7 @@ use edge_types::{NoMemory, SharedBytes};
 use esi_scanner::{ElementName, Kind, Tag, Token, scan};
 use std::alloc::Global;
 
-// What has been read so far: the elements that are open, and the nodes that stand in none.
+// What has been read so far: the elements that are open, and the nodes outside them.
 #[derive(Drop)]
 struct Reader {
     open: OpenElements,
@@ -36,7 +36,7 @@ impl Reader {
         }
     }
 
-    // Puts one child more at the innermost place.
+    // Adds one more child in the innermost open element.
     fn add(&mut self, child: Child) -> Result<(), NoMemory>
         ensures { OnOk result (state_of self.new ≡ put (shown_child child) (state_of self.old)) }
     {
@@ -47,7 +47,7 @@ impl Reader {
         }
     }
 
-    // Reads a run of text. Where no run stands, white space alone may stand, and gives nothing.
+    // Reads a run of text. Where no run may be, only white space is allowed, and it adds nothing.
     #[tactic(auto, unfolding(crate::specs::Reading::after_text))]
     fn after_text(&mut self, alloc: Global, text: SharedBytes) -> Result<bool, NoMemory>
         ensures { IfOk result (λ goes_on. some_if goes_on (state_of self.new) ≡ after_text text (state_of self.old)) }
@@ -86,7 +86,7 @@ impl Reader {
         Ok(true)
     }
 
-    // Ends the innermost element, by this name.
+    // Ends the innermost element, if it has this name.
     #[tactic(auto, unfolding(crate::specs::Reading::left))]
     fn leave(&mut self, name: ElementName) -> Result<bool, NoMemory>
         ensures { IfOk result (λ goes_on. some_if goes_on (state_of self.new) ≡ left name (state_of self.old)) }
@@ -104,7 +104,7 @@ impl Reader {
         Ok(true)
     }
 
-    // Reads an opening tag; a closed one stands for its end too.
+    // Reads an opening tag; a self-closing one counts as its end too.
     #[tactic(auto, unfolding(crate::specs::Reading::after_tag))]
     fn after_tag(&mut self, alloc: Global, tag: &Tag) -> Result<bool, NoMemory>
         ensures { IfOk result (λ goes_on. some_if goes_on (state_of self.new) ≡ after_tag tag.now (state_of self.old)) }
@@ -122,7 +122,7 @@ impl Reader {
         }
     }
 
-    // Reads one more token, and says whether a template goes on with it.
+    // Reads one more token, and says whether it can continue a template.
     #[tactic(auto, unfolding(crate::specs::Reading::after))]
     fn after(&mut self, alloc: Global, text: &SharedBytes, token: &Token) -> Result<bool, NoMemory>
         ensures { IfOk result (λ goes_on. some_if goes_on (state_of self.new) ≡ after (item_of text.now token.now) (state_of self.old)) }
@@ -136,7 +136,7 @@ impl Reader {
         }
     }
 
-    // The template at the text's end, which is no place for an open element.
+    // The template at the text's end, where no element may be open.
     fn ended(self, end: usize) -> Result<Template, TreeFault>
         requires { EndsWell (state_of self) }
         ensures { Gives result (ended (state_of self).frames (state_of self).content end) }
@@ -148,7 +148,7 @@ impl Reader {
     }
 }
 
-// Puts one child more where no element is open; only a node can come there.
+// Adds one more child outside all elements; only a node can come there.
 fn add_to_page(content: &mut Vec<Node>, child: Child) -> Result<(), NoMemory>
     ensures { OnOk result (map element_of content.new.items ≡ grown_page (shown_child child) (map element_of content.old.items)) }
 {
@@ -158,7 +158,7 @@ fn add_to_page(content: &mut Vec<Node>, child: Child) -> Result<(), NoMemory>
     Ok(())
 }
 
-// Reads the template that a text of these tokens is.
+// Reads the template of a text with these tokens.
 fn template_of(alloc: Global, text: &SharedBytes, tokens: &[Token]) -> Result<Template, TreeFault>
     requires { scan_of text.now ≡ Ok tokens.now }
     ensures { Gives result (tree_of_tokens text.now tokens.now) }
@@ -173,18 +173,18 @@ fn template_of(alloc: Global, text: &SharedBytes, tokens: &[Token]) -> Result<Te
     reader.ended(end)
 }
 
-/// Reads the template that a text is. What the tree holds of the text are parts of its bytes.
+/// Reads the template of a text. What the tree holds of the text is lent from its bytes.
 ///
-/// The place of a fault is in bytes: that of the first token with which no template begins, else
+/// The place of a fault is in bytes: that of the first token that can't continue a template, else
 /// the text's length. A tag without an attribute that it needs, a test that can't be read, and an
-/// element that is one too many open (`OPEN_LIMIT`), are told at the start of their own tags. Where
+/// element that is one too many open (`OPEN_LIMIT`), are reported at the start of their own tags. If
 /// a text has no tokens, the place is that of the first malformed tag, else of the `<!--esi` without
 /// its end.
 ///
-/// `Bad` tells the place; `NoMemory` comes where a growth is refused. Either leaves nothing behind.
+/// `Bad` has the place; `NoMemory` if an allocation fails. Neither leaves anything behind.
 ///
-/// Source: ESI Language Specification 1.0, "ESI Language"; how the elements may stand in each
-/// other is our profile.
+/// Source: ESI Language Specification 1.0, "ESI Language"; which elements may be in which
+/// others is our profile.
 #[tactic(auto, unfolding(crate::specs::Reading::tree_of))]
 pub fn template(alloc: Global, text: &SharedBytes) -> Result<Template, TreeFault>
     ensures tree { Gives result (tree_of text.now) }

@@ -1,4 +1,4 @@
-//! What the tags and the text of a template say.
+//! What the tags and the text of a template mean.
 ghost use Rattle.std.specs.Prelude.{◌≡◌, IfOk, option_map};
 ghost use Rattle.esi_vars.specs.Parts.{parts_of};
 ghost use Rattle.esi_tree.specs.Shown.{element_of};
@@ -19,10 +19,10 @@ use esi_scanner::{Attributes, ElementName, KnownAttribute, Span, Tag};
 use std::alloc::Global;
 use std::sync::Arc;
 
-// The one value of `onerror` that says anything.
+// The only value of `onerror` that has a meaning.
 const CONTINUE: &[u8] = b"continue";
 
-// The bytes that stand there in a text, as a part of it.
+// The bytes of a text in this span, as a part of it.
 #[tactic(auto, using(crate::proofs::SpanLemmas::clamped))]
 pub(crate) fn part_at(text: &SharedBytes, span: Span) -> Result<SharedBytes, NoMemory>
     ensures { IfOk result (λ part. part ≡ bytes_at text.now span) }
@@ -32,14 +32,14 @@ pub(crate) fn part_at(text: &SharedBytes, span: Span) -> Result<SharedBytes, NoM
     text.part(start, end)
 }
 
-// Whether the bytes are white space alone.
+// Whether the bytes are only white space.
 pub(crate) fn is_white(bytes: &[u8]) -> bool
     ensures { result ≡ is_white bytes.now }
 {
     bytes.iter().all(|byte| is_ws(*byte))
 }
 
-// A run of text: inside a `vars` in parts, else as it stands.
+// A run of text: inside a `vars` in parts, else as it is.
 pub(crate) fn text_node(alloc: Global, in_vars: bool, text: SharedBytes) -> Result<Node, NoMemory>
     ensures { IfOk result (λ node. element_of node ≡ text_element in_vars text) }
 {
@@ -50,7 +50,7 @@ pub(crate) fn text_node(alloc: Global, in_vars: bool, text: SharedBytes) -> Resu
     }
 }
 
-// The parts of an attribute's value, which is decoded: bytes of its own.
+// The parts of an attribute's value, which is decoded and so has bytes of its own.
 fn parts_of_value(alloc: Global, value: &[u8]) -> Result<Parts, NoMemory>
     ensures { IfOk result (λ parts. parts ≡ parts_of value.now) }
 {
@@ -119,7 +119,7 @@ fn when_of(alloc: Global, attributes: &Attributes) -> Result<Option<OpenElement>
     }))
 }
 
-// The element that a tag opens; `None` where the tag lacks what it needs.
+// The element that a tag opens; `None` if something that the tag needs is missing.
 #[tactic(auto, unfolding(crate::specs::Reading::opened_by))]
 pub(crate) fn opened_by(alloc: Global, tag: &Tag) -> Result<Option<OpenElement>, NoMemory>
     ensures { IfOk result (λ found. option_map frame_of found ≡ opened_by tag.now.name tag.now.attributes) }

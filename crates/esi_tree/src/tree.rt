@@ -14,7 +14,7 @@ pub struct Template {
     nodes: Vec<Node>,
     // As many elements as may be open, and a run of text in the innermost.
     pub ghost shallow: { depth (elements_of nodes.items) ≤ OPEN_LIMIT + 1 },
-    // No template but that of a text.
+    // No template other than that of a text.
     pub ghost written: { HasText (elements_of nodes.items) },
 }
 

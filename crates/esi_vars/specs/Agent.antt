@@ -1,4 +1,4 @@
--- What the user agent's field says of browser, version and system. The names are those of the ESI Language
+-- What the user agent's field says about browser, version and system. The names are those of the ESI Language
 -- Specification 1.0, "Variables"; how they are found is our profile.
 use Rattle.std.specs.Prelude.{ℕ, Bool, ◌||◌, nat_eq, List, [], ◌∷◌, length, drop, codes, bytes_eq, Option, Some, None, is_some, if◌then◌else◌}
 use Rattle.std.specs.List.{starts_with, take_while}
@@ -6,12 +6,12 @@ use Rattle.esi_vars.specs.declared.agent.Browser.{Browser}
 use Rattle.esi_vars.specs.declared.agent.Browser.TheVariants.{Msie, Mozilla, Other}
 use Rattle.esi_vars.specs.Reference.{is_version_byte}
 
--- what follows the first place where the word stands
+-- what follows the first occurrence of the word
 unfoldable pub behind : List ℕ → List ℕ → Option (List ℕ)
 behind word [] = None
 behind word (b ∷ bs) = if starts_with nat_eq (b ∷ bs) word then Some (drop (length word) (b ∷ bs)) else behind word bs
 
--- the word stands in the text
+-- the word occurs in the text
 abbrev pub has : List ℕ → List ℕ → Bool
 has word text = is_some (behind word text)
 
@@ -30,7 +30,7 @@ abbrev pub version_at : Option (List ℕ) → List ℕ
 version_at None = []
 version_at (Some text) = take_while is_version_byte text
 
--- the version that stands behind the browser's mark
+-- the version after the browser's mark
 abbrev pub version_of : Browser → List ℕ → List ℕ
 version_of Msie agent = version_at (behind (codes "MSIE ") agent)
 version_of Mozilla agent = version_at (behind (codes "Mozilla/") agent)

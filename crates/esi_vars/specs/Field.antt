@@ -9,11 +9,11 @@ use Rattle.edge_types.specs.Halves.{around}
 abbrev pub parts_between : ℕ → List ℕ → List (List ℕ)
 parts_between c field = slice_split (λ b. b == c) field
 
--- what stands before the first such byte and what follows it; without one, the whole and nothing
+-- what is before the first such byte and what follows it; without one, the whole and nothing
 unfoldable pub halves : ℕ → List ℕ → List ℕ × List ℕ
 halves c text = unwrap_or (around c text) (text, [])
 
--- the value of the first part `name=value` of this name, or nothing
+-- the value of the first part `name=value` with this name, or nothing
 unfoldable pub named : List ℕ → List (List ℕ) → List ℕ
 named key [] = []
 named key (part ∷ parts) = if bytes_eq (halves (byte "=") part).0 key then (halves (byte "=") part).1 else named key parts
@@ -26,11 +26,11 @@ cookie_value key field = named key (map trimmed (parts_between (byte ";") field)
 unfoldable pub query_value : List ℕ → List ℕ → List ℕ
 query_value key field = named key (parts_between (byte "&") field)
 
--- whether a part of the language field, up to its `;` and trimmed, is the language, ASCII case aside
+-- whether a part of the language field, up to its `;` and trimmed, is the language, ignoring ASCII case
 unfoldable pub names_language : List ℕ → List ℕ → Bool
 names_language language part = str_eq_ignore_ascii_case (trimmed (halves (byte ";") part).0) language
 
--- `true` where a part between `,` names the language, or nothing
+-- `true` if a part between `,` names the language, else nothing
 unfoldable pub language_value : List ℕ → List ℕ → List ℕ
 language_value language field =
     if list_any (names_language language) (parts_between (byte ",") field) then codes "true" else []

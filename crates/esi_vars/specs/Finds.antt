@@ -1,4 +1,4 @@
--- What stands in a field, told without a search: its parts, their names and values, and the text behind a word.
+-- What is in a field, stated without a search: its parts, their names and values, and the text after a word.
 use Rattle.std.specs.Prelude.{◌≡◌, ◌≢◌, ◌⊎◌, ℕ, ◌<◌, List, [], ◌∷◌, ◌++◌, length, drop}
 use Rattle.std.specs.Str.{byte}
 use Rattle.std.specs.List.{All, Contains, join_with_byte}
@@ -9,7 +9,7 @@ pub record AreParts (c : ℕ) (field : List ℕ) (parts : List (List ℕ)) : Typ
   pub whole : join_with_byte c parts ≡ field
   pub uncut : All (λ part. ¬ Contains part c) parts
 
--- the text is cut at the first such byte; where there is none, it is the front, and nothing follows it
+-- the text is cut at the first such byte; if there is none, it is the front, and nothing follows it
 abbrev pub AreHalves : ℕ → List ℕ → List ℕ × List ℕ → Type 0
 AreHalves c text halves =
     (¬ Contains halves.0 c) × ((text ≡ halves.0 ++ c ∷ halves.1) ⊎ ((text ≡ halves.0) × (halves.1 ≡ [])))
@@ -18,7 +18,7 @@ AreHalves c text halves =
 abbrev pub HasName : List ℕ → List ℕ → Type 0
 HasName name part = (value : List ℕ) × AreHalves (byte "=") part (name, value)
 
--- the first part of the name has the value
+-- the first part with the name has the value
 pub record IsFirstNamed (name : List ℕ) (parts : List (List ℕ)) (value : List ℕ) : Type 0 where
   pub before : List (List ℕ)
   pub part : List ℕ
@@ -27,7 +27,7 @@ pub record IsFirstNamed (name : List ℕ) (parts : List (List ℕ)) (value : Lis
   pub others : All (λ other. ¬ HasName name other) before
   pub is : AreHalves (byte "=") part (name, value)
 
--- the value of the first part of the name; nothing where no part has the name
+-- the value of the first part with the name; nothing if no part has the name
 abbrev pub IsNamed : List ℕ → List (List ℕ) → List ℕ → Type 0
 IsNamed name parts value =
     IsFirstNamed name parts value ⊎ (All (λ part. ¬ HasName name part) parts × (value ≡ []))

@@ -37,14 +37,14 @@ CutsFields = (separator : ℕ) (field : List ℕ) (parts : List (List ℕ)) → 
 abbrev pub CutsOnce : Type 0
 CutsOnce = (separator : ℕ) (text : List ℕ) (both : List ℕ × List ℕ) → (halves separator text ≡ both) ↔ AreHalves separator text both
 
--- the value that is looked up is that of the first part of the name
+-- the value that is looked up is that of the first part with the name
 abbrev pub LooksUp : Type 0
 LooksUp = (name value : List ℕ) (parts : List (List ℕ)) → (named name parts ≡ value) ↔ IsNamed name parts value
 
--- what is found behind a word follows the first place at which it begins
+-- what is found after a word follows the first place at which it begins
 abbrev pub FindsTheFirst : Type 0
 FindsTheFirst = (word text rest : List ℕ) → 0 < length word → (behind word text ≡ Some rest) ↔ IsBehind word text rest
 
--- and nothing is found exactly where it stands nowhere
+-- and nothing is found exactly if it doesn't occur
 abbrev pub FindsNone : Type 0
 FindsNone = (word text : List ℕ) → 0 < length word → (behind word text ≡ None) ↔ (¬ HasSubslice text word)

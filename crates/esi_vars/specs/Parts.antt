@@ -5,7 +5,7 @@ use Rattle.esi_vars.specs.declared.part.Part.{Part}
 use Rattle.esi_vars.specs.declared.part.Part.TheVariants as part
 use Rattle.esi_vars.specs.Reading.{Written, reference_at, written_at}
 
--- what stands at a place, and at those behind it: `after n` is what stands past n bytes more
+-- what is at a place, and at those after it: `after n` is what is past n more bytes
 abbrev pub then_places : ℕ → List ℕ → (ℕ → List Part) → Option (Reference × List ℕ) → List Part
 then_places b bs after None = part.Text (b ∷ []) ∷ after 0
 then_places b bs after (Some found) = part.Reference found.0 ∷ after (length bs - length found.1)
@@ -36,12 +36,12 @@ joined (part.Reference r ∷ ps) = part.Reference r ∷ joined ps
 unfoldable pub parts_of : List ℕ → List Part
 parts_of text = joined (places_of text)
 
--- bytes as a part, where there are any
+-- bytes as a part, if there are any
 abbrev pub text_part : List ℕ → List Part
 text_part [] = []
 text_part (b ∷ bs) = part.Text (b ∷ bs) ∷ []
 
--- the first reference of a text, what stands before it and what follows it
+-- the first reference of a text, what is before it and what follows it
 pub record Found : Type 0 where
   pub before : List ℕ
   pub written : Written

@@ -3,7 +3,7 @@ use Rattle.std.specs.Prelude.{ℕ, Bool, ◌==◌, List, [], ◌∷◌, take, dr
 use Rattle.std.specs.Str.{byte}
 use Rattle.std.specs.List.{prefix_len}
 use Rattle.edge_types.specs.Halves.{around}
--- what stands before the first such byte, and what follows that byte
+-- what is before the first such byte, and what follows that byte
 unfoldable pub use Rattle.edge_types.specs.Halves.{around as cut_at}
 use Rattle.esi_vars.specs.declared.reference.Reference.{Reference}
 use Rattle.esi_vars.specs.Reference.{is_name_byte, is_key_byte, is_default_byte, variable_of}
@@ -19,7 +19,7 @@ pub record Written : Type 0 where
   pub key : Option (List ℕ)
   pub default : Option (List ℕ)
 
--- the reference that is written so
+-- the reference that is written like this
 abbrev pub reference_of : Written → Reference
 reference_of w = record { variable = variable_of w.name; key = w.key; default = w.default }
 
@@ -28,11 +28,11 @@ abbrev pub after_byte : ℕ → List ℕ → Option (List ℕ)
 after_byte c [] = None
 after_byte c (b ∷ bs) = if b == c then Some bs else None
 
--- the longest run of bytes that pass at the front, where there is one, and what follows it
+-- the longest run of bytes that pass at the front, if there is one, and what follows it
 unfoldable pub run_at : (ℕ → Bool) → List ℕ → Option (List ℕ × List ℕ)
 run_at p text = if prefix_len p text == 0 then None else Some (take (prefix_len p text) text, drop (prefix_len p text) text)
 
--- a key behind its opening quote
+-- a key, from after its opening quote on
 unfoldable pub quoted_key_at : List ℕ → Option (List ℕ × List ℕ)
 quoted_key_at text = do
   key ← run_at is_key_byte text
@@ -44,14 +44,14 @@ abbrev pub key_text_at : List ℕ → Option (List ℕ × List ℕ)
 key_text_at [] = None
 key_text_at (b ∷ bs) = if b == byte "'" then quoted_key_at bs else run_at is_key_byte (b ∷ bs)
 
--- a key behind its opening brace
+-- a key, from after its opening brace on
 unfoldable pub braced_key_at : List ℕ → Option (Option (List ℕ) × List ℕ)
 braced_key_at text = do
   key ← key_text_at text
   rest ← after_byte (byte "}") key.1
   Some (Some key.0, rest)
 
--- the key of a reference, perhaps none
+-- the key of a reference, if it has one
 abbrev pub key_at : List ℕ → Option (Option (List ℕ) × List ℕ)
 key_at [] = Some (None, [])
 key_at (b ∷ bs) = if b == byte "{" then braced_key_at bs else Some (None, b ∷ bs)
@@ -61,18 +61,18 @@ abbrev pub default_text_at : List ℕ → Option (List ℕ × List ℕ)
 default_text_at [] = None
 default_text_at (b ∷ bs) = if b == byte "'" then around (byte "'") bs else run_at is_default_byte (b ∷ bs)
 
--- a default behind its bar
+-- a default, from after its bar on
 unfoldable pub barred_default_at : List ℕ → Option (Option (List ℕ) × List ℕ)
 barred_default_at text = do
   default ← default_text_at text
   Some (Some default.0, default.1)
 
--- the default of a reference, perhaps none
+-- the default of a reference, if it has one
 abbrev pub default_at : List ℕ → Option (Option (List ℕ) × List ℕ)
 default_at [] = Some (None, [])
 default_at (b ∷ bs) = if b == byte "|" then barred_default_at bs else Some (None, b ∷ bs)
 
--- the parts of a reference behind its `$(`
+-- the parts of a reference, from after its `$(` on
 unfoldable pub body_at : List ℕ → Option (Written × List ℕ)
 body_at text = do
   name ← run_at is_name_byte text

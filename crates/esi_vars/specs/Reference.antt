@@ -15,11 +15,11 @@ use Rattle.esi_vars.specs.declared.bytes.ByteClass.TheVariants as class
 abbrev pub is_name_byte : ℕ → Bool
 is_name_byte b = is_ascii_alphanumeric b || b == byte "_"
 
--- a byte of a key: no white space, brace, parenthesis, bar or quotation mark
+-- a byte of a key: not white space, a brace, a parenthesis, a bar or a quotation mark
 abbrev pub is_key_byte : ℕ → Bool
 is_key_byte b = not (is_ws b || char_set_contains (codes "{}()|'\"") b)
 
--- a byte of a default without quotes: no white space, `'`, parenthesis or `$`
+-- a byte of a default without quotes: not white space, `'`, a parenthesis or `$`
 abbrev pub is_default_byte : ℕ → Bool
 is_default_byte b = not (is_ws b || char_set_contains (codes "'()$") b)
 
@@ -38,7 +38,7 @@ allows class.Version = is_version_byte
 abbrev pub is_quoted_byte : ℕ → Bool
 is_quoted_byte b = not (b == byte "'")
 
--- the variable of this name
+-- the variable with this name
 unfoldable pub variable_of : List ℕ → Variable
 variable_of name =
     if bytes_eq name (codes "HTTP_ACCEPT_LANGUAGE") then HttpAcceptLanguage

@@ -5,11 +5,11 @@ use Rattle.esi_vars.specs.declared.part.Part.{Part}
 use Rattle.esi_vars.specs.declared.part.Part.TheVariants as part
 use Rattle.esi_vars.specs.Reference.{IsReference}
 
--- a reference stands at the front of the text
+-- a reference is at the front of the text
 abbrev pub BeginsReference : List ℕ → Type 0
 BeginsReference text = (r : Reference) × (piece : List ℕ) × (rest : List ℕ) × IsReference piece r × (text ≡ piece ++ rest)
 
--- the piece, with this rest behind it, spells the part; in a text no reference begins
+-- the piece, with this rest after it, spells the part; in a text no reference begins
 abbrev pub IsPart : Part → List ℕ → List ℕ → Type 0
 IsPart (part.Text bytes) piece rest =
     (piece ≡ bytes) × (0 < length bytes) × ((i : ℕ) → i < length bytes → ¬ BeginsReference (drop i (bytes ++ rest)))

@@ -1,4 +1,4 @@
--- What references stand for, and the text in which each is replaced by its value (ESI Language Specification 1.0,
+-- What references denote, and the text in which each is replaced by its value (ESI Language Specification 1.0,
 -- "Variables"; the parts of fields are our profile).
 use Rattle.std.specs.Prelude.{ℕ, nat_le, List, [], ◌∷◌, length, Option, Some, None, if◌then◌else◌}
 use Rattle.std.specs.List.{flat_map}
@@ -32,12 +32,12 @@ keyed_value request HttpUserAgent key = agent_value key request.user_agent
 keyed_value request QueryString key = query_value key request.query
 keyed_value request (Unknown name) key = []
 
--- what the request says, before a default is looked at
+-- what the request says, before any default is considered
 abbrev pub raw_value : Request → Variable → Option (List ℕ) → List ℕ
 raw_value request variable None = whole_value request variable
 raw_value request variable (Some key) = keyed_value request variable key
 
--- the value, or the default where it is empty, or else nothing
+-- the value, or the default if it is empty, or else nothing
 abbrev pub or_default : List ℕ → Option (List ℕ) → List ℕ
 or_default (b ∷ bs) default = b ∷ bs
 or_default [] (Some default) = default
@@ -47,7 +47,7 @@ or_default [] None = []
 unfoldable pub value_of : Request → Reference → List ℕ
 value_of request r = or_default (raw_value request r.variable r.key) r.default
 
--- text stands for itself, a reference for its value
+-- text denotes itself, a reference its value
 abbrev pub part_value : Request → Part → List ℕ
 part_value request (part.Text bytes) = bytes
 part_value request (part.Reference r) = value_of request r
@@ -56,7 +56,7 @@ part_value request (part.Reference r) = value_of request r
 unfoldable pub substituted : Request → List Part → List ℕ
 substituted request parts = flat_map (part_value request) parts
 
--- the text, where it is no longer than the limit
+-- the text, if it is no longer than the limit
 abbrev pub within : ℕ → List ℕ → Option (List ℕ)
 within limit text = if nat_le (length text) limit then Some text else None
 

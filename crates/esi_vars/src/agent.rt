@@ -1,4 +1,4 @@
-// What the user agent's field says of browser, version and system.
+//! What the user agent's field says of browser, version and system.
 
 ghost use Rattle.std.specs.Prelude.{◌≡◌};
 ghost use Rattle.std.specs.Option.{option_copied};
@@ -14,7 +14,7 @@ pub(crate) enum Browser {
     Other,
 }
 
-/// What a field says under a key; nothing under another key, or of an empty field.
+/// What a field says under a key; nothing under another key, or if the field is empty.
 #[tactic(auto, unfolding(crate::specs::Agent::agent_value))]
 pub(crate) fn agent_value<'a>(key: &[u8], agent: &'a [u8]) -> &'a [u8]
     ensures { result.now ≡ spec.agent_value key.now agent.now }
@@ -58,7 +58,7 @@ fn browser_name(browser: Browser) -> &'static [u8]
     }
 }
 
-// The version that stands behind the browser's mark.
+// The version after the browser's mark.
 fn version_of(browser: Browser, agent: &[u8]) -> &[u8]
     ensures { result.now ≡ spec.version_of browser agent.now }
 {
@@ -101,7 +101,7 @@ fn has(word: &[u8], text: &[u8]) -> bool
     behind(word, text).is_some()
 }
 
-// What follows the first place where the word stands.
+// What follows the first occurrence of the word.
 fn behind<'a>(word: &[u8], text: &'a [u8]) -> Option<&'a [u8]>
     ensures { option_copied result ≡ spec.behind word.now text.now }
 {

@@ -9,7 +9,7 @@ ghost use Rattle.esi_vars.specs.Reference as spec;
 
 use edge_types::is_ws;
 
-/// The bytes of which parts of references and of fields are made.
+/// The classes of bytes that make up parts of references and of fields.
 #[derive(Clone, Copy)]
 pub(crate) enum ByteClass {
     Name,
@@ -33,7 +33,7 @@ impl ByteClass {
     }
 }
 
-/// How many bytes of the class stand at the front.
+/// How many bytes of the class are at the front.
 pub(crate) fn run_len(class: ByteClass, text: &[u8]) -> usize
     ensures value { result ≡ prefix_len (spec.allows class) text.now }
     ensures within { result ≤ length text.now }
@@ -46,7 +46,7 @@ pub(crate) fn run_len(class: ByteClass, text: &[u8]) -> usize
     text.len()
 }
 
-/// The run of bytes of the class at the front, where there is one, and what follows it.
+/// The run of bytes of the class at the front, if there is one, and what follows it.
 #[tactic(auto, unfolding(crate::specs::Reading::run_at))]
 pub(crate) fn run_at(class: ByteClass, text: &[u8]) -> Option<(&[u8], &[u8])>
     ensures { shown_run result ≡ run_at (spec.allows class) text.now }
@@ -59,7 +59,7 @@ pub(crate) fn run_at(class: ByteClass, text: &[u8]) -> Option<(&[u8], &[u8])>
     }
 }
 
-/// What follows this byte at the front; `None` where another stands there. Takes no memory.
+/// What follows this byte at the front; `None` if the text begins otherwise. Takes no memory.
 pub fn after_byte(byte: u8, text: &[u8]) -> Option<&[u8]>
     ensures { option_copied result ≡ after_byte byte text.now }
 {

@@ -1,4 +1,4 @@
-// The cookies of a request.
+//! The cookies of a request.
 
 ghost use Rattle.std.specs.Prelude.{◌≡◌};
 ghost use Rattle.esi_vars.specs.Field as spec;
@@ -6,7 +6,7 @@ ghost use Rattle.esi_vars.specs.Field as spec;
 use crate::field::{first_part, halves};
 use edge_types::trimmed;
 
-/// The value of the first cookie of this name, or nothing.
+/// The value of the first cookie with this name, or nothing.
 pub(crate) fn cookie_value<'a>(name: &[u8], field: &'a [u8]) -> &'a [u8]
     ensures { result.now ≡ spec.cookie_value name.now field.now }
 {

@@ -1,4 +1,4 @@
-// Fields that are cut into parts.
+//! Fields that are cut into parts.
 
 ghost use Rattle.std.specs.Prelude.{◌≡◌, ◌<◌, length, IfSome};
 ghost use Rattle.esi_vars.specs.Field as spec;
@@ -17,7 +17,7 @@ pub(crate) fn first_part(end: u8, text: &[u8]) -> (&[u8], Option<&[u8]>)
     }
 }
 
-/// What stands before the first such byte and what follows it; without one, the whole and nothing.
+/// What is before the first such byte and what follows it; without one, the whole and nothing.
 #[tactic(auto, unfolding(crate::specs::Field::halves))]
 pub(crate) fn halves(byte: u8, text: &[u8]) -> (&[u8], &[u8])
     ensures { shown_halves result ≡ spec.halves byte text.now }

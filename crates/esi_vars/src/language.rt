@@ -1,4 +1,4 @@
-// The languages that a request accepts.
+//! The languages that a request accepts.
 
 ghost use Rattle.std.specs.Prelude.{◌≡◌};
 ghost use Rattle.std.specs.Str.{str_eq_ignore_ascii_case};
@@ -7,7 +7,7 @@ ghost use Rattle.esi_vars.specs.Field as spec;
 use crate::field::{first_part, halves};
 use edge_types::trimmed;
 
-/// `true` where a part of the field names the language, ASCII case aside, or nothing.
+/// `true` if a part of the field names the language, ignoring ASCII case, else nothing.
 pub(crate) fn language_value(language: &[u8], field: &[u8]) -> &'static [u8]
     ensures { result.now ≡ spec.language_value language.now field.now }
 {
@@ -31,7 +31,7 @@ fn names_language(language: &[u8], part: &[u8]) -> bool
     same_but_for_case(trimmed(range), language)
 }
 
-// Whether the texts are equal, ASCII case aside.
+// Whether the texts are equal, ignoring ASCII case.
 fn same_but_for_case(a: &[u8], b: &[u8]) -> bool
     ensures { result ≡ str_eq_ignore_ascii_case a.now b.now }
 {

@@ -3,7 +3,7 @@
 ghost use Rattle.edge_types.specs.Trimming.{TrimsTexts};
 ghost use Rattle.esi_vars.specs.Laws.{ReadsReferences, PartsSpell, PartsAreOne, SubstitutesText, CutsFields, CutsOnce, LooksUp, FindsTheFirst, FindsNone};
 
-/// A reference is read at the front of a text, with what follows it, exactly where one is spelled there.
+/// A reference is read at the front of a text, with what follows it, exactly if one is spelled there.
 pub fn references_are_read()
     ensures { ReadsReferences }
 {}
@@ -27,13 +27,13 @@ pub fn fields_are_cut()
     ensures halves { CutsOnce }
 {}
 
-/// The value of a cookie or of a query's name is that of the first part of the name; nothing where no part has it.
+/// The value of a cookie or of a query's name is that of the first part with the name; nothing if no part has it.
 pub fn first_part_of_a_name_counts()
     ensures { LooksUp }
 {}
 
-/// What is found behind a word of the user agent's field follows the first place at which the word begins; nothing is
-/// found exactly where the word stands nowhere.
+/// What is found after a word of the user agent's field follows the first place at which the word begins; nothing is
+/// found exactly if the word doesn't occur.
 pub fn words_are_found_first()
     ensures found { FindsTheFirst }
     ensures none { FindsNone }

@@ -1,4 +1,4 @@
-//! Variables: references in a text, what they stand for in a reader's request, and the text with their values.
+//! Variables: references in a text, what they denote in a reader's request, and the text with their values.
 #![tactic(auto)]
 
 mod agent;

@@ -20,13 +20,13 @@ const CLOSE: u8 = b')';
 /// A part of a text.
 #[derive(Drop)]
 pub enum Part {
-    /// Text that stands for itself; one byte or more.
+    /// Text that denotes itself; one byte or more.
     Text(SharedBytes),
-    /// A reference, which stands for its value.
+    /// A reference, which denotes its value.
     Reference(Reference),
 }
 
-// The first reference of a text, what stands before it and what follows it.
+// The first reference of a text, what is before it and what follows it.
 #[derive(Clone, Copy)]
 struct Found<'a> {
     before: &'a [u8],
@@ -35,9 +35,9 @@ struct Found<'a> {
 }
 
 /// The parts of a text, read from the left: a reference where one begins, and between references the text in one
-/// piece, which is a part of the bytes that are read. What begins no reference is text.
+/// piece, which is a part of the bytes that are read. What doesn't begin a reference is text.
 ///
-/// `NoMemory` where a growth is refused; no parts are made then.
+/// `NoMemory` if an allocation fails; no parts are made then.
 ///
 /// Source: ESI Language Specification 1.0, "Variables"; the spelling of keys and defaults is our profile.
 pub fn parts(alloc: Global, text: &SharedBytes) -> Result<Vec<Part>, NoMemory>
@@ -62,7 +62,7 @@ fn next_reference(text: &[u8]) -> Option<Found<'_>>
     ensures value { shown_next result ≡ next_reference text.now }
     ensures shorter { IfSome result (λ found. length found.rest.now < length text.now) }
 {
-    // Where no reference can end, none is tried: a text of openers alone is passed over at once.
+    // If no reference can end, none is tried: a text of nothing but openers is passed over at once.
     find_byte(CLOSE, text)?;
     let mut at = 0;
     'search: loop {
@@ -81,7 +81,7 @@ fn next_reference(text: &[u8]) -> Option<Found<'_>>
     }
 }
 
-// Adds the bytes `from` to `to` as a part, where there are any.
+// Adds the bytes `from` to `to` as a part, if there are any.
 fn push_text(
     parts: &mut Vec<Part>,
     text: &SharedBytes,
@@ -100,9 +100,9 @@ fn push_text(
     Ok(())
 }
 
-/// The text of the parts under a request: each reference replaced by its value, and nothing else changed.
+/// The text of the parts for a request: each reference replaced by its value, and nothing else changed.
 ///
-/// `NoMemory` where a growth is refused; no text is made then.
+/// `NoMemory` if an allocation fails; no text is made then.
 ///
 /// Source: ESI Language Specification 1.0, "Variables".
 pub fn substitute(alloc: Global, request: &Request, parts: &[Part]) -> Result<Vec<u8>, NoMemory>
@@ -115,9 +115,9 @@ pub fn substitute(alloc: Global, request: &Request, parts: &[Part]) -> Result<Ve
     Ok(text)
 }
 
-/// The same, where it is no longer than the limit, in bytes; else `None`.
+/// The text of the parts for a request, if it is no longer than the limit, in bytes; else `None`.
 ///
-/// `NoMemory` where a growth is refused; no text is made then.
+/// `NoMemory` if an allocation fails; no text is made then.
 ///
 /// Source: ESI Language Specification 1.0, "Variables"; a limit is our profile.
 pub fn substitute_within(
@@ -139,7 +139,7 @@ pub fn substitute_within(
     Ok(Some(text))
 }
 
-// What a part stands for.
+// What a part denotes.
 fn part_value<'a>(request: &'a Request, part: &'a Part) -> &'a [u8]
     ensures { result.now ≡ part_value request.now part.now }
 {

@@ -1,11 +1,11 @@
-// The query string of a request.
+//! The query string of a request.
 
 ghost use Rattle.std.specs.Prelude.{◌≡◌};
 ghost use Rattle.esi_vars.specs.Field as spec;
 
 use crate::field::{first_part, halves};
 
-/// The value of the first part of a query of this name, or nothing.
+/// The value of the first part of a query with this name, or nothing.
 pub(crate) fn query_value<'a>(name: &[u8], field: &'a [u8]) -> &'a [u8]
     ensures { result.now ≡ spec.query_value name.now field.now }
 {

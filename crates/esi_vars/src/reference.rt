@@ -10,7 +10,7 @@ use crate::written::{Written, written_at};
 use edge_types::{NoMemory, Octets};
 use std::alloc::Global;
 
-/// What a reference asks of the request.
+/// What a reference asks for in the request.
 #[derive(Drop)]
 pub enum Variable {
     /// The `Accept-Language` field.
@@ -25,7 +25,7 @@ pub enum Variable {
     HttpUserAgent,
     /// The query string.
     QueryString,
-    /// A variable of another name, which has no value.
+    /// A variable with another name, which has no value.
     Unknown(Octets),
 }
 
@@ -36,13 +36,13 @@ pub struct Reference {
     pub variable: Variable,
     /// The part of the variable that is asked for, without quotes.
     pub key: Option<Octets>,
-    /// What stands for an empty value, without quotes.
+    /// What replaces an empty value, without quotes.
     pub default: Option<Octets>,
 }
 
-/// The reference at the front of a text, and what follows it; `None` where none begins there.
+/// The reference at the front of a text, and what follows it; `None` if none begins there.
 ///
-/// `NoMemory` where a growth is refused; no reference is made then.
+/// `NoMemory` if an allocation fails; no reference is made then.
 ///
 /// Source: ESI Language Specification 1.0, "Variables"; the spelling of keys and defaults is our profile.
 #[tactic(auto, unfolding(crate::specs::Reading::reference_at))]
@@ -87,7 +87,7 @@ fn variable_of(alloc: Global, name: &[u8]) -> Result<Variable, NoMemory>
     }
 }
 
-// A copy of the bytes, where there are any.
+// A copy of the bytes, if there are any.
 fn copied(alloc: Global, bytes: Option<&[u8]>) -> Result<Option<Octets>, NoMemory>
     ensures { IfOk result (λ copy. copy ≡ option_copied bytes.entry) }
 {

@@ -1,4 +1,4 @@
-//! What references stand for under a request.
+//! The values of references for a request.
 
 ghost use Rattle.std.specs.Prelude.{◌≡◌};
 ghost use Rattle.esi_vars.specs.Values.{value_of, raw_value, whole_value, keyed_value};
@@ -10,7 +10,7 @@ use crate::query::query_value;
 use crate::reference::{Reference, Variable};
 use edge_types::{Octets, Request};
 
-/// The bytes that a reference stands for: what the request says, else the default, else nothing.
+/// The bytes that a reference denotes: what the request says, else the default, else nothing.
 ///
 /// Lent from the request, the reference or a constant. Takes no memory.
 ///
@@ -29,7 +29,7 @@ pub fn value<'a>(request: &'a Request, reference: &'a Reference) -> &'a [u8]
     }
 }
 
-// What the request says, before a default is looked at.
+// What the request says, before any default is considered.
 fn raw_value<'a>(request: &'a Request, variable: &Variable, key: &Option<Octets>) -> &'a [u8]
     ensures { result.now ≡ raw_value request.now variable.now key.now }
 {

@@ -1,4 +1,4 @@
-// References as they are written, with the bytes lent from their text.
+//! References as they are written, with the bytes lent from their text.
 
 ghost use Rattle.std.specs.Prelude.{◌≡◌};
 ghost use Rattle.esi_vars.specs.Reading.{quoted_key_at, key_text_at, braced_key_at, key_at, default_text_at, barred_default_at, default_at, body_at, written_at};
@@ -7,7 +7,7 @@ ghost use Rattle.esi_vars.specs.Shown.{shown_run, shown_optional, shown_found};
 use crate::bytes::{ByteClass, after_byte, run_at};
 use edge_types::around;
 
-/// The quotation mark round keys and defaults.
+/// The quotation mark around keys and defaults.
 const QUOTE: u8 = b'\'';
 
 /// The name, the key and the default of a reference, lent from its text.
@@ -28,7 +28,7 @@ pub(crate) fn written_at(text: &[u8]) -> Option<(Written<'_>, &[u8])>
     }
 }
 
-// The parts of a reference behind its `$(`, and what follows it.
+// The parts of a reference from after its `$(` on, and what follows it.
 #[tactic(auto, unfolding(crate::specs::Reading::body_at))]
 fn body_at(text: &[u8]) -> Option<(Written<'_>, &[u8])>
     ensures { shown_found result ≡ body_at text.now }
@@ -40,7 +40,7 @@ fn body_at(text: &[u8]) -> Option<(Written<'_>, &[u8])>
     Some((Written { name, key, default }, rest))
 }
 
-// The key of a reference, perhaps none, and what follows it.
+// The key of a reference, if it has one, and what follows it.
 fn key_at(text: &[u8]) -> Option<(Option<&[u8]>, &[u8])>
     ensures { shown_optional result ≡ key_at text.now }
 {
@@ -50,7 +50,7 @@ fn key_at(text: &[u8]) -> Option<(Option<&[u8]>, &[u8])>
     }
 }
 
-// A key behind its opening brace.
+// A key, from after its opening brace on.
 #[tactic(auto, unfolding(crate::specs::Reading::braced_key_at))]
 fn braced_key_at(text: &[u8]) -> Option<(Option<&[u8]>, &[u8])>
     ensures { shown_optional result ≡ braced_key_at text.now }
@@ -71,7 +71,7 @@ fn key_text_at(text: &[u8]) -> Option<(&[u8], &[u8])>
     }
 }
 
-// A key behind its opening quote.
+// A key, from after its opening quote on.
 #[tactic(auto, unfolding(crate::specs::Reading::quoted_key_at))]
 fn quoted_key_at(text: &[u8]) -> Option<(&[u8], &[u8])>
     ensures { shown_run result ≡ quoted_key_at text.now }
@@ -81,7 +81,7 @@ fn quoted_key_at(text: &[u8]) -> Option<(&[u8], &[u8])>
     Some((key, rest))
 }
 
-// The default of a reference, perhaps none, and what follows it.
+// The default of a reference, if it has one, and what follows it.
 fn default_at(text: &[u8]) -> Option<(Option<&[u8]>, &[u8])>
     ensures { shown_optional result ≡ default_at text.now }
 {
@@ -91,7 +91,7 @@ fn default_at(text: &[u8]) -> Option<(Option<&[u8]>, &[u8])>
     }
 }
 
-// A default behind its bar.
+// A default, from after its bar on.
 #[tactic(auto, unfolding(crate::specs::Reading::barred_default_at))]
 fn barred_default_at(text: &[u8]) -> Option<(Option<&[u8]>, &[u8])>
     ensures { shown_optional result ≡ barred_default_at text.now }

@@ -10,6 +10,6 @@ pub record IsTest (text : List ℕ) : Type 0 where
   pub test : Test
   pub is : read_test text ≡ Some test
 
--- just where the reading of a text stops at its end, behind a test, it can be read as one
+-- a text can be read as a test exactly if reading it stops at its end, after a test
 abbrev pub TestsAreReadToTheirEnd : Type 0
 TestsAreReadToTheirEnd = (text : List ℕ) → (stop_of text ≡ (Operator, [])) ↔ IsTest text

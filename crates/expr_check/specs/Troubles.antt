@@ -13,7 +13,7 @@ use Rattle.expr_check.specs.Stops.{stop_of}
 abbrev pub is_either : ℕ → ℕ → ℕ → Bool
 is_either one other b = b == one || b == other
 
--- where an operand is wanted and this byte stands: what begins as one and is none, or what is none
+-- if an operand is wanted and this byte comes: what begins as one and isn't one, or what doesn't begin as one
 abbrev pub operand_problem : ℕ → TestProblem
 operand_problem b =
     if b == byte "$" then problem.NoReference
@@ -24,14 +24,14 @@ operand_problem b =
     else (if is_either (byte "&") (byte "|") b then problem.Doubled
     else problem.NoOperand)))))
 
--- where an operator is wanted, or the end of a group
+-- if an operator is wanted, or the end of a group
 abbrev pub operator_problem : ℕ → TestProblem
 operator_problem b =
     if b == byte "=" then problem.OneEquals
     else (if b == byte ")" then problem.NoOpening
     else problem.NoOperator)
 
--- by what is wanted where a text goes on so
+-- what is wrong if this is wanted and this is the rest of the text
 abbrev pub problem_of : Wanted → List ℕ → TestProblem
 problem_of wanted.Operand [] = problem.NoOperand
 problem_of wanted.Operand (b ∷ bs) = operand_problem b
@@ -40,7 +40,7 @@ problem_of wanted.Operator (b ∷ bs) = operator_problem b
 problem_of wanted.Closing [] = problem.NoClosing
 problem_of wanted.Closing (b ∷ bs) = operator_problem b
 
--- the same with its place, which is how far the text was read
+-- what is wrong, and its place, which is how far the text was read
 abbrev pub trouble_of : List ℕ → TestTrouble
 trouble_of text =
     let stop = stop_of text in

@@ -1,4 +1,5 @@
-// What is wrong with a test.
+//! What is wrong with a test.
+
 ghost use Rattle.std.specs.Prelude.{◌≡◌, IfOk};
 ghost use Rattle.esi_expr.specs.Shown.{shown_stop};
 ghost use Rattle.expr_check.specs.Stops as stops;
@@ -12,27 +13,27 @@ use std::fmt;
 /// What is wrong with a test where its reading stops.
 #[derive(Clone, Copy, Debug, Drop, PartialEq, Eq)]
 pub enum TestProblem {
-    /// No operand stands where one is wanted.
+    /// An operand is missing.
     NoOperand,
-    /// The `$` begins no reference.
+    /// The `$` doesn't begin a reference.
     NoReference,
-    /// The quote has no second one.
+    /// The quote is never closed.
     OpenQuote,
-    /// A text stands in double quotes.
+    /// A text is in double quotes.
     DoubleQuote,
-    /// Too many digits, or none behind the minus.
+    /// Too many digits, or none after the minus.
     NoNumber,
-    /// More `(` and `!` round an operand than may be.
+    /// More `(` and `!` around an operand than are allowed.
     TooDeep,
     /// A second `&` or bar.
     Doubled,
     /// `=` where `==` is meant.
     OneEquals,
-    /// No `(` is open for the `)`.
+    /// The `)` has no open `(`.
     NoOpening,
     /// A `(` has no `)`.
     NoClosing,
-    /// No operator stands between two operands.
+    /// An operator between two operands is missing.
     NoOperator,
 }
 
@@ -68,7 +69,7 @@ impl fmt::Display for TestProblem {
     }
 }
 
-// Where an operand is wanted and this byte stands.
+// What is wrong if an operand is wanted and this byte comes.
 fn operand_problem(first: u8) -> TestProblem
     ensures { result ≡ spec.operand_problem first }
 {
@@ -83,7 +84,7 @@ fn operand_problem(first: u8) -> TestProblem
     }
 }
 
-// The same where an operator is wanted, or the end of a group.
+// What is wrong if an operator or the end of a group is wanted and this byte comes.
 fn operator_problem(first: u8) -> TestProblem
     ensures { result ≡ spec.operator_problem first }
 {
@@ -94,7 +95,7 @@ fn operator_problem(first: u8) -> TestProblem
     }
 }
 
-// By what is wanted where a text goes on so.
+// What is wrong if this is wanted and this is the rest of the text.
 fn problem_of(wanted: Wanted, rest: &[u8]) -> TestProblem
     ensures { result ≡ spec.problem_of wanted rest.now }
 {
@@ -122,10 +123,10 @@ fn stop_of(alloc: Global, text: &[u8]) -> Result<Stop, NoMemory>
     }
 }
 
-/// Tells how far a text can be read as a test, and what is wrong there. A text that is a test is read to its end, where
-/// an operator would be wanted to go on.
+/// Says how far a text can be read as a test, and what is wrong there. A text that is a test is read to its end, where
+/// an operator would be wanted in order to go on.
 ///
-/// `NoMemory` comes where a growth is refused.
+/// `NoMemory` if an allocation fails.
 ///
 /// Source: ESI Language Specification 1.0, "Expressions"; the spelling of operands and the limits are our profile.
 pub fn trouble_of(alloc: Global, text: &[u8]) -> Result<TestTrouble, NoMemory>

@@ -8,11 +8,11 @@ use Rattle.fetch_workers.specs.declared.log.Own.{Own}
 abbrev pub AllGiven : (List ℕ → Answered → Type 0) → List Answered → Type 0
 AllGiven gives answers = All (λ (a : Answered). gives a.url a) answers
 
--- so was each that a worker posted
+-- and so was each that a worker posted
 abbrev pub AllOwn : (List ℕ → Answered → Type 0) → List Own → Type 0
 AllOwn gives own = All (λ (o : Own). gives o.answer.url o.answer) own
 
--- what a table has for a URL: a URL that isn't there can't be had
+-- what a table has for a URL: one that isn't there can't be fetched
 abbrev pub replied : List Answered → List ℕ → Answered
 replied table url = record { url = url; reply = reply_of table url }
 

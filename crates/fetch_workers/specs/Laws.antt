@@ -7,7 +7,7 @@ use Rattle.esi_meaning.specs.Meaning.{outcome}
 use Rattle.fetch_workers.specs.Given.{AllGiven, GivenByTable}
 use Rattle.fetch_workers.specs.Rests.{RestsOn}
 
--- A page whose logged answers a table gave has its outcome over this table: the one that the plain evaluator answers.
+-- A page whose logged answers a table gave has its outcome over this table: the one that the plain evaluator returns.
 abbrev pub TablesGiveThePage : Type 0
 TablesGiveThePage =
     (request : Request) (table log : List Answered) (levels : ℕ) (url : List ℕ) (result : Shown)

@@ -1,4 +1,4 @@
--- What an assembled page rests on.
+-- What the outcome of an assembled page rests on.
 use Rattle.std.specs.Prelude.{◌≡◌, ◌≤◌, ℕ, List}
 use Rattle.edge_types.specs.declared.request.Request.{Request}
 use Rattle.edge_types.specs.Answered.{Answered}
@@ -15,9 +15,9 @@ pub record AreWorkers (workers : ℕ) : Type 0 where
   pub some : 1 ≤ workers
   pub few : workers ≤ MAX_WORKERS
 
--- the page at this URL, for this request and at these levels, has this outcome
+-- the page at this URL, for this request and with these levels, has this outcome
 pub record RestsOn (request : Request) (levels : ℕ) (url : List ℕ) (log : List Answered) (result : Shown) : Type 0 where
-  -- over the logged answers alone: each URL that is asked for the page is logged
+  -- over the logged answers alone: each URL that is asked for to make the page is logged
   pub alone : state request log levels url ≡ Done result
   -- over every table that agrees with them, whatever else it has
   pub over_every_table : (table : List Answered) → Agrees log table → outcome request table levels url ≡ result

@@ -44,19 +44,19 @@ pub struct Assembling {
     ghost levels_few: { AreLevels levels },
 }
 
-/// An outcome, and what it rests on.
+/// An outcome, and the answers that it rests on.
 #[derive(Drop)]
 pub struct Assembled {
-    /// What the page comes to.
+    /// The outcome of the page.
     pub outcome: Arc<Outcome>,
     /// The answers that were posted, in order of posting: a legal log.
     pub log: Vec<Arc<Answer>>,
 }
 
-/// Assembles a page by at most `workers` threads, the calling one among them. The others are started
-/// only while answers have to be waited for; all have been joined whatever is answered.
+/// Assembles a page with at most `workers` threads, the calling one among them. The others are started
+/// only while answers have to be waited for; all have been joined whatever the result.
 ///
-/// `ahead` is how many slots posts may open ahead, at most `MAX_AHEAD`. A fetch that is in flight
+/// `ahead` is how many slots posts may open ahead, at most `MAX_AHEAD`. A fetch that is under way
 /// when the page is done is waited for, and its answer is logged.
 ///
 /// Our profile.
@@ -87,7 +87,7 @@ where
     how.assemble(rt, alloc, source, &OpenGate, url, request)
 }
 
-/// The same, with a gate that is passed before each fetch.
+/// Assembles a page as `assemble` does, with a gate that is passed before each fetch.
 ///
 /// Our profile.
 pub fn assemble_gated<R, S, G>(
@@ -169,7 +169,7 @@ impl Assembling {
     }
 }
 
-// The page that was worked for, where it is done, it is the one that was asked for, and its log has
+// The page that was worked for, if it is done, it is the one that was asked for, and its log consists of
 // the workers' own answers, each once and in this order.
 fn compared(
     alloc: Global,
@@ -203,14 +203,14 @@ fn told(page: &mut Page) -> Result<Arc<Outcome>, AssembleFault>
     }
 }
 
-// What holds of the log of each page.
+// States the invariant of each page's log.
 fn legal(page: &Page)
     ensures { IsLegal page.now.request page.now.url (log_of page.now.board) }
 {
     let _ = page.logged(0);
 }
 
-// Whether it is the page at this URL, for this request and at these levels.
+// Whether it is the page at this URL, for this request and with these levels.
 fn is_asked_for(page: &Page, url: &PageUrl, request: &Request, levels: u8) -> bool
     ensures { IsTrue result → (page.now.url ≡ url.now) × (page.now.request ≡ request.now) × (page.now.levels ≡ levels) }
 {

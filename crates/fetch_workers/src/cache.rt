@@ -1,4 +1,4 @@
-//! One cache between all pages.
+//! One cache shared by all pages.
 
 ghost use Rattle.std.specs.Prelude.{◌≡◌, ◌≤◌, ◌<◌, IfOk};
 ghost use Rattle.std.specs.Arc.{arc_value};
@@ -17,8 +17,8 @@ use std::sync::{Arc, Wait};
 /// Our profile.
 pub const SHARDS: usize = 8;
 
-/// A source that keeps what another one gives, for as long as the answers allow: equal requests at one
-/// time cost one fetch, stored answers none, and a failing origin is bridged.
+/// A source that keeps what another one gives, for as long as the answers allow: equal requests at the
+/// same time cost one fetch, stored answers none, and a failing origin is bridged.
 ///
 /// Any number of threads may share it.
 #[derive(Drop)]
@@ -41,7 +41,7 @@ fn shard_of(url: &PageUrl) -> usize
 }
 
 impl<S: Drop, C: Drop> Cache<S, C> {
-    /// A cache that keeps nothing yet, over a source and a clock; each of its `SHARDS` shards keeps at
+    /// A cache that is still empty, over a source and a clock; each of its `SHARDS` shards keeps at
     /// most `capacity` answers, from 1 to `MAX_CAPACITY` of `fragment_cache`.
     ///
     /// Our profile.
@@ -67,7 +67,7 @@ impl<S: Drop, C: Drop> Cache<S, C> {
 }
 
 impl<S, C> Cache<S, C> {
-    // Fetches for all who ask for the URL meanwhile, and lands the flight whatever comes.
+    // Fetches for all who ask for the URL meanwhile, and lands the flight whatever the result.
     fn lead<R: Wait>(
         &self,
         rt: &R,
@@ -93,7 +93,7 @@ impl<S, C> Cache<S, C> {
         }
     }
 
-    // Waits for the answer of a flight of somebody else; fetches where it can't be picked up.
+    // Waits for the answer of another caller's flight; fetches if it can't be picked up.
     fn join<R: Wait>(
         &self,
         rt: &R,

@@ -1,7 +1,7 @@
-//! What tells the time.
+//! Where the time comes from.
 
 /// A clock of whole seconds.
 pub trait Clock<R> {
-    /// The second that it is now.
+    /// The current second.
     fn now(&self, rt: &R) -> u64;
 }

@@ -36,7 +36,7 @@ impl<'a, R, S: Source<R>> Promise<Result<Vec<Own>, AssembleFault>> for GivenBy<'
 }
 
 // Works in this thread, and starts at most `others` workers one after another, each of which does
-// the same. Gives what they all posted.
+// the same. Returns what they all posted.
 #[cycle(helpers)]
 fn work_in<'s, E, R, S, G, D>(
     scope: &'s Scope<'s, E>,
@@ -100,7 +100,7 @@ where
     both::<R, S>(source, rest, child.join(rt))
 }
 
-// What both posted, or the first fault of both.
+// What both posted, or the first of their faults.
 fn both<R, S: Source<R>>(
     _source: &S,
     one: Result<Vec<Own>, AssembleFault>,
@@ -122,7 +122,7 @@ fn both<R, S: Source<R>>(
     }
 }
 
-// What all workers posted, each of whom has been joined.
+// What all workers posted; each of them has been joined.
 pub(crate) fn run_workers<R, S, G, D>(
     rt: &R,
     alloc: Global,

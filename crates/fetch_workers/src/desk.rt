@@ -1,4 +1,4 @@
-//! What lies under a page's lock, and every decision about it.
+//! The state under a page's lock, and every decision about it.
 
 ghost use Rattle.std.specs.Prelude.{◌≡◌, ◌↔◌, ◌+◌, ◌<◌, ◌≤◌, IsTrue, MatchBool};
 ghost use Rattle.std.specs.VecDeque.{deque_len};
@@ -33,14 +33,14 @@ impl SetAside {
 #[derive(Drop)]
 pub(crate) struct Desk {
     page: Page,
-    // An answer came in since the page was last taken on.
+    // An answer came in since the page was last advanced.
     news: bool,
     aside: VecDeque<SetAside>,
     // How many threads work for the page, and how many may.
     threads: u8,
     limit: u8,
     asleep: u8,
-    // The work has ended: the page is done, or somebody can't go on. It is no event of the page.
+    // The work has ended: the page is done, or somebody can't go on. This isn't an event of the page.
     ended: bool,
     ghost few: { threads ≤ limit },
 }
@@ -91,8 +91,8 @@ impl Desk {
         }
     }
 
-    // Takes the page on where an answer came in. `true`: it is done, and the work has ended; so it
-    // has where there is no memory.
+    // Advances the page if an answer came in. `true` means that it is done, and the work has ended; the work
+    // also ends if memory runs out.
     fn advance(&mut self) -> Result<bool, NoMemory> {
         if !self.news {
             return Ok(false);
@@ -115,8 +115,8 @@ impl Desk {
         }
     }
 
-    // Counts one more thread: where a ticket is left for it, nobody sleeps who could take that one,
-    // and it may be started; and only there.
+    // Counts one more thread, exactly if a ticket is left for it, nobody who could take that ticket is asleep,
+    // and one more may be started.
     fn take_place(&mut self) -> bool
         ensures count { MatchBool result (self.new.threads ≡ self.old.threads + 1) (self.new.threads ≡ self.old.threads) }
         ensures start { IsTrue result ↔ ((0 < deque_len self.old.aside) × (self.old.asleep ≡ 0) × (self.old.threads < self.old.limit)) }
@@ -134,7 +134,7 @@ impl Desk {
         Ok(())
     }
 
-    /// Posts an answer, and tells its place in the log. Where the page refuses it the work has ended.
+    /// Posts an answer, and returns its place in the log. If the page refuses it the work has ended.
     pub(crate) fn post(&mut self, receipt: Receipt) -> Result<usize, AssembleFault> {
         let place = self.page.posted();
         match self.page.post(receipt) {
@@ -161,7 +161,7 @@ impl Desk {
         self.ended = true;
     }
 
-    /// The page, without those who worked for it.
+    /// The page, without the state of its workers.
     pub(crate) fn into_page(self) -> Page {
         let Desk {
             page,
@@ -176,7 +176,7 @@ impl Desk {
     }
 }
 
-// What a page's refusal comes to. Only another page than the one whose ticket it was refuses a
+// What a page's refusal means. Only a page other than the one that gave the ticket refuses a
 // receipt.
 fn refused(fault: PostFault) -> AssembleFault {
     match fault {

@@ -3,16 +3,16 @@
 use edge_types::NoMemory;
 use thiserror::Error;
 
-/// Why a page was not assembled. Where several of them hold, the first in this order is told.
+/// Why a page was not assembled. If several of them hold, the first in this order is reported.
 #[derive(Clone, Copy, Debug, Drop, PartialEq, Eq, PartialOrd, Ord, Error)]
 pub enum AssembleFault {
-    /// A growth was refused.
+    /// An allocation failed.
     #[error("out of memory: assemble the page again with more of it")]
     NoMemory,
     /// A worker could not be started.
     #[error("a thread could not be started: assemble the page again, or with fewer workers")]
     NoThread,
-    /// What the page logged is not what the workers posted, it is another page than the one that was
+    /// What the page logged is not what the workers posted, it is a page other than the one that was
     /// asked for, or it is not done.
     #[error("the page isn't the one that its workers' answers make: assemble it again")]
     Torn,

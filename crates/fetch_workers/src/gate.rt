@@ -1,4 +1,4 @@
-//! What stands before each fetch of a page.
+//! What a worker passes before each fetch of a page.
 
 use edge_types::PageUrl;
 
@@ -8,7 +8,7 @@ pub trait Gate<R> {
     fn before_fetch(&self, rt: &R, url: &PageUrl);
 }
 
-/// A gate that lets everybody pass at once.
+/// A gate that lets everyone pass at once.
 #[derive(Clone, Copy)]
 pub struct OpenGate;
 

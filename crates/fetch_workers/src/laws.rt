@@ -1,4 +1,4 @@
-//! What follows from the contract of `assemble`, and the limits in figures: each is the contract of a
+//! What follows from the contract of `assemble`, and the limits as numbers. Each law is the contract of a
 //! function that does nothing.
 
 ghost use Rattle.std.specs.Prelude.{◌≡◌};
@@ -7,7 +7,7 @@ ghost use Rattle.fetch_workers.specs.Laws.{TablesGiveThePage};
 use crate::assembler::MAX_WORKERS;
 use crate::cache::SHARDS;
 
-/// Over a `TableSource` a page has the outcome that `plain_page` answers over its table, for every
+/// Over a `TableSource` a page has the outcome that `plain_page` returns over its table, for every
 /// number of workers and every number of slots ahead. Takes no memory.
 ///
 /// Our profile.

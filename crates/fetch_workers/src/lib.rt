@@ -1,5 +1,5 @@
-//! Pages that several threads assemble. What is asked for an answer is a `Source`; `assemble` makes
-//! of its answers the page that one thread would make. A `Cache` is a source that pages share.
+//! Pages that several threads assemble. A `Source` is asked for answers, from which `assemble` makes
+//! the page that one thread would make. A `Cache` is a source that pages share.
 #![tactic(auto)]
 
 mod assembler;

@@ -1,4 +1,4 @@
-//! What workers posted, beside the log of the page.
+//! What workers posted, kept apart from the log of the page.
 
 ghost use Rattle.std.specs.Prelude.{◌≡◌, map, IsTrue, IfOk};
 ghost use Rattle.std.specs.Arc.{arc_value};
@@ -18,7 +18,7 @@ pub(crate) struct Own {
     pub(crate) answer: SharedAnswer,
 }
 
-// Whether these answers, in this order, are the page's log: each once, and no other.
+// Whether these answers, in this order, are the page's log: each once, and no others.
 pub(crate) fn is_log_of(page: &Page, own: &[Own]) -> bool
     ensures { IsTrue result → map (λ (o : Own). o.answer) own.now ≡ log_of page.now.board }
 {

@@ -11,7 +11,7 @@ pub(crate) fn same_answer(one: &Answer, other: &Answer) -> bool
     one.url() == other.url() && one.reply() == other.reply()
 }
 
-// Whether two requests say the same.
+// Whether two requests have the same fields.
 pub(crate) fn same_request(one: &Request, other: &Request) -> bool
     ensures { IsTrue result → one.now ≡ other.now }
 {

@@ -11,18 +11,18 @@ use plan_runner::Page;
 use std::alloc::Global;
 use std::sync::{Condvar, Mutex, Wait};
 
-/// What the workers of a page share, under the runtime that they wait by.
+/// What the workers of a page share, given the runtime by which they wait.
 pub(crate) trait Shared<R> {
-    /// Ends the work of all.
+    /// Ends the work for all.
     fn end(&self, rt: &R);
 
     /// Waits until there is something to do.
     fn next_turn(&self, rt: &R) -> Turn;
 
-    /// Posts an answer, and tells its place in the log.
+    /// Posts an answer, and returns its place in the log.
     fn post(&self, rt: &R, receipt: Receipt) -> Result<usize, AssembleFault>;
 
-    /// Leaves a ticket to whoever has nothing else to do.
+    /// Leaves a ticket for a worker that has nothing else to do.
     fn set_aside(&self, rt: &R, ticket: Ticket) -> Result<(), NoMemory>;
 }
 
@@ -43,7 +43,7 @@ impl SharedDesk {
         }
     }
 
-    /// The page, once nobody works for it.
+    /// The page, once nobody works on it.
     pub(crate) fn into_page(self) -> Page {
         let SharedDesk { desk, moved: _ } = self;
         desk.into_inner().into_page()

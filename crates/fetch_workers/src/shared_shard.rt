@@ -32,7 +32,7 @@ impl SharedShard {
         })
     }
 
-    // The shard, once nobody else has it. It is sound whenever it is got.
+    // The shard, once nobody else holds the lock. It is sound whenever the lock is got.
     fn lock<R: Wait>(&self, rt: &R) -> MutexGuard<'_, Shard>
         ensures { IsSound (mutex_guard_value result) }
     {
@@ -58,7 +58,7 @@ impl SharedShard {
         self.lock(rt).look(url, now)
     }
 
-    // Lands a flight, and wakes those who wait for it.
+    // Lands a flight, and wakes those who wait for it to land.
     pub(crate) fn land<R: Wait>(
         &self,
         rt: &R,
@@ -74,7 +74,7 @@ impl SharedShard {
         landed
     }
 
-    // Waits until the flight of this number has landed, and picks its answer up; none where it is
+    // Waits until the flight with this number has landed, and picks its answer up; `None` if it is
     // unknown.
     pub(crate) fn picked_up<R: Wait>(&self, rt: &R, number: u64) -> Option<Arc<Answer>> {
         let mut shard = self.lock(rt);

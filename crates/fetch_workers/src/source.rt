@@ -1,4 +1,4 @@
-//! What gives answers.
+//! Where answers come from.
 
 ghost use Rattle.std.specs.Prelude.{◌≡◌, ℕ, List, IfOk, IfSome};
 ghost use Rattle.std.specs.Arc.{arc_value};
@@ -8,19 +8,19 @@ use edge_types::{Answer, NoMemory, PageUrl};
 use std::alloc::Global;
 use std::sync::Arc;
 
-/// What gives the answers of URLs, to any number of threads at once. An implementation takes of its
+/// What gives the answers of URLs, to any number of threads at once. An implementation takes from its
 /// runtime what it needs.
 ///
-/// `gives` says which answers it may give for a URL: at least, that they name the URL.
+/// `gives` says which answers it may give for a URL; at the least, they name the URL.
 pub trait Source<R> {
     ghost gives: { Self → List ℕ → Answered → Type 0 };
 
-    /// Asks for the answer of a URL, and waits for it. What can't be had is a failed answer;
-    /// `NoMemory` where a growth is refused.
+    /// Asks for the answer of a URL, and waits for it. What can't be fetched is a failed answer;
+    /// `NoMemory` if an allocation fails.
     fn fetch(&self, rt: &R, alloc: Global, url: &PageUrl) -> Result<Arc<Answer>, NoMemory>
         ensures { IfOk result (λ answer. gives self.now url.now (arc_value answer)) };
 
-    /// The answer of a URL, where it can be had without waiting; by itself a source has none.
+    /// The answer of a URL, if it is there without waiting; by default a source has none.
     fn ready(
         &self,
         _rt: &R,

@@ -8,7 +8,7 @@ use std::alloc::Global;
 use std::marker::Model;
 use std::sync::Arc;
 
-/// A source that has every answer ready: that of its table, and a failed one for each other URL.
+/// A source that has every answer ready: that of its table, and a failed one for any other URL.
 #[derive(Drop)]
 pub struct TableSource {
     table: Table,
@@ -35,7 +35,7 @@ impl TableSource {
         TableSource { table }
     }
 
-    // An owner of the answer of a URL.
+    // A second owner of the answer of a URL.
     fn answer(&self, alloc: Global, url: &PageUrl) -> Result<Arc<Answer>, NoMemory>
         ensures { IfOk result (λ answer. arc_value answer ≡ replied self.now url.now) }
     {

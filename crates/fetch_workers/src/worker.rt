@@ -1,5 +1,5 @@
-//! What a worker does by itself: it looks for answers that are ready, fetches, and posts. It keeps
-//! an owner of each answer that it posted.
+//! What a single worker does: it looks for answers that are ready, fetches, and posts. It keeps
+//! a handle to each answer that it posted.
 
 ghost use Rattle.std.specs.Prelude.{◌≡◌, ◌<◌, IfOk, OnOk, OnSome};
 ghost use Rattle.std.specs.Arc.{arc_value};
@@ -17,8 +17,8 @@ use plan_compiler::Prepared;
 use std::alloc::Global;
 use std::sync::{Arc, Wait};
 
-// The receipt of a ticket and the answer of its URL, made ready, and one owner more of the answer.
-// Where there is no memory the ticket is given up.
+// The receipt from a ticket and the answer of its URL, made ready, and a second handle to the answer.
+// If memory runs out the ticket is given up.
 fn receipt_of(
     alloc: Global,
     ticket: Ticket,
@@ -50,7 +50,7 @@ fn made_ready(alloc: Global, answer: Arc<Answer>) -> Result<(SharedAnswer, Prepa
     Ok((own, Prepared::of(alloc, answer)?))
 }
 
-// Posts the answer of a ticket, and keeps one owner of it.
+// Posts the answer of a ticket, and keeps a handle to it.
 fn post<R: Wait, S: Source<R>, D: Shared<R>>(
     rt: &R,
     alloc: Global,
@@ -72,7 +72,7 @@ fn post<R: Wait, S: Source<R>, D: Shared<R>>(
     }
 }
 
-// Posts the answer of a ticket where the source has it ready, and else sets the ticket aside.
+// Posts the answer of a ticket if the source has it ready, and otherwise sets the ticket aside.
 fn prepare<R: Wait, S: Source<R>, D: Shared<R>>(
     rt: &R,
     alloc: Global,
@@ -97,7 +97,7 @@ fn prepare<R: Wait, S: Source<R>, D: Shared<R>>(
     }
 }
 
-// Fetches once, and posts the answer. The worker has room for it before it fetches.
+// Fetches once, and posts the answer. The worker makes room for the answer before it fetches.
 pub(crate) fn fetch_one<R: Wait, S: Source<R>, G: Gate<R>, D: Shared<R>>(
     rt: &R,
     alloc: Global,

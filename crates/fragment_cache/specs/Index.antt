@@ -1,4 +1,4 @@
--- The index of the flights that fly.
+-- The index of the flights under way.
 use Rattle.std.specs.Prelude.{◌≡◌, ℕ, ◌<◌, List, Option, Some, cond}
 use Rattle.std.specs.List.{AllByRecursion}
 use Rattle.std.specs.Ordering.{nat_cmp}
@@ -18,7 +18,7 @@ Changes url number before after = (q : List ℕ) → get (slice_cmp nat_cmp) aft
 abbrev pub HaveSameNumbers : Numbers → Numbers → Type 0
 HaveSameNumbers before after = (q : List ℕ) → get (slice_cmp nat_cmp) after q ≡ get (slice_cmp nat_cmp) before q
 
--- the index has the number of the flight that flies for each URL
+-- the index has the number of the flight that is under way for each URL
 pub record Indexed (flying : BTreeMap (List ℕ) ℕ) (flights : Flights) (next : ℕ) : Type 0 where
   pub found : (url : List ℕ) (number : ℕ) → get (slice_cmp nat_cmp) flying url ≡ Some number → flying_at flights number ≡ Some url
   pub listed : (url : List ℕ) (number : ℕ) → flying_at flights number ≡ Some url → get (slice_cmp nat_cmp) flying url ≡ Some number

@@ -1,4 +1,4 @@
--- What every run of the cache machine keeps to, told from the calls and their answers alone. A history has the latest call first.
+-- What is true of every run of the cache machine, by the calls and their answers alone. A history has the latest call first.
 use Rattle.std.specs.Prelude.{◌≡◌, ◌≢◌, ℕ, ◌+◌, ◌<◌, ◌⊎◌, Bool, false, ◌&&◌, not, IsTrue, IsSome, ⊤, bytes_eq, List, [], ◌∷◌, Option, Some, None, if◌then◌else◌}
 use Rattle.std.specs.Option.{option_map_or}
 use Rattle.edge_types.specs.Answered.{Answered, failed}
@@ -14,7 +14,7 @@ History = List Event
 abbrev pub is_of : List ℕ → Option (List ℕ) → Bool
 is_of url found = option_map_or (bytes_eq url) found false
 
--- the URL for which the flight of a number flies: it was led, and no flight of its number and URL has landed since
+-- the URL for which the flight with a number flies: it was led, and no flight with its number and URL has landed since
 abbrev pub flying_in : History → ℕ → Option (List ℕ)
 flying_in [] number = None
 flying_in (Began url now (Lead flight ready) ∷ earlier) number = if same_number flight.number number then Some flight.url else flying_in earlier number
@@ -25,11 +25,11 @@ flying_in (Looked url now answer ∷ earlier) number = flying_in earlier number
 flying_in (Landed flight answer now given ∷ earlier) number = if is_of flight.url (flying_in earlier flight.number) && same_number flight.number number then None else flying_in earlier number
 flying_in (PickedUp picked answer ∷ earlier) number = flying_in earlier number
 
--- this very flight flies, so that it lands where it is handed in
+-- this very flight is under way, so it lands when it is handed in
 abbrev pub flies_in : History → Flight → Bool
 flies_in earlier flight = is_of flight.url (flying_in earlier flight.number)
 
--- a landing is bridged: a failing answer is handed in, and another that isn't failing is given back
+-- a landing is bridged: a failing answer is handed in, and another that isn't failing comes back
 abbrev pub is_bridged : Answered → Answered → Bool
 is_bridged answer given = is_failing answer.reply && not (is_failing given.reply)
 
@@ -41,7 +41,7 @@ latest url (Began u now answer ∷ earlier) = latest url earlier
 latest url (Looked u now answer ∷ earlier) = latest url earlier
 latest url (PickedUp number answer ∷ earlier) = latest url earlier
 
--- the answer with which the flight of a number landed
+-- the answer with which the flight with a number landed
 abbrev pub landed_in : History → ℕ → Option Answered
 landed_in [] number = None
 landed_in (Landed flight answer now given ∷ earlier) number = if flies_in earlier flight && same_number flight.number number then Some given else landed_in earlier number
@@ -60,7 +60,7 @@ leads (Looked url now answer ∷ earlier) = leads earlier
 leads (Landed flight answer now given ∷ earlier) = leads earlier
 leads (PickedUp picked answer ∷ earlier) = leads earlier
 
--- how often the flight of a number was joined
+-- how many times the flight with a number was joined
 abbrev pub joins : History → ℕ → ℕ
 joins [] number = 0
 joins (Began url now (Join joined) ∷ earlier) number = if same_number joined number then joins earlier number + 1 else joins earlier number
@@ -71,7 +71,7 @@ joins (Looked url now answer ∷ earlier) number = joins earlier number
 joins (Landed flight answer now given ∷ earlier) number = joins earlier number
 joins (PickedUp picked answer ∷ earlier) number = joins earlier number
 
--- how often its answer was picked up
+-- how many times its answer was picked up
 abbrev pub heres : History → ℕ → ℕ
 heres [] number = 0
 heres (PickedUp picked (Here answer) ∷ earlier) number = if same_number picked number then heres earlier number + 1 else heres earlier number
@@ -85,32 +85,32 @@ heres (Landed flight answer now given ∷ earlier) number = heres earlier number
 abbrev pub IsLatest : History → List ℕ → Answered → ℕ → Type 0
 IsLatest earlier url answer expiry = (at : ℕ) × (latest url earlier ≡ Some (answer, at)) × (expiry_of answer at ≡ Some expiry)
 
--- no flight flies for the URL
+-- no flight is under way for the URL
 abbrev pub NoneFlew : History → List ℕ → Type 0
 NoneFlew earlier url = (number : ℕ) → flying_in earlier number ≢ Some url
 
--- a bridged landing is of a flight that flies, and gives the latest answer, before its expiry plus its extension
+-- a bridged landing is of a flight under way, and yields the latest answer, before its expiry plus its extension
 abbrev pub Bridges : History → Flight → Answered → ℕ → Answered → Type 0
 Bridges earlier flight answer now given = IsTrue (is_bridged answer given) × (flying_in earlier flight.number ≡ Some flight.url) × (expiry : ℕ) × IsLatest earlier flight.url given expiry × (now < second_after expiry (extension_of given.reply))
 
--- what a call says of the earlier ones
+-- what a call says about the earlier ones
 abbrev pub Follows : History → Event → Type 0
 -- a hit is the latest answer, before its expiry
 Follows earlier (Began url now (Hit answer)) = (expiry : ℕ) × IsLatest earlier url answer expiry × (now < expiry)
--- a join is of the flight that flies for the URL
+-- a join is of the flight that is under way for the URL
 Follows earlier (Began url now (Join number)) = flying_in earlier number ≡ Some url
--- a flight is led where none flies for the URL, with a failed answer; flights are numbered from 0, in turn
+-- a flight is led if none is under way for the URL, with a failed answer; flights are numbered from 0, in turn
 Follows earlier (Began url now (Lead flight ready)) = (flight.url ≡ url) × (flight.number ≡ leads earlier) × (ready ≡ failed url) × NoneFlew earlier url
 Follows earlier (Began url now Bypass) = ⊤
 -- an answer that is looked for and found is the latest one, before its expiry
 Follows earlier (Looked url now (Found answer)) = (expiry : ℕ) × IsLatest earlier url answer expiry × (now < expiry)
 Follows earlier (Looked url now Missing) = ⊤
 Follows earlier (Looked url now Refused) = ⊤
--- a landing that isn't bridged, and a `land` of a flight that doesn't fly, give back what is handed in
+-- a landing that isn't bridged, and a `land` of a flight that isn't under way, return what is handed in
 Follows earlier (Landed flight answer now given) = (given ≡ answer) ⊎ Bridges earlier flight answer now given
--- a pick-up gives the answer with which the flight landed, and there was a join for it
+-- a pick-up yields the answer with which the flight landed, and there was a join for it
 Follows earlier (PickedUp number (Here answer)) = (landed_in earlier number ≡ Some answer) × (heres earlier number < joins earlier number)
--- a flight whose answer is still to come flies, and one that is unknown doesn't
+-- a flight whose answer is still to come is under way, and one that is unknown isn't
 Follows earlier (PickedUp number Flying) = IsSome (flying_in earlier number)
 Follows earlier (PickedUp number Unknown) = flying_in earlier number ≡ None
 

@@ -1,4 +1,4 @@
--- The cache machine: what a shard keeps, and the words for what it does with it.
+-- The cache machine: what a shard keeps, and names for what it does with it.
 use Rattle.std.specs.Prelude.{◌≢◌, ℕ, ◌+◌, ◌-◌, Bool, not, bytes_eq, nat_lt, List, [], ◌∷◌, ◌++◌, take, filter, Option, Some, None, is_none, option_and_then, if◌then◌else◌}
 use Rattle.std.specs.Option.{option_map_or}
 use Rattle.std.specs.Map.{lookup}
@@ -49,7 +49,7 @@ Flights = List (ℕ × Kept)
 abbrev pub airspace : State → Airspace
 airspace s = record { flights = s.flights; next = s.next }
 
--- a shard that keeps nothing yet
+-- an empty shard
 abbrev pub empty : ℕ → State
 empty capacity = record { entries = []; flights = []; next = 0; capacity = capacity }
 
@@ -67,11 +67,11 @@ others url entries = filter (λ e. not (bytes_eq url e.0)) entries
 abbrev pub used : List ℕ → Entries → Entries
 used url entries = filter (λ e. bytes_eq url e.0) entries ++ others url entries
 
--- this entry of the URL first, in place of an older one, else of the last one where the shard is full
+-- this entry of the URL first, in place of an older one, else of the last one if the shard is full
 abbrev pub stored : ℕ → List ℕ → Entry → Entries → Entries
 stored capacity url entry entries = (url, entry) ∷ take (capacity - 1) (others url entries)
 
--- the entry's answer, where now is before this second
+-- the entry's answer, if now is before this second
 abbrev pub answer_before : ℕ → ℕ → Answered → Option Answered
 answer_before now end answer = if nat_lt now end then Some answer else None
 
@@ -93,27 +93,27 @@ bridging entries url now = option_and_then (λ e. answer_before now (bridge_end 
 abbrev pub same_number : ℕ → ℕ → Bool
 same_number = eq_by_cmp nat_cmp
 
--- the flight of a number
+-- the flight with a number
 abbrev pub kept_at : Flights → ℕ → Option Kept
 kept_at flights number = lookup (same_number number) flights
 
--- the URL for which a flight flies: none once it has landed
+-- the URL for which a flight is under way: none once it has landed
 abbrev pub flying : Kept → Option (List ℕ)
 flying f = if is_none f.landed then Some f.url else None
 
--- the URL for which the flight of a number flies: none where it has landed or is not kept
+-- the URL for which the flight with a number is under way: none if it has landed or is not kept
 abbrev pub flying_at : Flights → ℕ → Option (List ℕ)
 flying_at flights number = option_and_then flying (kept_at flights number)
 
--- the answer with which the flight of a number landed
+-- the answer with which the flight with a number landed
 abbrev pub landed_at : Flights → ℕ → Option Answered
 landed_at flights number = option_and_then (λ f. f.landed) (kept_at flights number)
 
--- how many pick-ups the flight of a number has left
+-- how many pick-ups the flight with a number has left
 abbrev pub picks_at : Flights → ℕ → ℕ
 picks_at flights number = option_map_or (λ f. f.picks) (kept_at flights number) 0
 
--- no flight flies for the URL
+-- no flight is under way for the URL
 abbrev pub NoneFlies : Flights → List ℕ → Type 0
 NoneFlies flights url = (number : ℕ) → flying_at flights number ≢ Some url
 
@@ -122,15 +122,15 @@ abbrev pub changed_value : {K X : Type 0} → (K → Bool) → (X → X) → Lis
 changed_value test change [] = []
 changed_value test change (e ∷ es) = if test e.0 then (e.0, change e.1) ∷ es else e ∷ changed_value test change es
 
--- the flights, with a change of the one of this number
+-- the flights, with a change of the one with this number
 abbrev pub changed : ℕ → (Kept → Kept) → Flights → Flights
 changed number change flights = changed_value (same_number number) change flights
 
--- the flights without the one of this number
+-- the flights without the one with this number
 abbrev pub without : ℕ → Flights → Flights
 without number flights = filter (λ e. not (same_number number e.0)) flights
 
--- a flight that has just left: it flies, and nobody waits for it
+-- a flight that has just left: it is under way, and nobody waits for it
 abbrev pub departed : List ℕ → Kept
 departed url = record { url = url; landed = None; picks = 0 }
 

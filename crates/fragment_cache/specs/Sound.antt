@@ -19,7 +19,7 @@ pub record AreEntries (capacity : ℕ) (entries : Entries) : Type 0 where
   pub distinct : IsDistinct bytes_eq (keys_of entries)
   pub within : length entries ≤ capacity
 
--- flights that have landed hold answers of their URLs, no URL has two flights flying, and numbers are below the next
+-- flights that have landed hold answers of their URLs, no URL has two flights under way, and numbers are below the next
 pub record AreFlights (flights : Flights) (next : ℕ) : Type 0 where
   pub named : AllByRecursion (λ e. HasNamed e.1) flights
   pub one_flies : (url : List ℕ) (one other : ℕ) → flying_at flights one ≡ Some url → flying_at flights other ≡ Some url → one ≡ other
@@ -30,7 +30,7 @@ pub record IsSound (s : State) : Type 0 where
   pub entries : AreEntries s.capacity s.entries
   pub flights : AreFlights s.flights s.next
 
--- what `begin` gives names the URL that was asked: a stored answer, a flight and the failed answer for it
+-- what `begin` returns names the URL that was asked for: a stored answer, a flight and the failed answer for it
 abbrev pub NamesUrl : List ℕ → BeginAnswer → Type 0
 NamesUrl url (Hit answer) = answer.url ≡ url
 NamesUrl url (Join number) = ⊤

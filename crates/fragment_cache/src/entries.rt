@@ -58,7 +58,7 @@ impl Model for Entries {
     ghost invariant = { λ c. AreEntries c.cache.cap c.cache.entries };
 }
 
-// What the cache tells with its length: that its URLs are distinct, and no more than it may have.
+// States what `len` promises of the cache: its URLs are distinct, and no more than its capacity.
 fn check(cache: &LruCache<PageUrl, Stored>)
     ensures { IsValid bytes_eq cache.now }
 {
@@ -77,14 +77,14 @@ impl Entries {
         Ok(Entries { cache })
     }
 
-    // Tells callers what holds of the entries.
+    // States the invariant of the entries for callers.
     pub(crate) fn sound(&self)
         ensures { AreEntries self.now.capacity self.now.entries }
     {
         let _ = &self.cache;
     }
 
-    // The answer of the URL's entry before its expiry; the entry becomes the newest.
+    // The answer of the URL's entry, before its expiry; the entry becomes the newest.
     pub(crate) fn hit(&mut self, url: &PageUrl, now: u64) -> Result<Option<Arc<Answer>>, NoMemory>
         ensures ok { IfOk result (λ found. MatchOption found
             ((fresh self.old.entries url.now now ≡ None) × (self.new ≡ self.old))
@@ -135,8 +135,8 @@ impl Entries {
         Ok(Some(stored.answer.share()?))
     }
 
-    // Puts in an answer that is to be stored, in place of an older one of its URL, which also goes
-    // where the answer isn't stored. Answers whether it was.
+    // Inserts an answer that is to be stored, in place of an older one of its URL; the older one also goes
+    // if the answer isn't stored. Returns whether it was stored.
     pub(crate) fn put(&mut self, url: &PageUrl, answer: &SharedAnswer, now: u64) -> bool
         requires { answer.now.url ≡ url.now }
         ensures { MatchBool result

@@ -9,11 +9,11 @@ use std::collections::BTreeMap;
 use std::marker::Model;
 use std::sync::Arc;
 
-/// The most flights that a shard keeps: those that fly, and those that wait for pick-ups.
+/// The most flights that a shard keeps: those under way, and those that wait for pick-ups.
 pub const MAX_FLIGHTS: usize = 1024;
 
-/// The right and the duty to fetch a URL and to land the answer. It can be neither copied nor let
-/// go: `Shard::land` alone takes it, so nobody who joins a flight waits for one that was forgotten.
+/// The right and the duty to fetch a URL and to land the answer. It can be neither copied nor
+/// dropped: `Shard::land` alone takes it, so nobody who joins a flight waits for one that was forgotten.
 /// Clauses see its number and its URL.
 #[must_use]
 pub struct Flight {
@@ -51,14 +51,14 @@ impl Flight {
     }
 }
 
-/// What `pick` answers.
+/// The result of `pick`.
 #[derive(Drop)]
 pub enum Picked {
     /// The flight landed with this answer.
     Here(Arc<Answer>),
     /// The flight has not landed yet.
     Flying,
-    /// The shard keeps no such flight.
+    /// The shard has no such flight.
     Unknown,
 }
 
@@ -66,7 +66,7 @@ pub enum Picked {
 #[derive(Drop)]
 pub(crate) struct Flights {
     kept: BTreeMap<u64, Kept>,
-    // The number of the flight that flies for a URL.
+    // The number of the flight that is under way for a URL.
     flying: BTreeMap<PageUrl, u64>,
     next: u64,
 }
@@ -102,14 +102,14 @@ impl Flights {
         }
     }
 
-    // Tells callers what holds of the flights.
+    // States the invariant of the flights for callers.
     pub(crate) fn sound(&self)
         ensures { AreFlights self.now.flights self.now.next }
     {
         let _ = &self.kept;
     }
 
-    // The number of the flight that flies for a URL.
+    // The number of the flight that is under way for a URL.
     pub(crate) fn flying(&self, url: &PageUrl) -> Option<u64>
         ensures { MatchOption result (NoneFlies self.now.flights url.now)
             (λ number. flying_at self.now.flights number ≡ Some url.now) }
@@ -117,7 +117,7 @@ impl Flights {
         self.flying.get(url).copied()
     }
 
-    // Whether this very flight flies here.
+    // Whether this very flight is under way here.
     pub(crate) fn flies(&self, flight: &Flight) -> bool
         ensures { IsTrue result ↔ (flying_at self.now.flights flight.now.number ≡ Some flight.now.url) }
     {
@@ -127,7 +127,7 @@ impl Flights {
         }
     }
 
-    // Notes one more pick-up; answers whether there was room for it.
+    // Notes one more pick-up; returns whether there was room for it.
     pub(crate) fn join(&mut self, number: u64) -> bool
         requires { IsSome (flying_at self.old.flights number) }
         ensures { MatchBool result
@@ -142,7 +142,7 @@ impl Flights {
         true
     }
 
-    // Opens a flight, and makes a failed answer for its leader; none only where there is no room.
+    // Opens a flight, and makes a failed answer for its leader; `None` only if there is no room.
     pub(crate) fn lead(
         &mut self,
         alloc: Global,
@@ -175,8 +175,8 @@ impl Flights {
         Ok((Flight { number, url: own }, ready))
     }
 
-    // Lands a flight that flies, with its pick-ups; it is gone where it has none, or a second
-    // owner of the answer is refused.
+    // Lands a flight that is under way, with its pick-ups; it is gone if it has none, or if a second
+    // owner of the answer can't be made.
     pub(crate) fn land(&mut self, flight: &Flight, answer: &SharedAnswer)
         requires flies { flying_at self.old.flights flight.now.number ≡ Some flight.now.url }
         requires named { answer.now.url ≡ flight.now.url }
@@ -215,7 +215,7 @@ ghost use Rattle.std.specs.Cmp.Lexicographic.{slice_cmp};
 ghost use Rattle.fragment_cache.specs.Machine.{departed};
 ghost use Rattle.fragment_cache.specs.Index.{Changes, HaveSameNumbers};
 
-// Puts a flight that has just left into the index and among the flights, or into neither.
+// Adds a flight that has just left to both the index and the flights, or to neither.
 fn open(
     flying: &mut BTreeMap<PageUrl, u64>,
     kept: &mut BTreeMap<u64, Kept>,

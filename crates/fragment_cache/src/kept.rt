@@ -6,7 +6,7 @@ use std::marker::Model;
 /// The most pick-ups that a flight can have.
 pub const MAX_PICKS: u16 = u16::MAX;
 
-// A flight: its URL, the answer with which it landed (none while it flies), the pick-ups left.
+// A flight: its URL, the answer with which it landed (none while it is under way), the pick-ups left.
 #[derive(Drop)]
 pub(crate) struct Kept {
     url: PageUrl,

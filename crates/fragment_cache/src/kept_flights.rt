@@ -10,7 +10,7 @@ use crate::kept::{Kept, MAX_PICKS};
 use edge_types::{NoMemory, SharedAnswer};
 use std::collections::BTreeMap;
 
-// How many pick-ups the flight of a number has left.
+// How many pick-ups the flight with a number has left.
 pub(crate) fn picks(flights: &BTreeMap<u64, Kept>, number: u64) -> u16
     ensures { result ≡ picks_at flights.now.entries number }
 {
@@ -20,7 +20,7 @@ pub(crate) fn picks(flights: &BTreeMap<u64, Kept>, number: u64) -> u16
     }
 }
 
-// Takes a flight out.
+// Removes a flight.
 pub(crate) fn take_out(flights: &mut BTreeMap<u64, Kept>, number: u64)
     ensures { flights.new.entries ≡ without number flights.old.entries }
 {
@@ -28,15 +28,15 @@ pub(crate) fn take_out(flights: &mut BTreeMap<u64, Kept>, number: u64)
     let _ = flights.remove(&number);
 }
 
-// What the map tells with its length: that its numbers are in order.
+// States what `len` promises of the map: its numbers are in order.
 fn ordered(flights: &BTreeMap<u64, Kept>)
     ensures { IsOrdered nat_cmp flights.now }
 {
     let _ = flights.len();
 }
 
-// Lands a flight with its pick-ups; it is gone where it has none, or a second owner of the answer
-// is refused.
+// Lands a flight with its pick-ups; it is gone if it has none, or if a second owner of the answer
+// can't be made.
 pub(crate) fn arrive(flights: &mut BTreeMap<u64, Kept>, number: u64, answer: &SharedAnswer)
     requires { IsSome (kept_at flights.old.entries number) }
     ensures { Arrives flights.old.entries number answer.now flights.new.entries }
@@ -63,7 +63,7 @@ pub(crate) fn use_up(flights: &mut BTreeMap<u64, Kept>, number: u64)
     }
 }
 
-// Notes one more pick-up of a flight.
+// Notes one more pick-up for a flight.
 pub(crate) fn note_pick_up(flights: &mut BTreeMap<u64, Kept>, number: u64)
     requires kept { IsSome (kept_at flights.old.entries number) }
     requires room { picks_at flights.old.entries number < MAX_PICKS }
@@ -86,7 +86,7 @@ fn use_pick_up(flights: &mut BTreeMap<u64, Kept>, number: u64)
     }
 }
 
-// Puts the answer in with which a flight has landed.
+// Stores the answer with which a flight has landed.
 fn put_answer(flights: &mut BTreeMap<u64, Kept>, number: u64, answer: SharedAnswer)
     requires { IsSome (kept_at flights.old.entries number) }
     ensures { flights.new.entries ≡ changed number (landed_with answer) flights.old.entries }

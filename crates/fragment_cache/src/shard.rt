@@ -13,20 +13,20 @@ use std::sync::Arc;
 /// The most entries that a shard can have.
 pub const MAX_CAPACITY: usize = 1024;
 
-/// What `begin` answers. It can't be let go, since a flight can't.
+/// The result of `begin`. It can't be dropped, since a flight can't.
 #[must_use]
 pub enum Begun {
     /// The stored answer.
     Hit(Arc<Answer>),
-    /// A flight of this number flies for the URL: its answer can be picked up once it has landed.
+    /// A flight with this number is under way for the URL: its answer can be picked up once it has landed.
     Join(u64),
-    /// The caller is to fetch and to land the answer, or else this failed one.
+    /// The caller is to fetch and to land the answer, or this failed one if it has none.
     Lead(Flight, Arc<Answer>),
-    /// The caller is to fetch for itself.
+    /// The caller is to fetch on its own.
     Bypass,
 }
 
-/// Stored answers, and the flights of those that are to come.
+/// Stored answers, and flights for those that are to come.
 ///
 /// ```text
 ///  look  --         the stored answer, before its expiry, or nothing
@@ -58,7 +58,7 @@ impl Shard {
     ghost use Rattle.fragment_cache.specs.Shown.{begun_answer, picked_answer};
     ghost use Rattle.fragment_cache.specs.Sound.{IsSound, NamesUrl};
 
-    /// A shard of at most this many entries, which keeps nothing yet.
+    /// An empty shard for at most this many entries.
     ///
     /// Our profile.
     pub fn new(alloc: Global, capacity: usize) -> Result<Shard, NoMemory>
@@ -77,10 +77,10 @@ impl Shard {
         })
     }
 
-    /// Gives the stored answer of a URL where now is before its expiry, and makes its entry the
-    /// newest; none where no entry is so, which changes nothing. No flight is begun or joined.
+    /// Returns the stored answer of a URL if now is before its expiry, and makes its entry the
+    /// newest; else `None`, which changes nothing. No flight is begun or joined.
     ///
-    /// `NoMemory` where a second owner of the answer is refused; nothing changes then.
+    /// `NoMemory` if a second owner of the answer can't be made; nothing changes then.
     ///
     /// Our profile.
     pub fn look(&mut self, url: &PageUrl, now: u64) -> Result<Option<Arc<Answer>>, NoMemory>
@@ -97,14 +97,14 @@ impl Shard {
         found
     }
 
-    /// Asks for a URL at a second of the clock, and answers in this order: `Hit` where an entry of
-    /// the URL is stored and now is before its expiry, and makes that entry the newest; `Join`
-    /// where a flight of the URL flies, and notes one more pick-up of it; else `Lead`, with the
+    /// Asks for a URL at a second of the clock. The result, in this order: `Hit` if an entry of
+    /// the URL is stored and now is before its expiry, which makes that entry the newest; `Join`
+    /// if a flight of the URL is under way, which notes one more pick-up of it; else `Lead`, with the
     /// next number.
     ///
-    /// `Bypass`, which changes nothing, comes in place of `Hit` where a growth is refused, in place
-    /// of `Join` where the flight has `MAX_PICKS` pick-ups, and in place of `Lead` where a growth
-    /// is refused, `MAX_FLIGHTS` flights are kept or the numbers are used up. An expired entry
+    /// `Bypass`, which changes nothing, comes in place of `Hit` if an allocation fails, in place
+    /// of `Join` if the flight has `MAX_PICKS` pick-ups, and in place of `Lead` if an allocation
+    /// fails, `MAX_FLIGHTS` flights are kept or the numbers are used up. An expired entry
     /// stays where it is.
     ///
     /// Our profile.
@@ -129,9 +129,9 @@ impl Shard {
         }
     }
 
-    /// Says what holds of every shard, also of one that was just got from behind a lock: each entry
+    /// States what holds of every shard, even one that was just taken from a lock: each entry
     /// and each flight that has landed holds an answer of its URL, no URL has two entries or two
-    /// flights that fly, and there are no more entries than the capacity. Does nothing.
+    /// flights under way, and there are no more entries than the capacity. Does nothing.
     ///
     /// Our profile.
     pub fn sound(&self)
@@ -141,7 +141,7 @@ impl Shard {
         self.flights.sound();
     }
 
-    // Joins the flight of a URL that no entry answers, or leads one.
+    // Joins the flight of a URL that no entry answers, or leads a new one.
     fn depart(&mut self, url: &PageUrl) -> Begun
         ensures { (now : ℕ) → fresh self.old.entries url.now now ≡ None → Begins self.old url.now now (begun_answer result) self.new }
     {
@@ -160,19 +160,19 @@ impl Shard {
         }
     }
 
-    /// Lands a flight with the answer of its URL, and gives the answer with which it landed.
+    /// Lands a flight with the answer of its URL, and returns the answer with which it landed.
     ///
-    /// Where no such flight flies here nothing changes, and the answer comes back. Where the
+    /// If no such flight is under way here nothing changes, and the answer comes back. If the
     /// answer is failed, or its status is 500 to 599, and an entry of the URL is stored whose
     /// expiry plus extension is after now, the landing is bridged: the stored answer takes the
     /// place of the answer, and no entry changes or moves. Else an answer that is to be stored (a
     /// success with a `max-age` of at least 1 and without `no-store`) becomes the newest entry, in
-    /// place of an older one of the URL, else of the last one where the shard is full; an answer
-    /// that isn't takes out an older entry. The flight keeps its pick-ups with the answer, or is
-    /// gone where it has none.
+    /// place of an older one of the URL, else of the last one if the shard is full; an answer
+    /// that isn't removes an older entry. The flight keeps its pick-ups with the answer, or is
+    /// gone if it has none.
     ///
-    /// Never refused: want of memory only unbridges a landing, leaves the answer out of the
-    /// entries with an older one of the URL, or ends the flight.
+    /// Never refused: out of memory, it only doesn't bridge a landing, leaves the answer out of the
+    /// entries and drops an older one of the URL, or ends the flight.
     ///
     /// Our profile.
     pub fn land(&mut self, flight: Flight, answer: Arc<Answer>, now: u64) -> Arc<Answer>
@@ -208,11 +208,11 @@ impl Shard {
         }
     }
 
-    /// Picks up the answer of the flight of a number, once it has landed: `Here` uses up one
-    /// pick-up, and the last one ends the flight. Takes no memory but a second owner of the answer.
+    /// Picks up the answer of the flight with a number, once it has landed: `Here` uses up one
+    /// pick-up, and the last one ends the flight. Takes no memory but for a second owner of the answer.
     ///
-    /// `Flying` before the flight lands, and `Unknown` where there is no such flight; both change
-    /// nothing. Where the second owner is refused the pick-up is used up too, and the answer is
+    /// `Flying` before the flight lands, and `Unknown` if there is no such flight; both change
+    /// nothing. If the second owner can't be made the pick-up is used up too, and the result is
     /// `Unknown`.
     ///
     /// Our profile.
@@ -231,7 +231,7 @@ impl Shard {
     ghost use Rattle.fragment_cache.specs.Times.{is_failing};
     ghost use Rattle.fragment_cache.specs.Machine.{bridging};
 
-    // The stored answer that stands in for a failing one.
+    // The stored answer that replaces a failing one.
     fn bridge(&self, flight: &Flight, answer: &SharedAnswer, now: u64) -> Option<SharedAnswer>
         ensures failing { IfSome result (λ _. IsTrue (is_failing answer.now.reply)) }
         ensures bridging { IfSome result (λ found. bridging self.now.entries flight.now.url now ≡ Some found) }

@@ -1,11 +1,11 @@
-//! For how long answers are good, in whole seconds of the cache's clock.
+//! How long answers are good for, in whole seconds of the cache's clock.
 
 ghost use Rattle.std.specs.Prelude.{◌≡◌};
 ghost use Rattle.fragment_cache.specs.Times.{expiry_of, fresh_until, extension_of, is_failing};
 
 use edge_types::{Answer, Control, Reply};
 
-// Until when an answer that landed now is fresh; none where it isn't to be stored.
+// Until when an answer that landed now is fresh; `None` if it isn't to be stored.
 pub(crate) fn expiry(answer: &Answer, now: u64) -> Option<u64>
     ensures { result ≡ expiry_of answer.now now }
 {
@@ -20,7 +20,7 @@ pub(crate) fn expiry(answer: &Answer, now: u64) -> Option<u64>
 
 ghost use Rattle.std.specs.Prelude.{None, if◌then◌else◌};
 
-// The same, as the control of a success has it.
+// Until when a success with this control is fresh; `None` if it isn't to be stored.
 fn control_expiry(control: &Control, now: u64) -> Option<u64>
     ensures { result ≡ (if control.now.no_store then None else fresh_until now control.now.max_age) }
 {
@@ -40,7 +40,7 @@ pub(crate) fn extension(answer: &Answer) -> u32
     }
 }
 
-// Whether the origin fails: nothing could be had, or the status is 500 to 599.
+// Whether the origin fails: nothing could be fetched, or the status is 500 to 599.
 pub(crate) fn is_failing(answer: &Answer) -> bool
     ensures { result ≡ is_failing answer.now.reply }
 {

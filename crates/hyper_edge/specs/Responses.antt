@@ -1,4 +1,4 @@
--- What a client is sent that asks for a page.
+-- What is sent to a client that asks for a page.
 use Rattle.std.specs.Prelude.{◌≡◌, ◌≢◌, ◌⊎◌, ℕ, List}
 use Rattle.edge_types.specs.Answered.{Answered}
 use Rattle.edge_types.specs.Outcome.{shown}
@@ -9,16 +9,16 @@ use Rattle.page_http.specs.Head.{served, Asks, NamesHost}
 use Rattle.page_http.specs.Sent.{Sent, Tells, refusal}
 use Rattle.page_http.specs.declared.field.Field.{Field}
 
--- a target and fields ask for no page
+-- a target and fields don't ask for a page
 abbrev pub AsksNothing : List ℕ → List Field → Type 0
 AsksNothing target fields = (url : List ℕ) (request : Request) → ¬ (Asks target fields url request)
 
--- a head that is read as far as its host: what lacks is room
+-- a head that is read as far as its host: what is missing is room
 abbrev pub NamesSomeHost : List Field → Type 0
 NamesSomeHost fields = (host : List ℕ) × NamesHost fields host
 
--- the page at a URL, as it comes of answers that the source gave: its outcome over them alone, and
--- so over every table that agrees with them, is what is told
+-- the page at a URL, as it follows from answers that the source gave: its outcome over them alone, and
+-- so over every table that agrees with them, is what is sent
 pub record TellsPageAt (gives : List ℕ → Answered → Type 0) (url : List ℕ) (request : Request) (levels : ℕ) (response : Sent) : Type 0 where
   pub log : List Answered
   pub outcome : Outcome
@@ -32,7 +32,7 @@ pub record SendsPage (gives : List ℕ → Answered → Type 0) (target : List �
   pub asks : Asks target fields url request
   pub page : TellsPageAt gives url request levels response
 
--- what is sent where the method is served: 400 where no page is asked for, 503 where there is no
+-- what is sent if the method is served: 400 if no page is asked for, 503 if there is no
 -- room for it, and the page (RFC 9110, sections 15.5.1 and 15.6.4)
 abbrev pub RespondsToGet : (List ℕ → Answered → Type 0) → List ℕ → List Field → ℕ → Sent → Type 0
 RespondsToGet gives target fields levels response =

@@ -1,9 +1,9 @@
--- When threads that serve may accept, when a further one is wanted, and when failed accepts end a
+-- When threads that serve may accept, when one more is wanted, and when failed accepts end a
 -- server.
 use Rattle.std.specs.Prelude.{◌+◌, ◌-◌, ◌^◌, ◌<◌, ◌≤◌, min, false, IsFalse}
 use Rattle.hyper_edge.specs.declared.roster.Roster.{Roster}
 
--- so many accepts have failed since the last that succeeded that none is made any more
+-- this many accepts have failed since the last that succeeded, so no more are made
 abbrev pub HasFailed : Roster → Type 0
 HasFailed roster = 16 ≤ roster.failed
 
@@ -16,15 +16,15 @@ pub record IsOpen (roster : Roster) : Type 0 where
 abbrev pub begun : Roster → Roster
 begun roster = record roster { left = roster.left - 1 }
 
--- it has failed, and is left to be made
+-- it has failed, and is still to be made
 abbrev pub given_back : Roster → Roster
 given_back roster = record roster { left = min (roster.left + 1) (2 ^ 64 - 1); failed = min (roster.failed + 1) (2 ^ 32 - 1) }
 
--- it has succeeded: one more thread serves, and failures are counted anew
+-- it has succeeded: one more thread serves, and failures are counted from 0 again
 abbrev pub succeeded : Roster → Roster
 succeeded roster = record roster { failed = 0; serving = min (roster.serving + 1) (2 ^ 16 - 1) }
 
--- a further thread is wanted: all that stand are serving, there may be more, and none is wanted yet
+-- one more thread is wanted: all existing ones are serving, there may be more, and none is wanted yet
 pub record WantsThread (roster : Roster) : Type 0 where
   pub quiet : IsFalse roster.wanted
   pub busy : roster.threads ≤ roster.serving

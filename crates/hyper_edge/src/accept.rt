@@ -13,10 +13,10 @@ pub trait Accept<R> {
     /// The stream of a connection.
     type Io: Send + Drop;
 
-    /// Waits for a connection. `None` is a failed accept.
+    /// Waits for a connection. `None` means that the accept failed.
     fn accept(&self, rt: &R) -> Option<Self::Io>;
 
-    /// Ends each accept that waits; it fails then, as each that comes later does.
+    /// Ends each accept that waits; it fails then, and so does each later one.
     fn end(&self, rt: &R);
 }
 
@@ -24,17 +24,17 @@ pub trait Accept<R> {
 #[derive(Drop)]
 pub struct Sockets {
     listener: TcpListener,
-    // The listener's socket once more.
+    // A second handle to the listener's socket.
     same: TcpStream,
     limits: Limits,
 }
 
 impl Sockets {
-    /// Accepts from a listener. The sockets inherit the limits of each read and write from it: so
-    /// that costs no call a connection, and a read or write that has begun may last this much longer
+    /// Accepts from a listener. The sockets inherit the time limit of each read and write from it: so
+    /// setting it costs no call per connection, and a read or write that has begun may last this much longer
     /// than the limit.
     ///
-    /// Refused where a limit is zero, or the system refuses.
+    /// Refused if a limit is zero, or if the system refuses.
     pub fn new(listener: TcpListener, limits: Limits) -> io::Result<Sockets> {
         let same = TcpStream::from(OwnedFd::from(listener.try_clone()?));
         same.set_read_timeout(limits.request)?;
@@ -50,7 +50,7 @@ impl Sockets {
 impl<R: Clock + Wait + Clone + Drop + Send> Accept<R> for Sockets {
     type Io = ClientStream<R>;
 
-    // A limit of reads bounds accepts too: that nobody came in this time is no failure.
+    // A limit on reads bounds accepts too: if nobody came in that time, that isn't a failure.
     fn accept(&self, rt: &R) -> Option<ClientStream<R>> {
         for _ in rt.forever() {
             match self.listener.accept() {

@@ -10,15 +10,15 @@ use std::net::{Shutdown, TcpStream};
 use std::time::{Clock, Duration, Instant};
 use tokio::io::{AsyncRead, AsyncWrite};
 
-/// How long a client may take; `None` is as long as it likes, and so is more than can be added to
-/// the clock. Neither may be zero. What the edge itself takes for a page counts in neither.
+/// How long a client may take. `None` means no limit; so does a limit that would overflow the
+/// clock. Neither may be zero. The time that the edge itself takes for a page counts in neither.
 ///
 /// Our profile.
 #[derive(Clone, Copy)]
 pub struct Limits {
-    /// To send its request, from being accepted.
+    /// To send its request, from the accept on.
     pub request: Option<Duration>,
-    /// To have the whole response, from its first write.
+    /// To receive the whole response, from its first write on.
     pub response: Option<Duration>,
 }
 
@@ -120,7 +120,7 @@ fn in_time(clock: &impl Clock, deadline: Option<Instant>) -> io::Result<()> {
     Ok(())
 }
 
-// When a limit that begins now ends; never, where the clock doesn't reach so far.
+// When a limit that begins now ends; never, if the clock doesn't reach that far.
 fn deadline(clock: &impl Clock, limit: Option<Duration>) -> io::Result<Option<Instant>> {
     match limit {
         Some(limit) => Ok(Instant::now(clock)?.checked_add(limit)),
@@ -157,7 +157,7 @@ impl<R: Clock + Drop> AsyncWrite for ClientStream<R> {
         Poll::Ready(Ok(()))
     }
 
-    // Without it a client that sent more than was read sees a reset behind a whole answer.
+    // Without it a client that sent more than was read sees a reset after a whole answer.
     fn poll_shutdown(&mut self, _cx: &mut Context<'_>) -> Poll<io::Result<()>> {
         Poll::Ready(self.socket.shutdown(Shutdown::Write))
     }

@@ -17,10 +17,10 @@ use std::thread::Threads;
 use std::time::Clock;
 use tokio::io::{AsyncRead, AsyncWrite};
 
-/// Serves one request over one stream, and ends the connection. What goes wrong ends it too: a fault
-/// of the stream, a head that isn't HTTP/1, and want of memory for the response.
+/// Serves one request over one stream, and ends the connection. Anything that goes wrong ends it too: a fault
+/// of the stream, a head that isn't HTTP/1, and running out of memory for the response.
 ///
-/// A client may end its input behind its request, and whole bodies go out to it. What a client sends
+/// A client may end its input after its request, and still gets whole bodies. What a client sends
 /// after its request is never answered.
 ///
 /// Source: RFC 9112, "Persistence" and "Tear-down".
@@ -34,7 +34,7 @@ where
     serve_connection(rt, executor, io, service, None);
 }
 
-/// The same, and then a journal is told of the request, where it is to be told and was answered.
+/// Serves one request as `serve_io` does, then reports it to a journal, if it is to be and was answered.
 pub(crate) fn serve_journaled<R, I, S, Q, J>(
     rt: &R,
     executor: &mut Executor,
@@ -87,7 +87,7 @@ where
         .run_until(rt, http.serve_connection(io, answer));
 }
 
-// What the HTTP library takes for want of memory.
+// What the HTTP library takes for running out of memory.
 fn answered(responded: Result<Responded, NoMemory>) -> Result<Response<EdgeBody>, AllocError> {
     match responded {
         Ok(responded) => Ok(responded.response),

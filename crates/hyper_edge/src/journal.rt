@@ -1,4 +1,4 @@
-//! What a server tells of the requests that it answered.
+//! What a server reports about the requests that it answered.
 
 use crate::responding::Responded;
 use http::Request;
@@ -7,11 +7,11 @@ use std::alloc::{AllocError, Global};
 use std::sync::{Arc, Mutex, Wait};
 use std::time::{Clock, Instant};
 
-/// Who is told of each request that was answered, by the threads that serve.
+/// What each request that was answered is reported to, by the threads that serve.
 ///
 /// Our profile.
 pub trait Journal<R> {
-    /// Whether it is to be told. Where it isn't, no record is made.
+    /// Whether requests are to be reported. If not, no record is made.
     fn is_kept(&self) -> bool;
 
     /// A request was answered, and its connection has ended.
@@ -30,31 +30,31 @@ impl<R> Journal<R> for NoJournal {
     fn served(&self, _rt: &R, _record: &RequestRecord) {}
 }
 
-/// A request, and how it was answered. Where memory lacks for a text, it is empty.
+/// A request, and how it was answered. A text for which there is no memory is empty.
 #[derive(Drop)]
 pub struct RequestRecord {
     /// The method.
     pub method: Vec<u8>,
-    /// The URL of the page; where none was assembled, the target of the request.
+    /// The URL of the page; if none was assembled, the target of the request.
     pub url: Vec<u8>,
     /// The status of the response.
     pub status: u16,
     /// The bytes of its body.
     pub body: u64,
-    /// The answers that the page asked of the source, its own among them; 0 for a refusal.
+    /// The answers that the page asked the source for, its own among them; 0 for a refusal.
     pub answers: u64,
     /// The microseconds from the request's head to the end of the connection.
     pub micros: u64,
 }
 
-/// Where the service of one connection leaves what it answered, for who waits for its end.
+/// Where the service of one connection leaves a record of its answer, for whoever waits for its end.
 #[derive(Drop)]
 pub(crate) struct Note {
     left: Mutex<Option<(Instant, RequestRecord)>>,
 }
 
 impl Note {
-    /// An empty note, of two owners.
+    /// An empty note, with two owners.
     pub(crate) fn pair(alloc: Global) -> Result<(Arc<Note>, Arc<Note>), AllocError> {
         let note = Arc::new(
             alloc,
@@ -66,7 +66,7 @@ impl Note {
         Ok((note, same))
     }
 
-    /// Leaves what a request was answered, whose head was there at `begun`.
+    /// Leaves a record of how a request was answered whose head had come at `begun`.
     pub(crate) fn leave<R: Wait, B>(
         &self,
         rt: &R,
@@ -86,7 +86,7 @@ impl Note {
         *self.left.lock(rt) = Some((begun, record));
     }
 
-    /// Tells a journal what was left, now that the connection has ended.
+    /// Reports the record to a journal, now that the connection has ended.
     pub(crate) fn tell<R: Wait + Clock, J: Journal<R>>(&self, rt: &R, journal: &J) {
         let Some((begun, mut record)) = self.left.lock(rt).take() else {
             return;

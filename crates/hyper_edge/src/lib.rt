@@ -1,4 +1,4 @@
-//! An edge server over HTTP: each connection is served one request, whose page is assembled of what
+//! An edge server over HTTP: each connection is served one request, whose page is assembled from what
 //! a source answers.
 //!
 //! Source: RFC 9110, "HTTP Semantics", and RFC 9112, "HTTP/1.1".

@@ -12,14 +12,14 @@ use std::alloc::Global;
 use std::sync::{Arc, Wait};
 use std::thread::Threads;
 
-/// The response to the head of a request: the page that it asks for, of answers that the source
-/// gives.
+/// The response to the head of a request: the page that it asks for, assembled from answers of the
+/// source.
 ///
-/// `method`, `target` and `fields` are as in `answer_head`. Another method than `GET` gets 405, a
-/// head that asks for no page 400. Where memory or threads lack, the response is 503; a page's fault
-/// is 502.
+/// `method`, `target` and `fields` are as in `answer_head`. Any method other than `GET` gets 405, a
+/// head that doesn't ask for a page 400. Without enough memory or threads, the response is 503; a page's
+/// fault is 502.
 ///
-/// The one refusal is want of memory for the response itself.
+/// The only refusal is running out of memory for the response itself.
 ///
 /// Source: RFC 9110, "Status Codes"; our profile.
 pub fn respond<R, S>(
@@ -41,14 +41,14 @@ where
     Ok(responded.response)
 }
 
-/// A response, and the answers that it rests on: a page's own first; none of a refusal.
+/// A response, and the answers that it rests on: a page's own first; none for a refusal.
 #[derive(Drop)]
 pub(crate) struct Responded {
     pub(crate) response: Response<EdgeBody>,
     pub(crate) log: Vec<Arc<Answer>>,
 }
 
-/// The same, with the answers that the page asked of the source.
+/// The response to the head of a request, with the answers that the page asked the source for.
 pub(crate) fn respond_with_log<R, S>(
     rt: &R,
     alloc: Global,
@@ -72,7 +72,7 @@ where
     }
 }
 
-// What is sent for a page that is asked for: the page, where there is room for it.
+// What is sent for a page that is asked for: the page, if there is room for it.
 fn paged<R, S>(
     rt: &R,
     alloc: Global,
@@ -108,7 +108,7 @@ fn refused(alloc: Global, status: u16) -> Result<Responded, NoMemory>
     })
 }
 
-// The refusal where memory or threads lack for the page.
+// The refusal if memory or threads run out for the page.
 pub(crate) fn no_room(alloc: Global) -> Result<Responded, NoMemory>
     ensures { IfOk result (λ responded. sent responded.response ≡ refusal 503) }
 {

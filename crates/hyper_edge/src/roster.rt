@@ -1,23 +1,23 @@
-//! Every decision about the threads that serve: who may accept, when a further one is started, and
+//! Every decision about the threads that serve: who may accept, when one more is started, and
 //! when the work has ended.
 
 ghost use Rattle.std.specs.Prelude.{◌≡◌, ◌↔◌, ◌-◌, false, true, IsTrue, MatchBool};
 ghost use Rattle.hyper_edge.specs.Roster as spec;
 ghost use Rattle.hyper_edge.specs.declared.roster.ServeEnd.TheVariants as ended;
 
-/// So many failed accepts in succession end a server.
+/// This many failed accepts in succession end a server.
 pub(crate) const MAX_FAILED: u32 = 16;
 
 /// How a server ended.
 #[derive(Clone, Copy, Debug, PartialEq, Eq)]
 pub enum ServeEnd {
-    /// So many connections as it was to serve were accepted, and have ended.
+    /// As many connections as it was to serve were accepted, and have ended.
     Served,
     /// Accepts failed, sixteen in succession.
     AcceptsFailed,
 }
 
-/// What lies under the lock that serving threads share.
+/// The state under the lock that serving threads share.
 #[derive(Drop)]
 pub(crate) struct Roster {
     // How many accepts nobody has begun yet.
@@ -28,12 +28,12 @@ pub(crate) struct Roster {
     serving: u16,
     // The accepts that have failed since the last that succeeded.
     failed: u32,
-    // A further thread is to be started.
+    // One more thread is to be started.
     wanted: bool,
 }
 
 impl Roster {
-    /// So many accepts are to be made, by at most so many threads, of which the first is wanted.
+    /// For this many accepts, by at most this many threads, of which the first is wanted.
     pub(crate) fn new(count: u64, most: u16) -> Roster {
         Roster {
             left: count,
@@ -45,8 +45,8 @@ impl Roster {
         }
     }
 
-    /// Lets a thread accept, where there is an accept left to make. Who waits in an accept has it
-    /// counted already: so nobody waits once all are made.
+    /// Lets a thread accept, if there is an accept left to make. A thread that waits in an accept has already
+    /// counted it: so nobody waits once all are made.
     pub(crate) fn may_accept(&mut self) -> bool
         ensures { MatchBool result
             (spec.IsOpen self.old × (self.new ≡ spec.begun self.old))
@@ -59,7 +59,7 @@ impl Roster {
         true
     }
 
-    /// A thread has accepted, and serves from now on. `true`: so a further one is wanted.
+    /// A thread has accepted, and serves from now on. Returns true if one more is wanted because of it.
     pub(crate) fn accepted(&mut self) -> bool
         ensures { MatchBool result
             (spec.WantsThread (spec.succeeded self.old) × (self.new ≡ record (spec.succeeded self.old) { wanted = true }))
@@ -79,7 +79,7 @@ impl Roster {
         self.serving = self.serving.saturating_sub(1);
     }
 
-    /// An accept has failed: it is left to be made. `true`: it was one too many.
+    /// An accept has failed, and is still to be made. Returns true if it was one failure too many.
     pub(crate) fn accept_failed(&mut self) -> bool
         ensures given_back { self.new ≡ spec.given_back self.old }
         ensures failed { IsTrue result ↔ spec.HasFailed self.new }
@@ -89,7 +89,7 @@ impl Roster {
         self.has_failed()
     }
 
-    /// Counts one more thread, where one is wanted; and only there.
+    /// Counts one more thread, exactly if one is wanted.
     pub(crate) fn take_wanted(&mut self) -> bool
         ensures { MatchBool result
             (IsTrue self.old.wanted × (self.new ≡ spec.counted self.old))
@@ -103,13 +103,13 @@ impl Roster {
         true
     }
 
-    /// A thread couldn't be started. `true`: there is none.
+    /// Called when a thread could not be started. Returns true if no thread is left.
     pub(crate) fn not_started(&mut self) -> bool {
         self.threads = self.threads.saturating_sub(1);
         self.threads == 0
     }
 
-    /// Whether no further accept is begun.
+    /// Whether no more accepts are begun.
     pub(crate) fn is_over(&self) -> bool
         ensures { IsTrue result ↔ ¬ (spec.IsOpen self.now) }
     {

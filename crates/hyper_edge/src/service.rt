@@ -16,19 +16,19 @@ use std::sync::{Arc, Wait};
 use std::thread::Threads;
 use std::time::{Clock, Instant};
 
-/// What answers requests for pages from a source, by a runtime of its own.
+/// What answers requests for pages from a source, with a runtime of its own.
 #[derive(Drop)]
 pub struct EdgeService<S, R> {
     rt: R,
     alloc: Global,
     source: Arc<S>,
     how: Assembling,
-    // The keys of the maps of fields.
+    // The hash keys of the maps of fields.
     keys: RandomState,
 }
 
 impl<S: Drop, R: Drop> EdgeService<S, R> {
-    /// A service over a source. Refused where the system has no keys for the maps of fields.
+    /// A service over a source. Refused if the system has no keys for the maps of fields.
     pub fn new(
         rt: R,
         alloc: Global,
@@ -62,7 +62,7 @@ where
     S: Source<R> + Sync,
     R: Wait + Threads + Clock + Sync,
 {
-    // The response to a request; where there is a note, it is left there too.
+    // The response to a request; if there is a note, a record is left there too.
     pub(crate) fn answer<B>(
         &self,
         request: &Request<B>,
@@ -79,7 +79,7 @@ where
         Ok(responded)
     }
 
-    // The response to a request, on a copy of its head; 503 where there is no room for the copy.
+    // The response to a request, from a copy of its head; 503 if there is no room for the copy.
     fn respond_to<B>(&self, request: &Request<B>) -> Result<Responded, NoMemory> {
         let alloc = self.alloc;
         let Ok(fields) = fields_of(alloc, request.headers()) else {
@@ -101,7 +101,7 @@ where
 }
 
 impl<S: Drop, R: Clone + Drop> EdgeService<S, R> {
-    /// One more owner of the same service, for another connection.
+    /// A second handle to the same service, for another connection.
     pub(crate) fn share(&self) -> Result<EdgeService<S, R>, AllocError> {
         Ok(EdgeService {
             rt: self.rt.clone()?,

@@ -50,7 +50,7 @@ impl SharedRoster {
         self.roster.lock(rt).not_started()
     }
 
-    // Waits until a further thread is wanted, and counts it. `false`: none will be.
+    // Waits until one more thread is wanted, and counts it. `false` means that none ever will be.
     fn wait_for_wanted(&self, rt: &impl Wait) -> bool {
         let mut roster = self.roster.lock(rt);
         for _ in rt.forever() {
@@ -66,18 +66,18 @@ impl SharedRoster {
     }
 }
 
-/// Serves connections from at most `threads` threads, and at least one, until `count` of them were
+/// Serves connections with at most `threads` threads, and at least one, until `count` of them have been
 /// accepted and have ended.
 ///
-/// Each thread accepts for itself, and serves what it accepted; so many connections as there may be
-/// threads are served at once, and no further one is accepted. A further thread is started only once
-/// all that stand are serving; where it can't be started, those that stand go on, and where there is
-/// none the calling thread serves alone. A failed accept is passed over, and is none of `count`;
+/// Each thread accepts for itself, and serves what it accepted; as many connections as there may be
+/// threads are served at once, and no more are accepted. One more thread is started only once
+/// all existing ones are serving; if it can't be started, the existing ones go on, and if there
+/// are none the calling thread serves alone. A failed accept is skipped, and doesn't add to `count`;
 /// sixteen in succession end the server.
 ///
-/// The journal is told of each request that was answered by the thread that served it, once its
-/// connection has ended. What never came to a request, or that the HTTP library answered by itself,
-/// isn't told.
+/// Each request that was answered is reported to the journal by the thread that served it, once its
+/// connection has ended. What never became a request, or what the HTTP library answered on its own,
+/// isn't reported.
 ///
 /// Our profile.
 pub fn serve_accepts<R, A, S, J>(
@@ -135,7 +135,7 @@ where
     }
 }
 
-// What one thread does: it accepts and serves as long as there is an accept to make.
+// What one thread does: it accepts and serves as long as there are accepts left to make.
 fn work<R, A, S, J>(
     rt: &R,
     acceptor: &A,
@@ -168,7 +168,7 @@ where
     unreachable!()
 }
 
-// Serves a connection; where there is no room for that, drops it.
+// Serves a connection; drops it if there is no room for that.
 fn serve<R, I, S, J>(
     rt: &R,
     executor: &mut Option<Executor>,

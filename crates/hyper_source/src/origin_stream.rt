@@ -31,7 +31,7 @@ impl<R: Clock> OriginStream<R> {
         }
     }
 
-    // The time that is left, of which there is some; none where there is no deadline.
+    // The time that is left, which is more than zero; `None` if there is no deadline.
     fn left(&self) -> io::Result<Option<Duration>> {
         let Some(deadline) = self.deadline else {
             return Ok(None);

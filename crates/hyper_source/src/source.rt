@@ -1,4 +1,4 @@
-//! A source that asks origins.
+//! A source that fetches from origins.
 
 ghost use Rattle.std.specs.Prelude.{◌≡◌, IfOk};
 
@@ -24,12 +24,12 @@ use std::time::{Clock, Duration, Instant};
 use std::{io, str};
 use surrogate_headers::own_capability;
 
-/// A source that asks origins over HTTP: for each URL one connection and one `GET`, which names the
+/// A source that fetches from origins over HTTP: for each URL one connection and one `GET`, which names the
 /// host and says what this edge can do, and nothing of the client.
 ///
-/// An answer can't be had, and is a failed one, where no origin has the URL's authority, where the
-/// socket or HTTP fails, a limit of time included, where the body ends before its length or is
-/// longer than `MAX_BODY`, and where no answer may have the status.
+/// An answer can't be fetched, and is a failed one, if no origin has the URL's authority, if the
+/// socket or HTTP fails (also by the time limit), if the body ends before its length or is
+/// longer than `MAX_BODY`, and if no answer may have the status.
 ///
 /// A content type that no answer may have counts as empty; several lines of `Surrogate-Control` count
 /// as one, joined by `, `.
@@ -45,11 +45,11 @@ pub struct HyperSource {
 }
 
 impl HyperSource {
-    /// A source that asks these origins, of an authority the first; one of the authority `*` is asked
-    /// where no other has it. A fetch may take this long from
-    /// connecting to the last byte; without a limit as long as the origin takes.
+    /// A source that fetches from these origins, for an authority from the first that has it; one with the
+    /// authority `*` is asked if no other has the authority. A fetch may take this long from
+    /// connecting to the last byte; without a limit, as long as the origin takes.
     ///
-    /// Refused where the system has no keys for the maps of fields.
+    /// Refused if the system has no keys for the maps of fields.
     pub fn new(
         rt: &impl RandomSource,
         alloc: Global,
@@ -105,7 +105,7 @@ where
     }
 }
 
-// The answer that a response is; a failed one where no answer may be like that.
+// The answer that a response makes; a failed one if no answer may be like that.
 fn answer_of(alloc: Global, url: &PageUrl, head: &Parts, body: Vec<u8>) -> Result<Answer, NoMemory>
     ensures { IfOk result (λ answer. answer.url ≡ url.now) }
 {
@@ -123,7 +123,7 @@ fn answer_of(alloc: Global, url: &PageUrl, head: &Parts, body: Vec<u8>) -> Resul
     }
 }
 
-// A connection to an origin, for a fetch that has to end by the limit, where there is one.
+// A connection to an origin, for a fetch that has to end by the limit, if there is one.
 fn connected<R>(rt: &R, address: SocketAddr, limit: Option<Duration>) -> io::Result<OriginStream<R>>
 where
     R: Net<Stream = TcpStream> + Clock + Clone + Drop,

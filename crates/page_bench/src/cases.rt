@@ -1,4 +1,4 @@
-//! Whole pages: by the page core alone, and from case text to printed form, beside the evaluator of
+//! Whole pages: by the page core alone, and from case text to printed form, compared with the evaluator of
 //! the meaning.
 ghost use Rattle.std.specs.Prelude.{◌≤◌};
 ghost use Rattle.esi_meaning.specs.Meaning.{AreLevels};
@@ -61,7 +61,7 @@ fn many_fragments(rt: &HostRuntime) -> io::Result<()> {
     told(rt, "1,000 plain fragments", site, 4)
 }
 
-// No include.
+// A page without includes.
 fn plain(rt: &HostRuntime) -> io::Result<()> {
     let page = "Plain words of a page. ".repeat(rt.alloc(), PLAIN / 23)?;
     let site = Site {
@@ -153,7 +153,7 @@ fn turn(
     times.copying.time(rt, || copied(rt, text))?
 }
 
-// The page's answer and its fragment's are posted before the page goes on for the first time.
+// The page's answer and its fragment's are posted before the page first advances.
 const BEFORE: [Event; 4] = [Event::Claim, Event::Post(0), Event::Claim, Event::Post(0)];
 
 // From case text to printed form.

@@ -1,4 +1,4 @@
-//! What a page holds, beside its bodies alone: the memory of the program is looked at from outside.
+//! What a page holds in memory, compared with its bodies alone: the program's memory is watched from outside.
 
 use crate::site::{Site, includes, page_url, table};
 use bench_tools::inputs::or_io_error;
@@ -12,7 +12,7 @@ const FRAGMENTS: usize = 200;
 
 const LENGTH: usize = 262_144;
 
-// The answers of a page of so many plain fragments.
+// The answers of a page with this many plain fragments.
 fn answers(alloc: Global) -> io::Result<Table> {
     let page = includes(alloc, FRAGMENTS)?;
     let body = "x".repeat(alloc, LENGTH)?;
@@ -48,7 +48,7 @@ fn held(rt: &HostRuntime, table: &Table) -> io::Result<()> {
     )
 }
 
-// The page to which these events have come.
+// The page after these events.
 fn posted(alloc: Global, url: PageUrl, table: &Table, events: &[Event]) -> io::Result<Page> {
     let request = Request::empty(alloc);
     match run_events(alloc, url, request, table, MAX_AHEAD, 4, events) {
@@ -57,7 +57,7 @@ fn posted(alloc: Global, url: PageUrl, table: &Table, events: &[Event]) -> io::R
     }
 }
 
-// All is claimed and posted.
+// The events by which all is claimed and posted.
 fn events(alloc: Global) -> io::Result<Vec<Event>> {
     let mut events = Vec::new(alloc);
     for _ in 0..=FRAGMENTS {

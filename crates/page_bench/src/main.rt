@@ -1,4 +1,4 @@
-//! Benchmarks of whole pages, beside the sequential meaning's own evaluator. Without an argument the
+//! Benchmarks of whole pages, compared with the sequential meaning's own evaluator. Without an argument the
 //! program lists their names; with names, or with `all`, it runs them. Each prints ratios of times
 //! taken in one run.
 #![tactic(auto)]

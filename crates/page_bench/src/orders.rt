@@ -1,4 +1,4 @@
-//! Orders of posting: what a page costs that goes on after each post, beside one that goes on once.
+//! Orders of posting: the cost of a page that advances after each post, compared with one that advances once.
 
 use crate::site::{Site, includes, ran, table};
 use bench_tools::timing::{Least, ratio};
@@ -10,8 +10,8 @@ use std::io;
 const TURNS: u32 = 15;
 
 /// Prints how long a page takes whose fragments are posted newest first, with an advance after each,
-/// beside one whose fragments are all posted before one advance. What can't be opened ahead comes
-/// one by one in both.
+/// compared with one whose fragments are all posted before a single advance. What can't be opened ahead
+/// comes one by one in both.
 pub fn run(rt: &HostRuntime) -> io::Result<()> {
     told(rt, usize::from(MAX_AHEAD))?;
     told(rt, 1000)

@@ -1,5 +1,5 @@
-//! A cache that threads share: hits by several threads beside those by one, and one fetch for all who
-//! ask at one time.
+//! A cache that threads share: hits by several threads compared with those by one, and one fetch for all who
+//! ask at the same time.
 
 use bench_tools::inputs::{answer, or_input_error, or_io_error, url};
 use bench_tools::timing::{Least, nanoseconds_each, ratio};
@@ -12,14 +12,14 @@ use std::thread::Threads;
 use std::time::Duration;
 use std::{io, thread};
 
-// How many URLs are asked for, and how often a thread asks in a turn.
+// How many URLs are asked for, and how many times a thread asks in a turn.
 const URLS: usize = 1000;
 
 const HITS: usize = 100_000;
 // How many entries a shard may keep: it has all URLs that it is asked for.
 const CAPACITY: usize = 1000;
 
-// How many threads ask for one URL at one time, and how many milliseconds its fetch takes.
+// How many threads ask for one URL at the same time, and how many milliseconds its fetch takes.
 const CROWD: usize = 64;
 
 const FETCH: u64 = 20;
@@ -28,7 +28,7 @@ const TURNS: usize = 15;
 // For how many seconds an answer is fresh.
 const FRESH: u32 = 60;
 
-// A table whose answers come after so many milliseconds.
+// A table whose answers come after this many milliseconds.
 #[derive(Drop)]
 struct Far {
     table: TableSource,
@@ -58,13 +58,13 @@ impl<R> Seconds<R> for Still {
     }
 }
 
-/// Prints how many hits several threads make beside one, and how long a crowd waits for one fetch.
+/// Prints how many hits several threads make compared with one, and how long a crowd waits for one fetch.
 pub fn run<R: Wait + Threads + Clock + Print + Sync>(rt: &R, alloc: Global) -> io::Result<()> {
     hits(rt, alloc)?;
     crowds(rt, alloc)
 }
 
-// So many URLs.
+// This many URLs.
 fn urls(alloc: Global, count: usize) -> io::Result<Vec<PageUrl>> {
     let mut urls = Vec::new(alloc);
     for i in 0..count {
@@ -74,7 +74,7 @@ fn urls(alloc: Global, count: usize) -> io::Result<Vec<PageUrl>> {
     Ok(urls)
 }
 
-// A cache over the answers of these URLs, which come after so many milliseconds.
+// A cache over the answers of these URLs, which come after this many milliseconds.
 fn cache(alloc: Global, urls: &[PageUrl], milliseconds: u64) -> io::Result<Cache<Far, Still>> {
     let table = TableSource::new(table(alloc, urls)?);
     let far = Far {
@@ -137,7 +137,7 @@ fn beside_one<R: Print>(rt: &R, threads: u32, took: Duration, one: Duration) -> 
     )
 }
 
-// The quickest of several turns in which so many threads ask at one time.
+// The quickest of several turns in which this many threads ask at the same time.
 fn hits_by<R, S>(
     rt: &R,
     alloc: Global,
@@ -176,7 +176,7 @@ where
     Ok(())
 }
 
-// Asks for one URL after the other, each thread from a place of its own. Tells how many came.
+// Asks for one URL after the other, each thread from a place of its own. Returns how many came.
 fn ask_over_and_over<R, S: Source<R>>(
     rt: &R,
     alloc: Global,

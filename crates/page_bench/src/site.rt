@@ -26,7 +26,7 @@ pub fn page_url(alloc: Global) -> io::Result<PageUrl> {
     url(alloc, b"http://a.test/p".as_slice())
 }
 
-/// So many includes, each of a fragment of its own.
+/// This many includes, each of a fragment of its own.
 pub fn includes(alloc: Global, count: usize) -> Result<String, AllocError> {
     let mut text = String::new(alloc);
     for i in 0..count {
@@ -57,7 +57,7 @@ fn insert_fragment(alloc: Global, i: usize, site: Site<'_>, table: &mut Table) -
     insert(alloc, name.as_str(), site.body, site.is_processed, table)
 }
 
-// One answer, which is processed where that is said.
+// One answer, which is processed if that is asked for.
 fn insert(alloc: Global, name: &str, body: &str, esi: bool, table: &mut Table) -> io::Result<()> {
     let control = Control {
         esi,
@@ -69,7 +69,7 @@ fn insert(alloc: Global, name: &str, body: &str, esi: bool, table: &mut Table) -
     or_input_error(table.insert(answer(alloc, url, control, body)?))
 }
 
-/// The same as a case text.
+/// The site as a case text.
 pub fn case_text(alloc: Global, site: Site<'_>) -> Result<String, AllocError> {
     let mut text = String::new(alloc);
     text.push_str("page http://a.test/p\n")?;

@@ -1,5 +1,5 @@
-//! Pages that several threads assemble: beside the time that their fetches need, and beside the page
-//! core alone where nothing has to be waited for.
+//! Pages that several threads assemble: compared with the time that their fetches need, and with the page
+//! core alone if nothing has to be waited for.
 
 use crate::site::{Site, includes, page_url, ran, table};
 use bench_tools::inputs::or_input_error;
@@ -22,7 +22,7 @@ const TURNS: u32 = 15;
 // How many pages whose answers are ready are assembled in a turn.
 const PAGES: u32 = 200;
 
-// What has the page at once, and each fragment after a while.
+// A source that has the page at once, and each fragment after a while.
 #[derive(Drop)]
 struct Slow {
     page: PageUrl,
@@ -50,7 +50,7 @@ impl<R: Clock> Source<R> for Slow {
     }
 }
 
-/// Prints how long pages take by so many workers.
+/// Prints how long pages take with this many workers.
 pub fn run<R: Wait + Threads + Clock + Print + Sync>(rt: &R, alloc: Global) -> io::Result<()> {
     let page = includes(alloc, FRAGMENTS)?;
     let site = Site {
@@ -63,7 +63,7 @@ pub fn run<R: Wait + Threads + Clock + Print + Sync>(rt: &R, alloc: Global) -> i
     ready_told(rt, alloc, site)
 }
 
-// Each fetch takes a while.
+// Times a page each of whose fetches takes a while.
 fn slow_told<R: Wait + Threads + Clock + Print + Sync>(
     rt: &R,
     alloc: Global,
@@ -78,7 +78,7 @@ fn slow_told<R: Wait + Threads + Clock + Print + Sync>(
     rounds_told(rt, alloc, &slow, 16, 2)
 }
 
-// Prints the time beside that of the rounds in which so many workers fetch.
+// Prints the time compared with that of the rounds in which this many workers fetch.
 fn rounds_told<R: Wait + Threads + Clock + Print + Sync>(
     rt: &R,
     alloc: Global,
@@ -110,7 +110,7 @@ fn assembled<R: Wait + Threads + Sync, S: Source<R> + Sync>(
     or_input_error(assemble(rt, alloc, source, url, request, MAX_AHEAD, workers, 4))
 }
 
-// Each answer is ready.
+// Times pages all of whose answers are ready.
 fn ready_told<R: Wait + Threads + Clock + Print + Sync>(
     rt: &R,
     alloc: Global,

@@ -17,18 +17,18 @@ abbrev pub pieces_of : Outcome → List (List ℕ)
 pieces_of (Page status content_type pieces) = pieces
 pieces_of (Fault fault) = []
 
--- what clauses see of what a body keeps
+-- what clauses see of a body's frames
 abbrev pub frames_in : Frames → List (List ℕ)
 frames_in held.Nothing = []
 frames_in (held.Text text) = text ∷ []
 frames_in (held.Page outcome) = pieces_of (arc_value outcome)
 
--- the frame is the first of these, as data, and the others are left
+-- the frame is the first of these, as data, and the others remain
 abbrev pub TakesFrame : List (List ℕ) → Frame (List ℕ) → List (List ℕ) → Type 0
 TakesFrame frames frame rest = (bytes : List ℕ) × (frames ≡ bytes ∷ rest) × (frame ≡ data_frame bytes)
 
--- what comes of a body with these frames left: they come in order, each once, and then the end;
--- want of memory may be told in between, and leaves them as they are
+-- what comes from a body with these frames left: they come in order, each once, and then the end;
+-- out of memory may be reported in between, and leaves them as they are
 abbrev pub Gives : List (List ℕ) → Runs (Result (Frame (List ℕ)) AllocError)
 Gives frames [] None = frames ≡ []
 Gives frames [] (Some (Err e)) = ⊤
@@ -36,7 +36,7 @@ Gives frames [] (Some (Ok frame)) = (rest : List (List ℕ)) × TakesFrame frame
 Gives frames (Err e ∷ answers) last = Gives frames answers last
 Gives frames (Ok frame ∷ answers) last = (rest : List (List ℕ)) × TakesFrame frames frame rest × Gives rest answers last
 
--- what one call does to the frames that are left, of which it never has to wait for one
+-- what one call does to the frames that are left; it never has to wait for one
 abbrev pub Steps : List (List ℕ) → Poll (Option (Result (Frame (List ℕ)) AllocError)) → List (List ℕ) → Type 0
 Steps frames (Ready None) left = (frames ≡ []) × (left ≡ [])
 Steps frames (Ready (Some (Err e))) left = left ≡ frames

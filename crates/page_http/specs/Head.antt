@@ -1,4 +1,4 @@
--- What the head of a request asks for: a page's URL, and what templates may ask of the request.
+-- What the head of a request asks for: a page's URL, and what templates may ask for of the request.
 use Rattle.std.specs.Prelude.{◌≡◌, IsTrue, ℕ, Bool, ◌&&◌, ◌||◌, ◌==◌, nat_lt, bytes_eq, List, [], ◌∷◌, ◌++◌, map, filter, length, codes, None, Some, if◌then◌else◌}
 use Rattle.std.specs.Str.{byte}
 use Rattle.std.specs.List.{join_by, list_all, list_any}
@@ -12,20 +12,20 @@ use Rattle.page_http.specs.declared.field.Field.{Field}
 abbrev pub served : List ℕ
 served = codes "GET"
 
--- the values of the fields of a name, in order
+-- the values of the fields with a name, in order
 abbrev pub values_of : List ℕ → List Field → List (List ℕ)
 values_of name fields = map (λ field. field.value.now) (filter (λ field. bytes_eq field.name.now name) fields)
 
--- the first value, where there is one
+-- the first value, if there is one
 abbrev pub first_or_empty : List (List ℕ) → List ℕ
 first_or_empty [] = []
 first_or_empty (value ∷ rest) = value
 
--- the value of a field of which the first line counts; empty for an absent one
+-- the value of a field whose first line counts; empty for an absent one
 abbrev pub first_of : List ℕ → List Field → List ℕ
 first_of name fields = first_or_empty (values_of name fields)
 
--- the lines of `Cookie` as one: pairs are set apart by `; ` (RFC 6265, section 4.2.1)
+-- the lines of `Cookie` as one: pairs are separated by `; ` (RFC 6265, section 4.2.1)
 abbrev pub cookies_of : List Field → List ℕ
 cookies_of fields = join_by (λ line. line) (codes "; ") (values_of (codes "cookie") fields)
 
@@ -37,13 +37,13 @@ is_host_byte b = is_ascii_alphanumeric b || list_any (λ mark. mark == b) (codes
 unfoldable pub is_host : List ℕ → Bool
 is_host text = nat_lt 0 (length text) && list_all is_host_byte text
 
--- the target as a whole URL: one that begins with `/` stands behind the scheme and the host,
--- any other stands for itself (RFC 9112, sections 3.2 and 3.3)
+-- the target as a whole URL: one that begins with `/` comes after the scheme and the host,
+-- any other denotes itself (RFC 9112, sections 3.2 and 3.3)
 abbrev pub absolute_form : List ℕ → List ℕ → List ℕ
 absolute_form host [] = []
 absolute_form host (first ∷ rest) = if first == byte "/" then codes "http://" ++ host ++ first ∷ rest else first ∷ rest
 
--- what templates may ask of a request
+-- what templates may ask for of a request
 abbrev pub said : List ℕ → List ℕ → List Field → Request
 said host target fields = record {
   host = host;
@@ -54,7 +54,7 @@ said host target fields = record {
   query = query_of target;
 }
 
--- the one `Host` is this one, and it has a host's bytes alone (RFC 9112, section 3.2)
+-- the one `Host` is this one, and it has only bytes of a host (RFC 9112, section 3.2)
 pub record NamesHost (fields : List Field) (host : List ℕ) : Type 0 where
   pub one : values_of (codes "host") fields ≡ host ∷ []
   pub legal : IsTrue (is_host host)

@@ -12,30 +12,30 @@ use Rattle.page_http.specs.Frames.{Gives}
 use Rattle.page_http.specs.Head.{Asks}
 use Rattle.page_http.specs.Sent.{Sent, IsSendable, Tells}
 
--- a head asks for one URL at most, and says one thing at most
+-- a head asks for at most one URL, and says at most one thing
 abbrev pub AsksOnce : Type 0
 AsksOnce =
     (target : List ℕ) (fields : List Field) (url other : List ℕ) (request second : Request)
     → Asks target fields url request → Asks target fields other second
     → (url ≡ other) × (request ≡ second)
 
--- an outcome is told in one way
+-- an outcome has at most one response
 abbrev pub TellsOneThing : Type 0
 TellsOneThing = (outcome : Outcome) (one other : Sent) → Tells outcome one → Tells outcome other → one ≡ other
 
--- HTTP carries the status and the type of every answer that the edge takes in
+-- HTTP carries the status and the type of every answer that the edge accepts
 abbrev pub CarriesAnswers : Type 0
 CarriesAnswers =
     (status : ℕ) (content_type body : List ℕ) → IsAcceptable status content_type body
     → IsSendable status content_type
 
--- the bytes that came, whatever want of memory was told in between
+-- the bytes that came, whatever lack of memory was reported in between
 abbrev pub bytes_of : List (Result (Frame (List ℕ)) AllocError) → List ℕ
 bytes_of [] = []
 bytes_of (Ok frame ∷ answers) = bytes_in frame.kind ++ bytes_of answers
 bytes_of (Err e ∷ answers) = bytes_of answers
 
--- the bytes that came of a body are the first of its frames', and at its end all of them
+-- the bytes that came from a body are the first of its frames', and at its end all of them
 abbrev pub GivesItsBytes : Type 0
 GivesItsBytes =
     (frames : List (List ℕ)) (answers : List (Result (Frame (List ℕ)) AllocError)) (last : Option (Result (Frame (List ℕ)) AllocError))

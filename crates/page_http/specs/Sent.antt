@@ -1,4 +1,4 @@
--- What a client is sent.
+-- What is sent to a client.
 use Rattle.std.specs.Prelude.{◌≡◌, ◌⊎◌, ℕ, ◌≤◌, Bool, ◌||◌, ◌==◌, List, [], ◌∷◌, codes, if◌then◌else◌}
 use Rattle.http.specs.declared.response.Response.{Response}
 use Rattle.http.specs.Response.{head_of, body_of}
@@ -58,13 +58,13 @@ page status content_type pieces = record {
 }
 
 -- HTTP carries the status as a final one, and the type as a field's value (RFC 9110, sections 15
--- and 5.5): so it is of each answer that the edge takes in
+-- and 5.5): so it does for each answer that the edge accepts
 pub record IsSendable (status : ℕ) (content_type : List ℕ) : Type 0 where
   pub status_from : 200 ≤ status
   pub status_to : status ≤ 599
   pub type_value : IsFieldValue content_type
 
--- a response tells of an outcome: of a page as it is, and of a fault that there is no page. What
+-- a response reports an outcome: a page as it is, and a fault as there being no page. What
 -- HTTP can't carry counts as a fault
 abbrev pub Tells : Outcome → Sent → Type 0
 Tells (Page status content_type pieces) response =

@@ -1,4 +1,4 @@
-//! The bodies of responses. Clauses see a body as the list of the frames that are left.
+//! The bodies of responses. Clauses see a body as the list of the remaining frames.
 ghost use Rattle.std.specs.Prelude.{◌≡◌, ◌<◌, ◌↔◌, [], ◌∷◌, length, slice_get, IsTrue, IsSome, IfOk, IfSome, OnErr, OnSome, MatchOption, None, Some};
 ghost use Rattle.std.specs.Arc.{arc_value};
 ghost use Rattle.edge_types.specs.Pieces.{joined};
@@ -16,17 +16,17 @@ use std::alloc::AllocError;
 use std::marker::Model;
 use std::sync::Arc;
 
-/// The body of a response: a frame for each piece of a page, or one text of the edge's own.
+/// The body of a response: a frame for each piece of a page, or a single text of the edge's own.
 ///
-/// A frame is one more owner of its piece's bytes, made when it is asked for. Where that is
-/// refused, the body tells want of memory and is left as it was; so the frames that came are the
+/// A frame is a second handle to its piece's bytes, made when it is asked for. If that
+/// fails, the body reports out of memory and is left as it was; so the frames that came are the
 /// first of the page's.
 #[derive(Drop)]
 pub struct EdgeBody {
     frames: Frames,
-    // The frames that came.
+    // How many frames came.
     next: usize,
-    // The bytes of those that are left.
+    // How many bytes the remaining frames have.
     left: usize,
 }
 
@@ -43,7 +43,7 @@ impl Model for EdgeBody {
 }
 
 impl EdgeBody {
-    /// A body without a frame.
+    /// A body without frames.
     pub(crate) fn nothing() -> EdgeBody
         ensures { result ≡ [] }
     {
@@ -79,7 +79,7 @@ impl EdgeBody {
 }
 
 impl EdgeBody {
-    // The next frame; none at the end.
+    // The next frame; `None` at the end.
     fn next_frame(&mut self) -> Result<Option<Bytes>, AllocError>
         ensures frame { IfOk result (λ frame. MatchOption frame
             ((self.old ≡ []) × (self.new ≡ [])) (λ bytes. self.old ≡ bytes ∷ self.new)) }
@@ -138,7 +138,7 @@ impl Body for EdgeBody {
     }
 }
 
-// What a body keeps.
+// What a body is made of.
 #[derive(Drop)]
 enum Frames {
     Nothing,
@@ -158,7 +158,7 @@ impl Frames {
         }
     }
 
-    // The frame of this number, from 0; none past the last.
+    // The frame with this number, from 0; `None` past the last.
     fn get(&self, i: usize) -> Result<Option<Bytes>, AllocError>
         ensures frame { IfOk result (λ frame. frame ≡ slice_get (frames_in self.now) i) }
         ensures below { IfOk result (λ frame. IsSome frame → i < usize.MAX) }
@@ -194,7 +194,7 @@ fn len_of(outcome: &Outcome) -> usize
     }
 }
 
-// One more owner of a piece of the outcome's page.
+// A second handle to a piece of the outcome's page.
 fn frame_of(outcome: &Outcome, i: usize) -> Result<Option<Bytes>, AllocError>
     ensures { IfOk result (λ frame. frame ≡ slice_get (pieces_of outcome.now) i) }
 {

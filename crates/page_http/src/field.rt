@@ -7,11 +7,11 @@ ghost use Rattle.page_http.specs.Head.{values_of, first_of};
 pub struct Field<'a> {
     /// Its name, in lower case.
     pub name: &'a [u8],
-    /// Its value, without the white space round it.
+    /// Its value, without the white space around it.
     pub value: &'a [u8],
 }
 
-/// The first value under a name, and the lines after it. Takes no memory.
+/// The first value with a name, and the lines after it. Takes no memory.
 pub(crate) fn next_value<'a, 'b>(
     name: &[u8],
     fields: &'b [Field<'a>],
@@ -28,7 +28,7 @@ pub(crate) fn next_value<'a, 'b>(
     None
 }
 
-/// The first value under a name, or none. Takes no memory.
+/// The first value with a name, or nothing. Takes no memory.
 pub(crate) fn first_value<'a>(name: &[u8], fields: &[Field<'a>]) -> &'a [u8]
     ensures { result.now ≡ first_of name.now fields.now }
 {

@@ -11,17 +11,17 @@ use edge_types::{NoMemory, Octets, PageUrl, Request, query_of};
 use std::alloc::Global;
 use thiserror::Error;
 
-/// Why a head asks for no page.
+/// Why a head doesn't ask for a page.
 #[derive(Clone, Copy, Debug, Drop, PartialEq, Eq, Error)]
 pub enum HeadFault {
-    /// The method is another than `GET`.
+    /// The method isn't `GET`.
     #[error("the method isn't GET: ask for pages by GET")]
     Method,
-    /// There isn't exactly one `Host`, or it isn't a host's, or the target names no URL that is
-    /// asked.
+    /// There isn't exactly one `Host`, or it isn't a host's, or the target doesn't name a URL that the edge
+    /// fetches.
     #[error("the request names no page: send one Host, and a target that names an http URL")]
     Unreadable,
-    /// A growth was refused.
+    /// An allocation failed.
     #[error("out of memory: try again with more of it")]
     NoMemory,
 }
@@ -35,16 +35,16 @@ impl From<NoMemory> for HeadFault {
 }
 
 /// Reads the head of a request: the URL of the page that it asks for, and what the page's templates
-/// may ask of the request.
+/// may ask for of the request.
 ///
 /// `target` is the request's target as it was sent, `fields` its lines in order. A target that
 /// begins with `/` is a path at the host, any other is a whole URL. Several `Cookie` lines count as
 /// one, joined by `; `; of `Referer`, `User-Agent` and `Accept-Language` the first line counts. The
 /// query is the target's.
 ///
-/// Refused in this order: another method than `GET` (`Method`); not exactly one `Host`, one that is
-/// empty or has a byte other than letters, digits and `.-_:[]`, or a target that stands for no URL
-/// that the edge asks (`Unreadable`); a growth (`NoMemory`), which comes behind the test of method
+/// Refused in this order: a method other than `GET` (`Method`); not exactly one `Host`, one that is
+/// empty or has a byte other than letters, digits and `.-_:[]`, or a target that doesn't denote a URL
+/// that the edge fetches (`Unreadable`); out of memory (`NoMemory`), which comes after the test of method
 /// and `Host`.
 ///
 /// Source: RFC 9112, "Request Line" and "Reconstructing the Target URI"; RFC 9110, "Host and
@@ -82,7 +82,7 @@ fn is_served(method: &[u8]) -> bool
     method == b"GET".as_slice()
 }
 
-// What a request says, once its host is known.
+// The fields of a request, once its host is known.
 fn request_of(
     alloc: Global,
     host: &[u8],
@@ -101,7 +101,7 @@ fn request_of(
     })
 }
 
-// The value of the one `Host`.
+// The value of the `Host` field, if there is exactly one.
 fn only_host<'a>(fields: &[Field<'a>]) -> Option<&'a [u8]>
     ensures some { IfSome result (λ host. spec.NamesHost fields.now host.now) }
     ensures none { IsNone result → (host : List ℕ) → ¬ (spec.NamesHost fields.now host) }
@@ -121,7 +121,7 @@ fn is_host(text: &[u8]) -> bool
     !text.is_empty() && text.iter().all(|byte| is_host_byte(*byte))
 }
 
-// The bytes of a host beside letters and digits.
+// The bytes of a host other than letters and digits.
 const HOST_MARKS: &[u8] = b".-_:[]";
 
 #[tactic(auto, unfolding(crate::specs::Head::is_host_byte))]

@@ -1,5 +1,5 @@
-//! What a page's request asks, and what comes of it, over HTTP: the heads of requests are read, and
-//! outcomes are told as responses. Nothing here waits, and no socket is seen.
+//! What a page's request asks for, and what is sent for it over HTTP: the heads of requests are read, and
+//! outcomes become responses. Nothing here waits, and no socket is seen.
 //!
 //! Source: RFC 9110, "HTTP Semantics", and RFC 9112, "HTTP/1.1".
 #![tactic(auto)]

@@ -1,4 +1,4 @@
-//! What is sent for an outcome, and for a request that asks for no page.
+//! What is sent for an outcome, and for a request that doesn't ask for a page.
 ghost use Rattle.std.specs.Prelude.{◌≡◌, ◌∷◌, [], IfOk, MatchOption, codes, ◌≤◌};
 ghost use Rattle.std.specs.Arc.{arc_value};
 ghost use Rattle.page_http.specs.Sent as spec;
@@ -11,13 +11,13 @@ use http::{Response, StatusCode};
 use std::alloc::Global;
 use std::sync::Arc;
 
-/// Tells an outcome as a response.
+/// Makes the response for an outcome.
 ///
-/// A page has its status, its content type where that isn't empty, and a frame for each piece of
-/// its body; under 204 and 304 none. A fault is told as 502 with a text of the edge's own, and so
-/// is a page whose status isn't 200 to 599 or whose content type is no field's value.
+/// A page has its status, its content type if that isn't empty, and a frame for each piece of
+/// its body; with 204 and 304 none. A fault is sent as 502 with a text of the edge's own, and so
+/// is a page whose status isn't 200 to 599 or whose content type isn't valid in a field.
 ///
-/// The one refusal is want of memory; the outcome is dropped then.
+/// The only refusal is out of memory; the outcome is dropped then.
 ///
 /// Source: RFC 9110, "Status Codes" and "Field Values"; our profile.
 pub fn response_of(alloc: Global, outcome: Arc<Outcome>) -> Result<Response<EdgeBody>, NoMemory>
@@ -43,10 +43,10 @@ pub fn response_of(alloc: Global, outcome: Arc<Outcome>) -> Result<Response<Edge
 
 const UNASSEMBLED: &str = "The page could not be assembled.\n";
 
-/// Tells a refusal as a response: 400 for a head that can't be read, 405 for a method that isn't
-/// served, with the one that is, and 503 for want of room.
+/// Makes the response for a refusal: 400 for a head that can't be read, 405 for a method that isn't
+/// served, with the one that is, and 503 for a lack of room.
 ///
-/// The one refusal of the call itself is want of memory.
+/// The only refusal of the call itself is out of memory.
 ///
 /// Source: RFC 9110, "400 Bad Request", "405 Method Not Allowed", "503 Service Unavailable"; the
 /// texts are our profile.
@@ -106,7 +106,7 @@ fn own_head(alloc: Global, status: StatusCode) -> Result<Parts, NoMemory>
     Ok(head)
 }
 
-// The head of a page's response; none where HTTP can't carry it.
+// The head of a page's response; `None` if HTTP can't carry it.
 fn page_head(alloc: Global, status: u16, content_type: &[u8]) -> Result<Option<Parts>, NoMemory>
     ensures { IfOk result (λ head. MatchOption head (¬ (spec.IsSendable status content_type.now))
         (λ head. spec.IsSendable status content_type.now × (head.status ≡ status)

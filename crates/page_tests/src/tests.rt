@@ -13,7 +13,7 @@ fn url_of(rt: &impl Abort, alloc: Global, text: &str) -> Result<PageUrl, NoMemor
     Ok(PageUrl::parse(alloc, text.as_bytes())?.expect(rt, "a URL"))
 }
 
-// The answer of a URL, whose body is processed where `esi` says so; none where that is no status.
+// The answer of a URL, whose body is processed if `esi` says so; `None` if the status isn't one.
 fn answer(
     alloc: Global,
     url: PageUrl,

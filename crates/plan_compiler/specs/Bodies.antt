@@ -14,7 +14,7 @@ pub record Body : Type 0 where
   pub name : List ℕ
   pub steps : List Step
 
--- the body of an entry of a plan of these steps
+-- the body of an entry of a plan with these steps
 abbrev pub body_in : List Step → Inline → Body
 body_in steps i = record { name = i.name; steps = take (i.end - i.first) (drop i.first steps) }
 
@@ -28,7 +28,7 @@ has_otherwise tree.NoBranch = false
 has_otherwise (tree.When test content rest) = has_otherwise rest
 has_otherwise (tree.Otherwise content rest) = true
 
--- no choose has two otherwises: so it is with each template's tree
+-- no choose has two otherwises: this is true of each template's tree
 abbrev mutual
   pub IsSingleIn : Element → Type 0
   IsSingleIn (tree.Text text) = Unit {0}
@@ -49,7 +49,7 @@ abbrev mutual
   AreSingle (tree.When test content rest) = IsSingle content × AreSingle rest
   AreSingle (tree.Otherwise content rest) = (has_otherwise rest ≡ false) × IsSingle content × AreSingle rest
 
--- the entry of a place in so many steps
+-- the entry of a place in this many steps
 abbrev pub inline_at : ℕ → Place → Inline
 inline_at total p = record { name = p.name; first = total - p.from; end = total - p.behind }
 
@@ -57,7 +57,7 @@ inline_at total p = record { name = p.name; first = total - p.from; end = total 
 abbrev pub place_before : List ℕ → List Step → List Step → Place
 place_before name body later = record { name = name; from = length (body ++ later); behind = length later }
 
--- The places of a tree's inlines in text order, those that stand in another after it. `later` are the steps behind the
+-- The places of a tree's inlines in text order, those inside another after it. `later` are the steps after the
 -- tree's own.
 abbrev mutual
   pub places_in : Element → List Step → List Place

@@ -1,4 +1,4 @@
--- What a plan keeps to.
+-- What is true of every plan.
 use Rattle.std.specs.Prelude.{◌≡◌, ℕ, ◌+◌, ◌-◌, ◌≤◌, List, [], length, take, drop, slice_get, Ok, Some}
 use Rattle.std.specs.Option.{option_map}
 use Rattle.edge_types.specs.declared.request.Request.{Request}
@@ -17,11 +17,11 @@ use Rattle.plan_compiler.specs.Plan.{Step, Text, Values, Test, Jump, Try, EndTry
 use Rattle.plan_compiler.specs.Bodies.{IsSingle}
 use Rattle.plan_compiler.specs.Code.{code_of}
 
--- The steps of a tree try the legs of its meaning and come to its text, whatever a leg comes to.
+-- The steps of a tree try the legs of its meaning and output its text, whatever a leg results in.
 abbrev pub PlanMeansTheTree : Type 0
 PlanMeansTheTree = (request : Request) (leg : List Part → Run) (tree : Elements) → frame_run request leg (code_of tree) ≡ elements_run request leg tree
 
--- The walk over the steps of a tree finds the sources that the tree has fetched ahead, in their order.
+-- The walk over the steps of a tree finds the sources that are fetched ahead for the tree, in their order.
 abbrev pub PlanFetchesAhead : Type 0
 PlanFetchesAhead = (request : Request) (tree : Elements) → plan_sources request (code_of tree) ≡ ahead_sources request tree
 
@@ -44,14 +44,14 @@ skip_of Fail = 0
 abbrev pub JumpsStay : Type 0
 JumpsStay = (tree : Elements) (i : ℕ) (step : Step) → slice_get (code_of tree) i ≡ Some step → i + 1 + skip_of step ≤ length (code_of tree)
 
--- One frame takes at most as many steps as its plan is long: where that many are allowed it is never stopped, whatever
--- stopping would come to.
+-- One frame takes at most as many steps as its plan is long: if that many are allowed it is never stopped, whatever
+-- stopping would result in.
 abbrev pub FramesAreShort : Type 0
 FramesAreShort =
     (stopped : Run) (request : Request) (leg : List Part → Run) (steps : List Step)
     → flow_within stopped (length steps) request leg 0 steps [] [] ≡ frame_run request leg steps
 
--- The first entry, in text order, whose name stands for a URL has the steps of the inline that counts for the URL.
+-- The first entry, in text order, whose name denotes a URL has the steps of the inline that counts for the URL.
 abbrev pub FirstEntryCounts : Type 0
 FirstEntryCounts =
     (template url : List ℕ) (tree : Elements) → IsSingle tree

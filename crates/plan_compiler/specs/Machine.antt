@@ -7,7 +7,7 @@ use Rattle.esi_expr.specs.Truth.{holds}
 use Rattle.esi_meaning.specs.Run.{Run, gives, followed}
 use Rattle.plan_compiler.specs.Plan.{Step, Text, Values, Test, Jump, Try, EndTry, Leg, Fail}
 
--- where a failure goes on: so many steps from here, with the output cut back to the mark
+-- where a failure goes on: this many steps from here, with the output cut back to the mark
 pub record Handler : Type 0 where
   pub distance : ℕ
   pub mark : List ℕ
@@ -33,7 +33,7 @@ abbrev pub failing : Next → List Handler → Run
 failing next [] = gives None
 failing next (h ∷ hs) = next h.distance hs h.mark
 
--- goes on behind a leg, with its text behind the output
+-- goes on after a leg, with its text after the output
 abbrev pub resumed : Next → List Handler → List ℕ → Option (List ℕ) → Run
 resumed next hs out None = failing next hs
 resumed next hs out (Some text) = next 0 hs (out ++ text)
@@ -49,7 +49,7 @@ act r leg (EndTry skip) next hs out = next skip (outer hs) out
 act r leg (Leg source) next hs out = followed (leg source) (resumed next hs out)
 act r leg Fail next hs out = failing next hs
 
--- the steps that are left, behind those to skip: their legs in order, and the whole output at their end
+-- the steps that are left, after those to skip: their legs in order, and the whole output at their end
 abbrev pub flow : Request → (List Part → Run) → ℕ → List Step → List Handler → List ℕ → Run
 flow r leg n [] hs out = gives (Some out)
 flow r leg zero (s ∷ ss) hs out = act r leg s (λ m. flow r leg m ss) (nearer hs) out
@@ -59,7 +59,7 @@ flow r leg (suc n) (s ∷ ss) hs out = flow r leg n ss (nearer hs) out
 abbrev pub frame_run : Request → (List Part → Run) → List Step → Run
 frame_run r leg steps = flow r leg 0 steps [] []
 
--- the same where a frame has no more than k steps to take: `stopped` is what it comes to where these don't suffice
+-- a frame that may take at most k steps: `stopped` is its result if these don't suffice
 abbrev pub flow_within : Run → ℕ → Request → (List Part → Run) → ℕ → List Step → List Handler → List ℕ → Run
 flow_within stopped k r leg n [] hs out = gives (Some out)
 flow_within stopped k r leg (suc n) (s ∷ ss) hs out = flow_within stopped k r leg n ss (nearer hs) out

@@ -1,4 +1,4 @@
--- The inlines of a plan by the URLs that their names stand for.
+-- The inlines of a plan by the URLs that their names denote.
 use Rattle.std.specs.Prelude.{◌≡◌, ℕ, List, [], find, map, slice_get, Option, Some, None, Result, Ok, Err, if◌then◌else◌}
 use Rattle.std.specs.BTreeMap.{get}
 use Rattle.std.specs.Cmp.Lexicographic.{slice_cmp}
@@ -20,7 +20,7 @@ entry_among u w is = find (λ (i : Inline). names u w i.name) is
 unfoldable pub entry_for : List ℕ → List ℕ → Elements → Option Inline
 entry_for u w t = entry_among u w (entries t)
 
--- the URL that the name of an entry stands for, in a template of the URL u
+-- the URL that the name of an entry denotes, in a template of the URL u
 abbrev pub url_of : List ℕ → Inline → Option (List ℕ)
 url_of u i = resolve u i.name
 
@@ -28,7 +28,7 @@ abbrev pub url_found : List ℕ → Option Inline → Option (List ℕ)
 url_found u None = None
 url_found u (Some i) = url_of u i
 
--- the entry of a number
+-- the entry with a number
 abbrev pub entry_found : List Inline → Option ℕ → Option Inline
 entry_found is None = None
 entry_found is (Some i) = slice_get is i
@@ -37,7 +37,7 @@ abbrev pub entries_read : Result Elements ℕ → List Inline
 entries_read (Ok t) = entries t
 entries_read (Err at) = []
 
--- the entries of an answer's plan; none where it isn't processed, or no template
+-- the entries of an answer's plan; none if it isn't processed, or isn't a template
 abbrev pub entries_of : Answered → List Inline
 entries_of a = if processed a.reply then entries_read (tree_of (body_of a.reply)) else []
 
@@ -45,7 +45,7 @@ entries_of a = if processed a.reply then entries_read (tree_of (body_of a.reply)
 abbrev pub entry_of : Answered → List ℕ → Option Inline
 entry_of a w = entry_among a.url w (entries_of a)
 
--- the URL of the entry of this number of an answer's plan
+-- the URL of the entry with this number in an answer's plan
 abbrev pub url_at : Answered → ℕ → Option (List ℕ)
 url_at a i = url_found a.url (slice_get (entries_of a) i)
 
@@ -54,7 +54,7 @@ abbrev pub url_in : Option (Option (List ℕ)) → Option (List ℕ)
 url_in None = None
 url_in (Some url) = url
 
--- the number that a map of URLs has for one
+-- the number that a map of URLs has for a URL
 abbrev pub number_of : InlineUrls → List ℕ → Option ℕ
 number_of urls w = get (slice_cmp nat_cmp) urls.firsts w
 

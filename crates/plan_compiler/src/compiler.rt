@@ -28,7 +28,7 @@ use std::sync::Arc;
 
 /// The plan of a template.
 ///
-/// `NoMemory` where a growth is refused; no plan is made then.
+/// `NoMemory` if an allocation fails; no plan is made then.
 ///
 /// Our profile.
 pub fn compile(alloc: Global, template: &Template) -> Result<Plan, NoMemory>
@@ -109,7 +109,7 @@ fn put_element(
     }
 }
 
-// A leg; where the page goes on without it, a failure gives nothing.
+// A leg; if the page goes on without it, a failure outputs nothing.
 fn put_leg(source: &Parts, goes_on: bool, later: &mut LaterSteps) -> Result<(), NoMemory>
     ensures { OnOk result (later_of later.new ≡ dropped_code source.now goes_on ++ later_of later.old) }
 {
@@ -164,7 +164,7 @@ fn put_try(
     inlines.put_all(&mut kept)
 }
 
-// A choose: each `when` in turn, and behind them the otherwise.
+// A choose: each `when` in turn, and after them the otherwise.
 #[cycle(compiler)]
 #[tactic(auto, using(crate::proofs::CodeLemmas::depth_branch, crate::proofs::CodeLemmas::branch_before, crate::proofs::CodeLemmas::choose_whens, crate::proofs::CodeLemmas::branch_places_before, crate::proofs::CodeLemmas::kept_before, crate::proofs::CodeLemmas::choose_places))]
 fn put_choose(
@@ -187,7 +187,7 @@ fn put_choose(
     Ok(())
 }
 
-// A branch of a choose that has so many steps behind it: a `when`. The otherwise is put already,
+// A branch of a choose with this many steps after it: a `when`. The otherwise is put already,
 // and the places of its inlines are kept.
 #[cycle(compiler)]
 fn put_branch(
@@ -225,7 +225,7 @@ fn otherwise<'a>(branches: &'a [Branch]) -> &'a [Node]
     otherwise_among(branches)
 }
 
-// The same, over the branches in turn.
+// The content of the otherwise among these branches.
 fn otherwise_among<'a>(branches: &'a [Branch]) -> &'a [Node]
     ensures { elements_of result.now ≡ otherwise_or End (branches_of branches.now) }
 {

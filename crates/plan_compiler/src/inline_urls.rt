@@ -1,4 +1,4 @@
-//! The inlines of a plan by the URLs that their names stand for.
+//! The inlines of a plan by the URLs that their names denote.
 ghost use Rattle.std.specs.Prelude.{◌≡◌, ◌∷◌, ◌++◌, [], ℕ, List, Some, None, slice_get, IfOk, OnOk, if◌then◌else◌};
 ghost use Rattle.std.specs.Option.{option_copied};
 ghost use Rattle.esi_meaning.specs.Inlines.{is_url};
@@ -11,7 +11,7 @@ use std::collections::BTreeMap;
 
 #[derive(Drop)]
 pub(crate) struct InlineUrls {
-    // Of each inline; none where its name stands for no URL.
+    // The URL of each inline; `None` if its name doesn't denote one.
     urls: Vec<Option<PageUrl>>,
     // The number of the first inline of each URL.
     firsts: BTreeMap<PageUrl, usize>,
@@ -30,7 +30,7 @@ impl InlineUrls {
             urls: Vec::new(alloc),
             firsts: BTreeMap::new(alloc),
         };
-        // From the last on: so an earlier one takes the place of a later one of its URL.
+        // From the last on, so an earlier one replaces a later one of its URL.
         let mut at = inlines.len();
         while at > 0 {
             at -= 1;
@@ -41,7 +41,7 @@ impl InlineUrls {
         Ok(found)
     }
 
-    // Puts the inline of this number before the others.
+    // Puts the inline with this number before the others.
     fn put(&mut self, number: usize, url: Option<PageUrl>) -> Result<(), NoMemory>
         ensures urls { OnOk result (self.new.urls.items ≡ self.old.urls.items ++ url ∷ []) }
         ensures numbers { OnOk result ((w : List ℕ) → number_of self.new w ≡ (if is_url w url then Some number else number_of self.old w)) }
@@ -51,7 +51,7 @@ impl InlineUrls {
         Ok(())
     }
 
-    // Gives the URL, where there is one, this number.
+    // Gives the URL, if there is one, this number.
     fn put_number(&mut self, number: usize, url: &Option<PageUrl>) -> Result<(), NoMemory>
         ensures urls { OnOk result (self.new.urls.items ≡ self.old.urls.items) }
         ensures numbers { OnOk result ((w : List ℕ) → number_of self.new w ≡ (if is_url w url.now then Some number else number_of self.old w)) }
@@ -63,14 +63,14 @@ impl InlineUrls {
         Ok(())
     }
 
-    // The URL of the inline of this number.
+    // The URL of the inline with this number.
     pub(crate) fn url(&self, number: usize) -> Option<&PageUrl>
         ensures { option_copied result ≡ url_in (slice_get self.now.urls.items number) }
     {
         self.urls.get(number)?.as_ref()
     }
 
-    // The number of the first inline of this URL.
+    // The number of the first inline with this URL.
     pub(crate) fn first(&self, url: &PageUrl) -> Option<usize>
         ensures { result ≡ number_of self.now url.now }
     {

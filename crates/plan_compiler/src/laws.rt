@@ -1,8 +1,8 @@
 //! Laws of plans: each is the contract of a function that does nothing.
 ghost use Rattle.plan_compiler.specs.Laws.{PlanMeansTheTree, PlanFetchesAhead, TemplatesAreSingle, JumpsStay, FramesAreShort, FirstEntryCounts};
 
-/// The steps of a tree try the legs of its meaning, in order, and come to its text, or fail where it
-/// has none, whatever a leg comes to. Takes no memory.
+/// The steps of a tree try the legs of its meaning, in order, and output its text, or fail if it
+/// has none, whatever a leg results in. Takes no memory.
 ///
 /// Our profile.
 pub fn plan_means_the_tree()
@@ -30,7 +30,7 @@ pub fn jumps_stay()
     ensures { JumpsStay }
 {}
 
-/// One frame takes at most as many steps as its plan is long, whatever a leg comes to. Takes no
+/// One frame takes at most as many steps as its plan is long, whatever a leg results in. Takes no
 /// memory.
 ///
 /// Our profile.
@@ -38,7 +38,7 @@ pub fn frames_are_short()
     ensures { FramesAreShort }
 {}
 
-/// The first entry of a plan, in text order, whose name stands for a URL has the steps of the inline
+/// The first entry of a plan, in text order, whose name denotes a URL has the steps of the inline
 /// that counts for this URL in the template. Takes no memory.
 ///
 /// Our profile.

@@ -22,7 +22,7 @@ pub enum Form {
     Plain,
     /// A template, as its plan.
     Planned(Plan),
-    /// No template, from this place on.
+    /// Not a template, from this place on.
     BadAt(usize),
 }
 
@@ -67,7 +67,7 @@ impl Model for Prepared {
 impl Prepared {
     /// The answer, made ready: a body that is processed is read and compiled once, here.
     ///
-    /// `NoMemory` where a growth is refused; the answer is dropped then.
+    /// `NoMemory` if an allocation fails; the answer is dropped then.
     ///
     /// Our profile.
     pub fn of(alloc: Global, answer: Arc<Answer>) -> Result<Prepared, NoMemory>
@@ -106,8 +106,8 @@ impl Prepared {
         &self.ready.form
     }
 
-    /// The URL that the name of the inline of this number stands for, from 0, in text order; none
-    /// where it stands for none, and past the last. Takes no memory.
+    /// The URL that the name of the inline with this number denotes, from 0, in text order; `None`
+    /// if it doesn't denote one, and past the last. Takes no memory.
     ///
     /// Our profile.
     pub fn inline_url(&self, i: usize) -> Option<&PageUrl>
@@ -116,7 +116,7 @@ impl Prepared {
         self.ready.urls.url(i)
     }
 
-    /// The first inline, in text order, whose name stands for this URL in the answer's template. It
+    /// The first inline, in text order, whose name denotes this URL in the answer's template. It
     /// costs one look-up in a map. Takes no memory.
     ///
     /// Our profile.
@@ -127,7 +127,7 @@ impl Prepared {
         self.ready.form.inlines().get(number)
     }
 
-    /// A second owner. `NoMemory` where a growth is refused; none is made then.
+    /// A second owner. `NoMemory` if an allocation fails; none is made then.
     pub fn share(&self) -> Result<Prepared, NoMemory>
         ensures { IfOk result (λ shared. shared ≡ self.now) }
     {

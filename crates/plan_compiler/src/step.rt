@@ -8,11 +8,11 @@ use std::sync::Arc;
 /// One step. Each jump goes forward, and `skip` says how many steps it passes, from the next one on.
 #[derive(Drop)]
 pub enum Step {
-    /// Text that is given out as it stands: a part of the template's body.
+    /// Text that is output as it is: a part of the template's body.
     Text(SharedBytes),
-    /// Text that is given out with the values of its references.
+    /// Text that is output with the values of its references.
     Values(Parts),
-    /// A jump where the test doesn't hold.
+    /// A jump if the test doesn't hold.
     Test {
         /// The test.
         test: Arc<Expr>,
@@ -26,7 +26,7 @@ pub enum Step {
     },
     /// From here to its `EndTry` a failure goes on at its handler.
     Try {
-        /// How many steps stand between this one and its handler.
+        /// How many steps there are between this one and its handler.
         skip: usize,
     },
     /// Drops the innermost handler, and jumps.

@@ -1,4 +1,4 @@
--- What the machine keeps to.
+-- What is true of the machine.
 use Rattle.std.specs.Prelude.{◌≡◌, ◌⊎◌, ℕ, zero, ◌+◌, ◌<◌, ◌≤◌, true, false, List, [], ◌++◌, length, Ok, Some, None}
 use Rattle.edge_types.specs.declared.request.Request.{Request}
 use Rattle.edge_types.specs.Answered.{Answered, processed}
@@ -25,18 +25,18 @@ abbrev pub StepsStay : Type 0
 StepsStay =
     (request : Request) (log more : List Answered) (steps : ℕ) (machine next : Machine) → after request log steps machine ≡ Some next → after request (log ++ more) steps machine ≡ Some next
 
--- Output that stood before a frame stays before its own.
+-- Output from before a frame stays before the frame's own.
 abbrev pub FlowAfter : Type 0
 FlowAfter = (request : Request) (leg : List Part → Run) (steps : List Step) (front : List ℕ) → flow request leg zero steps [] front ≡ record { legs = (flow request leg zero steps [] []).legs; text = with_front front (flow request leg zero steps [] []).text }
 
--- After any number of steps the page comes to the legs that were tried, and then to what is still to come.
+-- After any number of steps the page's run is the legs that were tried, and then what is still to come.
 abbrev pub ComesToTheSame : Type 0
 ComesToTheSame =
     (request : Request) (log : List Answered) (levels : ℕ) (page : List ℕ) (tree : Elements) → IsSingle tree → (steps : ℕ) (machine : Machine) → after request log steps (start levels page tree) ≡ Some machine
     → (tried : List Leg) × (length tried ≡ machine.legs)
     × (page_run request log levels page tree ≡ record { legs = tried ++ (still_to_come request log machine).legs; text = (still_to_come request log machine).text })
 
--- the page at this URL has this answer in the log, and it is a template of this tree
+-- the page at this URL has this answer in the log, and it is a template with this tree
 pub record IsPage (log : List Answered) (page : List ℕ) (tree : Elements) (status : ℕ) (content_type : List ℕ) : Type 0 where
   pub control : Control
   pub body : List ℕ
@@ -45,7 +45,7 @@ pub record IsPage (log : List Answered) (page : List ℕ) (tree : Elements) (sta
   pub is_template : processed (Got status content_type control body) ≡ true
   pub is_tree : tree_of body ≡ Ok tree
 
--- Where a machine stops that was started for a page, the page's state is told.
+-- If a machine stops that was started for a page, it reports the page's state.
 abbrev pub WaitsAsStated : Type 0
 WaitsAsStated =
     (request : Request) (log : List Answered) (levels : ℕ) (page : List ℕ) (tree : Elements) (status : ℕ) (content_type : List ℕ) → IsPage log page tree status content_type
@@ -62,13 +62,13 @@ EndsAsStated =
     (request : Request) (log : List Answered) (levels : ℕ) (page : List ℕ) (tree : Elements) (status : ℕ) (content_type : List ℕ) → IsPage log page tree status content_type
     → (steps : ℕ) (machine : Machine) → after request log steps (start levels page tree) ≡ Some machine → machine.frames ≡ [] → state request log levels page ≡ Done (text_outcome status content_type (text_so_far machine.failed machine.out))
 
--- Each step tries one leg more, of which there are few, or leaves less to do.
+-- Each step tries one more leg, of which there are few, or leaves less to do.
 abbrev pub StepsFall : Type 0
 StepsFall =
     (request : Request) (log : List Answered) (machine next : Machine) → Ready machine.failed machine.frames → step request log machine ≡ Went next
     → (((next.legs ≡ machine.legs) × (weight next.frames < weight machine.frames)) ⊎ ((next.legs ≡ machine.legs + 1) × (next.legs ≤ most_legs))) × Ready next.failed next.frames
 
--- A machine that is started over the same answers comes to rest after one number of steps at most.
+-- Started over the same answers, a machine can come to rest after only one number of steps.
 abbrev pub OneNumberOfSteps : Type 0
 OneNumberOfSteps =
     (request : Request) (log : List Answered) (machine rested other : Machine) (steps more : ℕ) → after request log steps machine ≡ Some rested → gone (step request log rested) ≡ None → after request log more machine ≡ Some other → gone (step request log other) ≡ None → steps ≡ more

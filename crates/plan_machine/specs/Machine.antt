@@ -18,7 +18,7 @@ use Rattle.plan_compiler.specs.declared.inline.Inline.{Inline}
 use Rattle.plan_compiler.specs.Urls.{entry_for}
 use Rattle.plan_machine.specs.declared.handler.Handler.{Handler}
 
--- a template, or an inline of it, that is being processed: where it stands in its plan
+-- a template, or an inline of it, that is being processed: where it is in its plan
 pub record Frame : Type 0 where
   pub url : List ℕ
   pub tree : Elements
@@ -28,7 +28,7 @@ pub record Frame : Type 0 where
   pub handlers : List Handler
 
 pub record Machine : Type 0 where
-  -- the innermost first; none where the page's text is whole, or where it failed
+  -- the innermost first; none if the page's text is whole, or if it failed
   pub frames : List Frame
   pub out : List (List ℕ)
   pub legs : ℕ
@@ -37,21 +37,21 @@ pub record Machine : Type 0 where
 -- what a step does
 pub data Next : Type 0 where
   Went : (after : Machine) → Next
-  -- it asks, at this level, a URL that isn't logged
+  -- it needs, at this level, a URL that isn't logged
   Waits : (level : ℕ) (url : List ℕ) → Next
-  -- it is a leg more than a page may try
+  -- it is one more leg than a page may try
   TooMany : Next
-  -- there is none
+  -- there is no step
   Rests : Next
 
--- the machine after the step, where it was made
+-- the machine after the step, if it was made
 abbrev pub gone : Next → Option Machine
 gone (Went m) = Some m
 gone (Waits level url) = None
 gone TooMany = None
 gone Rests = None
 
--- frames that have come to their end are left
+-- frames that have reached their end are left
 abbrev pub settled : List Frame → List Frame
 settled [] = []
 settled (f ∷ fs) = if nat_lt f.at f.end then f ∷ fs else settled fs
@@ -80,7 +80,7 @@ without_first [] = []
 without_first (h ∷ hs) = hs
 
 module _ (r : Request) (log : List Answered) where
-  -- a leg, in the frame f before the frames fs; so many legs were tried, with this one
+  -- a leg, in the frame f before the frames fs; this many legs were tried, including this one
 
   abbrev pub plain_leg : ℕ → List (List ℕ) → List Frame → Reply → Machine
   plain_leg legs out fs reply = if succeeded reply then goes legs (with_piece out (body_of reply)) fs else unwound legs out fs
@@ -108,7 +108,7 @@ module _ (r : Request) (log : List Answered) where
   leg_at legs out f fs s zero = Went (unwound legs out (f ∷ fs))
   leg_at legs out f fs s (suc n) = resolved_leg legs out f fs n (resolve f.url (substituted r s))
 
-  -- one step of the frame f, which stands behind it, before the frames fs
+  -- one step of the frame f, which is already past it, before the frames fs
   abbrev pub doing : ℕ → List (List ℕ) → Frame → List Frame → Step → Next
   doing legs out f fs (Text text) = Went (goes legs (with_piece out text) (f ∷ fs))
   doing legs out f fs (Values parts) = Went (goes legs (with_piece out (substituted r parts)) (f ∷ fs))
@@ -131,7 +131,7 @@ module _ (r : Request) (log : List Answered) where
   unfoldable pub step : Machine → Next
   step m = step_in m.legs m.out m.frames
 
-  -- the machine as it stands after k steps, none of which asks a URL that isn't logged
+  -- the machine after k steps, none of which needs a URL that isn't logged
   abbrev pub stepped : Option Machine → Option Machine
   stepped None = None
   stepped (Some m) = gone (step m)

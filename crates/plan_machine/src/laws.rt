@@ -2,9 +2,9 @@
 ghost use Rattle.plan_machine.specs.Headline.{WhatIsToldIsTrue, SomethingIsTold};
 ghost use Rattle.plan_machine.specs.Laws.{StepsStay, FlowAfter, ComesToTheSame, WaitsAsStated, TooManyAsStated, EndsAsStated, StepsFall, OneNumberOfSteps};
 
-/// What a page tells, after whatever number of steps over the logged answers, is true over every
+/// What a page reports, after whatever number of steps over the logged answers, is true over every
 /// table that agrees with them: the URL that it waits for is missing, and asked; the outcome is the
-/// page's. And after some number of steps it tells something. Takes no memory.
+/// page's. And after some number of steps it reports something. Takes no memory.
 ///
 /// Our profile.
 pub fn page_promises()
@@ -19,7 +19,7 @@ pub fn steps_stay()
     ensures { StepsStay }
 {}
 
-/// After any number of steps the page comes to the legs that were tried, and then to what is still
+/// After any number of steps the page's run is the legs that were tried, and then what is still
 /// to come. Takes no memory.
 ///
 /// Our profile.
@@ -27,7 +27,7 @@ pub fn comes_to_the_same()
     ensures { ComesToTheSame }
 {}
 
-/// Where a machine stops that was started for a page, the page's state over the log is told: what
+/// If a machine stops that was started for a page, it reports the page's state over the log: what
 /// it waits for and at which level, that it has tried its legs, or its outcome. Takes no memory.
 ///
 /// Our profile.
@@ -44,7 +44,7 @@ pub fn steps_fall()
     ensures { StepsFall }
 {}
 
-/// A machine that is started over the same answers comes to rest after one number of steps at most.
+/// Started over the same answers, a machine can come to rest after only one number of steps.
 /// Takes no memory.
 ///
 /// Our profile.
@@ -52,7 +52,7 @@ pub fn one_number_of_steps()
     ensures { OneNumberOfSteps }
 {}
 
-/// Output that stood before a frame stays before its own. Takes no memory.
+/// Output from before a frame stays before the frame's own. Takes no memory.
 ///
 /// Our profile.
 pub fn output_stays_in_front()

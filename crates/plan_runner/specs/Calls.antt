@@ -1,4 +1,4 @@
--- What the calls of a page answer, and what they leave.
+-- What the calls of a page return, and what they leave.
 use Rattle.std.specs.Prelude.{◌≡◌, ℕ, ◌+◌, ◌-◌, List, [], ◌∷◌, ◌++◌, slice_get, Option, Some, None, IsSome, ⊤}
 use Rattle.std.specs.Arc.{arc_value}
 use Rattle.edge_types.specs.Answered.{Answered}
@@ -18,7 +18,7 @@ use Rattle.plan_runner.specs.declared.page.State.TheVariants as tells
 use Rattle.plan_runner.specs.Ahead.{Opening, opened_by}
 use Rattle.plan_runner.specs.Page.{Standing, Underway, Finished, Broken, Page}
 
--- it is one page: of one URL and request, with one number of levels, and of slots that posts may open ahead
+-- it is one page: with one URL and request, one number of levels, and one number of slots that posts may open ahead
 pub record IsOnePage (old new : Page) : Type 0 where
   pub url : new.url ≡ old.url
   pub request : new.request ≡ old.request
@@ -35,13 +35,13 @@ with_opening p o = record { url = p.url; request = p.request; levels = p.levels;
 
 -- ---- post
 
--- an answer came in, in a slot of this depth: a page that goes on opens slots ahead, one that has its outcome opens none
+-- an answer came in, in a slot at this depth: a page that goes on opens slots ahead, one that has its outcome opens none
 abbrev pub Posted : Standing → Page → Receipt → ℕ → State → Page → Type 0
 Posted Underway old receipt depth filled new = new ≡ with_opening old (opened_by old.request old.levels depth receipt.answer (record { board = filled; room = old.room }))
 Posted (Finished outcome) old receipt depth filled new = new ≡ only_board old filled
 Posted Broken old receipt depth filled new = ⊥
 
--- the receipt is taken
+-- the receipt is accepted
 pub record TakesIn (old : Page) (receipt : Receipt) (new : Page) : Type 0 where
   pub no_fault : fill_fault old.board.slots receipt ≡ None
   pub filled : State
@@ -71,7 +71,7 @@ Refuses (refusal.Broken back) old receipt new = (old.standing ≡ Broken) × (ba
 
 -- ---- advance
 
--- what is told, as the meaning has it
+-- what is reported, as the meaning has it
 abbrev pub told_state : told.State → meaning.State
 told_state (tells.Waiting url) = meaning.Waiting url
 told_state (tells.Done outcome) = meaning.Done (shown (arc_value outcome))
@@ -80,7 +80,7 @@ abbrev pub standing_after : told.State → Standing
 standing_after (tells.Waiting url) = Underway
 standing_after (tells.Done outcome) = Finished (shown (arc_value outcome))
 
--- a page that isn't done is broken by want of memory; one that is done stays as it is
+-- a page that isn't done is broken if memory runs out; one that is done stays as it is
 abbrev pub Spoils : Standing → Page → Page → Type 0
 Spoils Underway old new = new.standing ≡ Broken
 Spoils (Finished outcome) old new = new ≡ old
@@ -90,8 +90,8 @@ abbrev pub Errs : PageError → Page → Page → Type 0
 Errs error.Broken old new = (old.standing ≡ Broken) × (new ≡ old)
 Errs error.NoMemory old new = Spoils old.standing old new
 
--- a page that waits for its own answer opens no slot; one that waits at a leg of level n opens one for its URL, where
--- that has none, so deep as levels were left behind
+-- a page that waits for its own answer opens no slot; one that waits at a leg of level n opens one for its URL, if
+-- that has none, one deeper than the levels that were used up
 abbrev pub Awaits : ℕ → Option Leg → State → State → Type 0
 Awaits levels None old new = new ≡ old
 Awaits levels (Some (Asks n w)) old new = (number : ℕ) × Opens (number_of old.slots w) w (levels - n + 1) old number new
@@ -106,12 +106,12 @@ IsOutcomeOver table page (tells.Done result) = outcome page.request table page.l
 abbrev pub IsFilled : State → Type 0
 IsFilled b = (number : ℕ) (s : Slot) → slice_get b.slots number ≡ Some s → IsSome (answer_in s.standing)
 
--- a page that isn't done has one slot more, for the URL for which it waits
+-- a page that isn't done has one more slot, for the URL that it waits for
 abbrev pub HasAppended : told.State → State → State → Type 0
 HasAppended (tells.Waiting url) old new = (depth : ℕ) × (new ≡ with_slot url depth old)
 HasAppended (tells.Done outcome) old new = ⊤
 
--- what an advance does to the board, by what it tells
+-- what an advance does to the board, by what it reports
 abbrev pub Moves : told.State → ℕ → Option Leg → State → State → Type 0
 Moves (tells.Waiting url) levels leg old new = Awaits levels leg old new
 Moves (tells.Done outcome) levels leg old new = new ≡ old

@@ -19,7 +19,7 @@ pub record Held : Type 0 where
 abbrev pub empty_handed : Page → Held
 empty_handed page = record { page = page; tickets = [] }
 
--- what the table replies to a URL
+-- the table's answer of a URL
 abbrev pub answered_by : List Answered → List ℕ → Answered
 answered_by table url = record { url = url; reply = reply_of table url }
 
@@ -27,19 +27,19 @@ answered_by table url = record { url = url; reply = reply_of table url }
 abbrev pub receipt_of : List Answered → Ticket → Receipt
 receipt_of table ticket = record { number = ticket.number; answer = answered_by table ticket.url }
 
--- a claim: the ticket that it gives, if it gives one, is the newest in hand
+-- a claim: the ticket that it returns, if there is one, is the newest in hand
 pub record IsClaim (old new : Held) : Type 0 where
   pub ticket : Option Ticket
   pub claims : ClaimsOf old.page.standing old.page.board ticket new.page.board
   pub rest : new.page ≡ only_board old.page new.page.board
   pub tickets : new.tickets ≡ old.tickets ++ option_to_list ticket
 
--- a post of the ticket in hand of this place; it does nothing where there is none
+-- a post of the ticket in hand at this place; it does nothing if there is none
 abbrev pub IsPost : List Answered → ℕ → Option Ticket → Held → Held → Type 0
 IsPost table place None old new = new ≡ old
 IsPost table place (Some ticket) old new = TakesIn old.page (receipt_of table ticket) new.page × (new.tickets ≡ remove old.tickets place)
 
--- an advance of a page, which tells where it stands
+-- an advance of a page, which reports where it stands
 pub record Advances (told : State) (old new : Page) : Type 0 where
   pub is_state : told_state told ≡ state old.request (log_of old.board) old.levels old.url
   pub stands : new.standing ≡ standing_after told
@@ -66,7 +66,7 @@ abbrev pub Happen : List Answered → List Event → Held → Held → Type 0
 Happen table [] old new = new ≡ old
 Happen table (event ∷ events) old new = (next : Held) × Happens table event old next × Happen table events next new
 
--- the events, and then an advance, which tells where the page stands
+-- the events, and then an advance, which reports where the page stands
 pub record Ran (table : List Answered) (events : List Event) (start : Page) (told : State) (end : Page) : Type 0 where
   pub before : Held
   pub happened : Happen table events (empty_handed start) before

@@ -1,4 +1,4 @@
--- What a page promises: whatever `advance` tells is so, whatever the answers are that aren't in, and in whatever order
+-- What a page promises: whatever `advance` reports is true, whatever the missing answers are, and in whatever order
 -- slots were claimed and answers posted, fetched ahead or not.
 use Rattle.std.specs.Prelude.{◌≡◌, List, Contains, IsSome, None}
 use Rattle.std.specs.Arc.{arc_value}
@@ -17,6 +17,6 @@ abbrev pub IsTrueOver : List Answered → Page → State → Type 0
 IsTrueOver table page (Waiting url) = (answer_of (log_of page.board) url ≡ None) × IsSome (number_of page.board.slots url) × Contains (asked page.request table page.levels page.url) url
 IsTrueOver table page (Done result) = outcome page.request table page.levels page.url ≡ shown (arc_value result)
 
--- This is so over every table that agrees with the answers that are in.
+-- This is true over every table that agrees with the answers that are in.
 abbrev pub TellsTheTruth : Page → State → Type 0
 TellsTheTruth page state = (table : List Answered) → Agrees (log_of page.board) table → IsTrueOver table page state

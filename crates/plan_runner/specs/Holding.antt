@@ -21,7 +21,7 @@ is_claimed_slot (Some s) = is_claimed s.standing
 abbrev pub is_claimed_at : List Slot → ℕ → Bool
 is_claimed_at slots n = is_claimed_slot (slice_get slots n)
 
--- the ticket names the URL of the slot of its number
+-- the ticket names the URL of the slot with its number
 pub record IsNamed (slots : List Slot) (ticket : Ticket) : Type 0 where
   pub slot : Slot
   pub there : slice_get slots ticket.number ≡ Some slot
@@ -31,7 +31,7 @@ abbrev pub AreNamed : List Slot → List Ticket → Type 0
 AreNamed slots [] = ⊤
 AreNamed slots (t ∷ ts) = IsNamed slots t × AreNamed slots ts
 
--- in hand is one ticket for each claimed slot, and none for another
+-- in hand is one ticket for each claimed slot, and none for any other
 pub record AreTickets (slots : List Slot) (tickets : List Ticket) : Type 0 where
   pub named : AreNamed slots tickets
   pub counted : (n : ℕ) → count_by (λ (t : Ticket). t.number == n) tickets ≡ one_if (is_claimed_at slots n)
@@ -48,7 +48,7 @@ pub record IsHeld (table : List Answered) (h : Held) : Type 0 where
 abbrev pub without_slot : List (List ℕ) → List Slot → ℕ
 without_slot ws slots = count_by (λ w. is_none (number_of slots w)) ws
 
--- Answers that may still come: those of open slots, of slots that posts may open, and of URLs that are asked over the
+-- Answers that may still come: of open slots, of slots that posts may open, and of URLs that are asked for over the
 -- table and have no slot.
 abbrev pub left : List Answered → Page → ℕ
 left table p = p.room + (unfilled p.board.slots + without_slot (asked p.request table p.levels p.url) p.board.slots)
@@ -57,7 +57,7 @@ left table p = p.room + (unfilled p.board.slots + without_slot (asked p.request 
 abbrev pub unclaimed : List Slot → ℕ
 unclaimed slots = count_by (λ (s : Slot). is_unclaimed s.standing) slots
 
--- nothing has changed but which slots are claimed, and how far the page is
+-- nothing has changed except which slots are claimed, and how far the page is
 pub record IsSameBut (old new : Page) : Type 0 where
   pub url : new.url ≡ old.url
   pub request : new.request ≡ old.request

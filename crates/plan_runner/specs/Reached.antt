@@ -1,4 +1,4 @@
--- How a step of the code ends, beside what the machine does.
+-- How a step of the code ends, next to what the machine does.
 use Rattle.std.specs.Prelude.{◌≡◌, ◌∷◌}
 use Rattle.answer_board.specs.Board.{State}
 use Rattle.plan_runner.specs.declared.frames.Frame as code_frame

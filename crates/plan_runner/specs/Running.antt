@@ -36,7 +36,7 @@ pub record IsTemplate (log : List Answered) (u : List ℕ) : Type 0 where
   pub page : IsPage log u tree status content_type
 
 module _ (r : Request) (L : ℕ) (u : List ℕ) (b : State) where
-  -- the page is a template, and its machine stands where one stands that was started afresh over the logged answers
+  -- the page is a template, and its machine is where one is that was started afresh over the logged answers
   pub record IsRunning (p : Progress) : Type 0 where
     pub tree : Elements
     pub status : ℕ
@@ -46,7 +46,7 @@ module _ (r : Request) (L : ℕ) (u : List ℕ) (b : State) where
     pub placed : ArePlaced b p.machine.frames
     pub ready : Ready p.machine.failed (shown_frames b p.machine.frames)
 
-  -- after some number of steps the page tells this outcome, and the count of steps is this number
+  -- after some number of steps the page reports this outcome, and the count of steps is this number
   pub record IsDone (steps : ℕ) (outcome : Shown) : Type 0 where
     pub count : ℕ
     pub tells : told r (log_of b) L u count ≡ Some (Done outcome)
@@ -54,7 +54,7 @@ module _ (r : Request) (L : ℕ) (u : List ℕ) (b : State) where
     pub planned : IsTemplate (log_of b) u ⊎ (count ≡ 0)
     pub steps_are : steps ≡ min (count + last_step outcome) 18446744073709551615
 
-  -- what the page's own answer comes to
+  -- what the page's own answer results in
   abbrev pub Begins : Progress → Progress → Begun → Type 0
   Begins old new begun.Missing = (answer_of (log_of b) u ≡ None) × (new ≡ old)
   Begins old new begun.Running = IsRunning new
@@ -65,7 +65,7 @@ module _ (r : Request) (L : ℕ) (u : List ℕ) (b : State) where
     pub running : IsRunning p
     pub waits : step r (log_of b) (shown_machine b p.machine) ≡ Waits level w
 
-  -- what the page came to
+  -- what the page resulted in
   abbrev pub Comes : Progress → Came → Type 0
   Comes p came.Unread = (answer_of (log_of b) u ≡ None) × (p.steps ≡ 0)
   Comes p (came.Waits level w) = IsWaiting p level w

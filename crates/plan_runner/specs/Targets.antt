@@ -31,7 +31,7 @@ module _ (log : List Answered) where
   named_target w (Some i) = Inside i.first i.end
   named_target w None = asked_target w (answer_of log w)
 
-  -- a leg of this URL, or of none, in a template of the URL u with these inlines
+  -- a leg with this URL, or with none, in a template of the URL u with these inlines
   abbrev pub resolved_target : List ℕ → List Inline → Option (List ℕ) → Target
   resolved_target u inlines None = Nowhere
   resolved_target u inlines (Some w) = named_target w (entry_among u w inlines)
@@ -48,7 +48,7 @@ module _ (r : Request) (log : List Answered) where
   acted legs out f fs (Missing w) = Waits f.level w
   acted legs out f fs (Found a) = Went (answered_leg r log legs out (f ∷ fs) (f.level - 1) a.url a.reply)
 
--- what is at a number
+-- what is in the slot with a number
 abbrev pub found_at : Option Answered → Target
 found_at (Some a) = Found a
 found_at None = Nowhere

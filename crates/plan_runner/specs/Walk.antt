@@ -1,4 +1,4 @@
--- A walk over a plan, for what it may ask: each test is decided, and both ways of each try are entered.
+-- A walk over a plan, for what it may ask for: each test is decided, and both ways of each try are entered.
 use Rattle.std.specs.Prelude.{ℕ, List, [], ◌∷◌, Option, Some, None, if◌then◌else◌}
 use Rattle.edge_types.specs.declared.request.Request.{Request}
 use Rattle.edge_types.specs.Answered.{Answered}
@@ -12,7 +12,7 @@ use Rattle.plan_compiler.specs.Urls.{entry_of}
 use Rattle.answer_board.specs.Board.{number_of}
 use Rattle.plan_runner.specs.Ahead.{Opening, with_url}
 
--- how many steps the walk passes behind this one
+-- how many steps the walk skips after this one
 abbrev pub passed_by : Request → Step → ℕ
 passed_by r (Text text) = 0
 passed_by r (Values parts) = 0
@@ -42,7 +42,7 @@ abbrev pub asked_in : Answered → Option (List ℕ) → Option (List ℕ)
 asked_in a None = None
 asked_in a (Some w) = unless_entry w (entry_of a w)
 
--- the URL that a source asks in the template of this answer: none where it stands for none, or an inline is named
+-- the URL that a source asks for in the template of this answer: none if it doesn't denote one, or an inline is named
 abbrev pub asked_by : Request → Answered → List Part → Option (List ℕ)
 asked_by r a source = asked_in a (resolve a.url (substituted r source))
 

@@ -1,4 +1,4 @@
-//! A page's machine, on to where it waits or is done.
+//! Advances a page's machine to where it waits or is done.
 ghost use Rattle.std.specs.Prelude.{◌≡◌, ◌+◌, ◌≤◌, IfOk, OnOk, min};
 ghost use Rattle.answer_board.specs.Board.{log_of};
 ghost use Rattle.esi_meaning.specs.Meaning.{most_legs};
@@ -39,6 +39,7 @@ pub(crate) fn take_step(machine: &mut Machine, setting: &Setting<'_>) -> Result<
     let Form::Planned(plan) = template.form() else {
         unreachable!()
     };
+    // For the clauses: with the plan's length the prover knows that no place in the plan overflows.
     let _ = plan.len();
     match plan.step(frame.at) {
         Some(step) => {
@@ -71,7 +72,7 @@ fn take_counted(progress: &mut Progress, setting: &Setting<'_>) -> Result<Reache
     }
 }
 
-// On to behind the next leg.
+// Advances until the next leg is done.
 fn run_to_leg(progress: &mut Progress, setting: &Setting<'_>) -> Result<Reached, NoMemory>
     requires placed { ArePlaced setting.now.board.now progress.old.machine.frames }
     requires ready { Ready progress.old.machine.failed (shown_frames setting.now.board.now progress.old.machine.frames) }
@@ -94,7 +95,7 @@ fn run_to_leg(progress: &mut Progress, setting: &Setting<'_>) -> Result<Reached,
     }
 }
 
-// On to where the page waits or is done.
+// Advances to where the page waits or is done.
 pub(crate) fn advance(progress: &mut Progress, setting: &Setting<'_>) -> Result<Reached, NoMemory>
     requires placed { ArePlaced setting.now.board.now progress.old.machine.frames }
     requires ready { Ready progress.old.machine.failed (shown_frames setting.now.board.now progress.old.machine.frames) }

@@ -1,4 +1,4 @@
-//! Slots that are opened ahead: for what a template that has come in may ask.
+//! Slots that are opened ahead: for what a template that has come in may ask for.
 ghost use Rattle.std.specs.Prelude.{◌≡◌, ◌≤◌, ◌+◌, length, Some, filter_map, IfOk, slice_get};
 ghost use Rattle.edge_types.specs.Answered.{Answered};
 ghost use Rattle.esi_meaning.specs.Ahead.{ahead_of};
@@ -26,8 +26,8 @@ struct Opening<'a> {
     depth: u8,
 }
 
-// Opens slots for the URLs that the answer in this slot may ask, as many as there is room for, and
-// answers the room that is left. Where memory runs out, some of them may be open.
+// Opens slots for the URLs that the answer in this slot may ask for, as many as there is room for, and
+// returns the room that is left. If memory runs out, some of them may be open.
 pub(crate) fn open_ahead(
     alloc: Global,
     request: &Request,
@@ -65,7 +65,7 @@ pub(crate) fn open_ahead(
     open_all(&opening, board, room)
 }
 
-// Opens what the template may ask, where it is one.
+// Opens slots for what the template may ask for, if it is one.
 fn open_all(opening: &Opening<'_>, board: &mut Board, room: u16) -> Result<u16, NoMemory>
     requires sound { IsBoard board.old }
     ensures opens { IfOk result (λ left. record { board = board.new; room = left } ≡ opened opening.now.depth (ahead_of opening.now.request.now opening.now.template.now) (record { board = board.old; room = room })) }
@@ -93,6 +93,7 @@ fn walk(opening: &Opening<'_>, plan: &Plan, board: &mut Board, room: u16) -> Res
     ensures few { length board.new.slots ≤ length board.old.slots + room }
     ensures fewer { IfOk result (λ left. length board.new.slots + left ≤ length board.old.slots + room) }
 {
+    // For the clauses: with the plan's length the prover knows that no place in the plan overflows.
     let _ = plan.len();
     let mut left = room;
     let mut at: usize = 0;
@@ -106,7 +107,7 @@ fn walk(opening: &Opening<'_>, plan: &Plan, board: &mut Board, room: u16) -> Res
     Ok(left)
 }
 
-// How many steps the walk passes behind this one.
+// How many steps the walk skips after this one.
 fn passed(request: &Request, step: &Step) -> usize
     ensures { result ≡ passed_by request.now (step_of step.now) }
 {
@@ -117,7 +118,7 @@ fn passed(request: &Request, step: &Step) -> usize
     }
 }
 
-// Opens a slot for what this step may ask, and answers the room that is left.
+// Opens a slot for what this step may ask for, and returns the room that is left.
 fn visit(opening: &Opening<'_>, step: &Step, board: &mut Board, room: u16) -> Result<u16, NoMemory>
     requires sound { IsBoard board.old }
     ensures opens { IfOk result (λ left. record { board = board.new; room = left } ≡
@@ -164,7 +165,7 @@ fn open_leg(
     }
 }
 
-// Opens a slot for this URL, where it has none and there is room.
+// Opens a slot for this URL, if it has none and there is room.
 fn open_new(
     opening: &Opening<'_>,
     url: &PageUrl,

@@ -20,7 +20,7 @@ use std::alloc::Global;
 use std::mem;
 use std::sync::Arc;
 
-// What a page comes to.
+// The state of a page.
 #[derive(Drop)]
 pub(crate) enum Came {
     // Its own answer isn't there.
@@ -30,17 +30,17 @@ pub(crate) enum Came {
     Done(Outcome),
 }
 
-// What the page's own answer comes to.
+// What the page's own answer results in.
 #[derive(Drop)]
 pub(crate) enum Begun {
     // It isn't there.
     Missing,
-    // It is a template, and the machine stands before its first step.
+    // It is a template, and the machine is before its first step.
     Running,
     Done(Outcome),
 }
 
-// On from the page's own answer.
+// Goes on from the page's own answer.
 pub(crate) fn begin_and_go_on(
     setting: &Setting<'_>,
     url: &PageUrl,
@@ -60,7 +60,7 @@ pub(crate) fn begin_and_go_on(
     }
 }
 
-// On from where the machine stands.
+// Goes on from where the machine is.
 pub(crate) fn go_on(
     setting: &Setting<'_>,
     url: &PageUrl,
@@ -84,7 +84,7 @@ pub(crate) fn go_on(
     }
 }
 
-// What the page's own answer comes to.
+// What the page's own answer results in.
 fn begin(
     setting: &Setting<'_>,
     url: &PageUrl,
@@ -94,6 +94,7 @@ fn begin(
     requires fresh { progress.old.steps ≡ 0 }
     ensures { IfOk result (λ begun. Begins setting.now.request.now levels url.now setting.now.board.now progress.old progress.new begun) }
 {
+    // For the clause: the contract of `filled` tells the prover that the board is sound.
     let _ = setting.board.filled();
     let Some(slot) = setting.board.number(url) else {
         return Ok(Begun::Missing);
@@ -146,6 +147,7 @@ fn ended(setting: &Setting<'_>, url: &PageUrl, progress: &mut Progress) -> Resul
     if progress.machine.failed {
         return Ok(Outcome::Fault(PageFault::IncludeFailed));
     }
+    // For the clause: the contract of `filled` tells the prover that the board is sound.
     let _ = setting.board.filled();
     let Some(own) = setting.board.get(url) else {
         unreachable!()

@@ -19,12 +19,12 @@ use edge_types::{NoMemory, Outcome, PageUrl, Request, Table};
 use std::alloc::Global;
 use std::sync::Arc;
 
-/// One call of a page, as a list of events tells it.
+/// One call of a page, as an item of a list of events.
 #[derive(Clone, Copy, Debug, Drop, PartialEq, Eq)]
 pub enum Event {
     /// The first unclaimed slot is claimed; its ticket is the newest in hand.
     Claim,
-    /// The table's answer is posted for the ticket in hand of this place, from 0, oldest first.
+    /// The table's answer is posted for the ticket in hand at this place, from 0, oldest first.
     Post(usize),
     /// The page goes on to where it waits or is done.
     Advance,
@@ -53,11 +53,11 @@ fn run_all(hand: &mut Hand, table: &Table, events: &[Event]) -> Result<(), NoMem
 }
 
 /// Runs a page over a table by these events, in order, and then lets it go on to where it waits or
-/// is done, and tells it. A claim where no slot is unclaimed does nothing, nor does a post where no
-/// ticket of that place is in hand.
+/// is done, and returns that state. A claim without an unclaimed slot does nothing, nor does a post
+/// without a ticket in hand at its place.
 ///
 /// `ahead` is how many slots posts may open ahead, at most `MAX_AHEAD`. `NoMemory` at the first
-/// event that finds none; `Broken` never. Tickets that are still in hand at the end are given up.
+/// event that runs out of it; `Broken` never. Tickets that are still in hand at the end are given up.
 ///
 /// Source: ESI Language Specification 1.0, "ESI Language"; events and limits are our profile.
 pub fn run_events(
@@ -84,7 +84,7 @@ pub fn run_events(
     }
 }
 
-// The same, where no memory is the only error.
+// Does what `run_events` does, with out of memory as the only error.
 fn try_events(
     alloc: Global,
     url: PageUrl,
@@ -111,8 +111,8 @@ fn try_events(
 /// waits, what is unclaimed is claimed, and the table's answer is posted for the oldest ticket in
 /// hand, until the page is done. Whatever the events are, its outcome is that over the table.
 ///
-/// `ahead` is how many slots posts may open ahead, at most `MAX_AHEAD`. `NoMemory` where a growth
-/// is refused.
+/// `ahead` is how many slots posts may open ahead, at most `MAX_AHEAD`. `NoMemory` if an allocation
+/// fails.
 ///
 /// Source: ESI Language Specification 1.0, "ESI Language"; events and limits are our profile.
 pub fn run_to_end(

@@ -13,7 +13,7 @@ pub(crate) struct Frame {
     pub(crate) slot: usize,
     /// The next step of its plan.
     pub(crate) at: usize,
-    /// The step behind its last.
+    /// The step after its last.
     pub(crate) end: usize,
     /// How many levels are left under it.
     pub(crate) level: u8,
@@ -22,7 +22,7 @@ pub(crate) struct Frame {
 
 #[derive(Drop)]
 pub(crate) struct Frames {
-    // The innermost last.
+    // The innermost is the last.
     items: Vec<Frame>,
 }
 
@@ -36,7 +36,7 @@ impl Model for Frames {
 }
 
 impl Frames {
-    // None.
+    // No frames.
     pub(crate) fn new(alloc: Global) -> Frames
         ensures { result ≡ [] }
     {
@@ -45,7 +45,7 @@ impl Frames {
         }
     }
 
-    // Puts one on.
+    // Adds one as the innermost.
     pub(crate) fn push(&mut self, frame: Frame) -> Result<(), NoMemory>
         ensures { OnOk result (self.new ≡ frame ∷ self.old) }
     {
@@ -53,7 +53,7 @@ impl Frames {
         Ok(())
     }
 
-    // Takes the innermost off.
+    // Removes the innermost.
     pub(crate) fn pop(&mut self) -> Option<Frame>
         ensures some { IfSome result (λ f. self.old ≡ f ∷ self.new) }
         ensures none { IfNone result ((self.old ≡ []) × (self.new ≡ [])) }

@@ -19,7 +19,7 @@ use std::alloc::Global;
 use std::marker::Model;
 use std::sync::Arc;
 
-// A ticket that is given up where it is let go.
+// A ticket that is given up when it is dropped.
 struct HeldTicket {
     ticket: Ticket,
 }
@@ -70,7 +70,7 @@ impl Model for Hand {
     ghost view = { λ h. record { page = h.page; tickets = h.tickets.items } };
 }
 
-// What the table replies to a URL.
+// The table's answer of a URL.
 fn answer_of(alloc: Global, table: &Table, url: &PageUrl) -> Result<Arc<Answer>, NoMemory>
     ensures { IfOk result (λ answer. arc_value answer ≡ answered_by table.now url.now) }
 {
@@ -80,14 +80,14 @@ fn answer_of(alloc: Global, table: &Table, url: &PageUrl) -> Result<Arc<Answer>,
     }
 }
 
-// The same, made ready.
+// The table's answer of a URL, made ready.
 fn fetched(alloc: Global, table: &Table, url: &PageUrl) -> Result<Prepared, NoMemory>
     ensures { IfOk result (λ prepared. prepared ≡ answered_by table.now url.now) }
 {
     Prepared::of(alloc, answer_of(alloc, table, url)?)
 }
 
-// A post of a ticket in hand is refused for want of memory alone.
+// A post of a ticket in hand is refused only if memory runs out.
 fn want_of_memory(fault: PostFault) -> NoMemory
     requires { fault ≡ PostFault.NoMemory }
 {
@@ -104,7 +104,7 @@ fn want_of_memory(fault: PostFault) -> NoMemory
 }
 
 impl Hand {
-    /// A page of which no answer is in, and no ticket in hand.
+    /// A page with no answers in, and with no tickets in hand.
     pub(crate) fn accept(
         alloc: Global,
         url: PageUrl,
@@ -135,7 +135,7 @@ impl Hand {
         page
     }
 
-    /// Claims the first unclaimed slot. False where no ticket was given.
+    /// Claims the first unclaimed slot. False if no ticket was given.
     pub(crate) fn claim(&mut self, table: &Table) -> Result<bool, NoMemory>
         requires { IsHeld table.now self.old }
         ensures claim { OnOk result (IsClaim self.old self.new) }
@@ -152,7 +152,7 @@ impl Hand {
         }
     }
 
-    /// Posts the table's answer for the ticket of this place, where there is one.
+    /// Posts the table's answer for the ticket at this place, if there is one.
     pub(crate) fn post(&mut self, table: &Table, place: usize) -> Result<(), NoMemory>
         requires { IsHeld table.now self.old }
         ensures post { OnOk result (IsPost table.now place (slice_get self.old.tickets place) self.old self.new) }
@@ -207,7 +207,7 @@ impl Hand {
         }
     }
 
-    // On to where the page is done, and its outcome; where it waits, one answer is posted.
+    // Advances, and returns the outcome if the page is done; if it waits, one answer is posted.
     fn round(&mut self, table: &Table) -> Result<Option<Arc<Outcome>>, NoMemory>
         requires { IsHeld table.now self.old }
         ensures done { IfOk result (λ done. IfSome done (λ o. shown (arc_value o) ≡ outcome self.old.page.request table.now self.old.page.levels self.old.page.url)) }

@@ -8,7 +8,7 @@ use std::marker::Model;
 
 #[derive(Drop)]
 pub(crate) struct Handlers {
-    // The innermost last.
+    // The innermost is the last.
     items: Vec<Handler>,
 }
 
@@ -22,7 +22,7 @@ impl Model for Handlers {
 }
 
 impl Handlers {
-    // None.
+    // No handlers.
     pub(crate) fn new(alloc: Global) -> Handlers
         ensures { result ≡ [] }
     {
@@ -31,7 +31,7 @@ impl Handlers {
         }
     }
 
-    // Puts one on.
+    // Adds one as the innermost.
     pub(crate) fn push(&mut self, handler: Handler) -> Result<(), NoMemory>
         ensures ok { OnOk result (self.new ≡ handler ∷ self.old) }
         ensures err { OnErr result (self.new ≡ self.old) }
@@ -40,7 +40,7 @@ impl Handlers {
         Ok(())
     }
 
-    // Takes the innermost off.
+    // Removes the innermost.
     pub(crate) fn pop(&mut self) -> Option<Handler>
         ensures some { IfSome result (λ h. self.old ≡ h ∷ self.new) }
         ensures none { IfNone result ((self.old ≡ []) × (self.new ≡ [])) }

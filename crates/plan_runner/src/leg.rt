@@ -25,11 +25,11 @@ pub(crate) struct Setting<'a> {
 pub(crate) enum Target {
     // It fails.
     Nowhere,
-    // An inline of the template: its first step, and the one behind its last.
+    // An inline of the template: its first step, and the one after its last.
     Inside(usize, usize),
     // A URL whose answer isn't there.
     Missing(PageUrl),
-    // The answer in the slot of this number.
+    // The answer in the slot with this number.
     Found(usize),
 }
 
@@ -58,7 +58,7 @@ pub(crate) fn find_target(
     }
 }
 
-// A leg of this URL.
+// What a leg with this URL leads to.
 fn named(setting: &Setting<'_>, template: &Prepared, url: PageUrl) -> Target
     ensures { shown_target setting.now.board.now result ≡
         resolved_target (log_of setting.now.board.now) template.now.url (entries_of template.now) (Some url) }
@@ -69,10 +69,11 @@ fn named(setting: &Setting<'_>, template: &Prepared, url: PageUrl) -> Target
     }
 }
 
-// A leg of this URL, which no inline names.
+// What a leg with this URL, which no inline names, leads to.
 fn asked(board: &Board, url: PageUrl) -> Target
     ensures { shown_target board.now result ≡ asked_target url (answer_of (log_of board.now) url) }
 {
+    // For the clause: the contract of `filled` tells the prover that the board is sound.
     let _ = board.filled();
     match board.number(&url) {
         Some(number) => match board.prepared(number) {

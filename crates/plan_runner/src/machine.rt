@@ -19,7 +19,7 @@ pub(crate) struct Machine {
     pub(crate) failed: bool,
 }
 
-// A machine of no page.
+// A machine without a page.
 pub(crate) fn idle(alloc: Global) -> Machine
     ensures frames { result.frames ≡ [] }
 {
@@ -58,7 +58,7 @@ pub(crate) fn started(
     Ok(machine)
 }
 
-// Leaves the frames that have come to their end.
+// Leaves the frames that have reached their end.
 fn settle(frames: &mut Frames) -> Result<(), NoMemory>
     ensures shown { OnOk result ((board : State) → shown_frames board frames.new ≡ settled (shown_frames board frames.old)) }
     ensures placed { OnOk result ((board : State) → ArePlaced board frames.old → ArePlaced board frames.new) }
@@ -72,7 +72,7 @@ fn settle(frames: &mut Frames) -> Result<(), NoMemory>
     Ok(())
 }
 
-// On with this frame before the others.
+// Goes on with this frame before the others.
 pub(crate) fn go_on(machine: &mut Machine, frame: Frame) -> Result<(), NoMemory>
     ensures shown { OnOk result ((board : State) → shown_machine board machine.new ≡ goes machine.old.legs machine.old.out (shown_frame board frame ∷ shown_frames board machine.old.frames)) }
     ensures placed { OnOk result ((board : State) → IsPlaced board frame → ArePlaced board machine.old.frames → ArePlaced board machine.new.frames) }
@@ -83,7 +83,7 @@ pub(crate) fn go_on(machine: &mut Machine, frame: Frame) -> Result<(), NoMemory>
     Ok(())
 }
 
-// On at the innermost handler, with the output cut back to its mark.
+// Goes on at the innermost handler, with the output cut back to its mark.
 pub(crate) fn unwind(machine: &mut Machine) -> Result<(), NoMemory>
     ensures shown { OnOk result ((board : State) → shown_machine board machine.new ≡ unwound machine.old.legs machine.old.out (shown_frames board machine.old.frames)) }
     ensures placed { OnOk result ((board : State) → ArePlaced board machine.old.frames → ArePlaced board machine.new.frames) }
@@ -100,7 +100,7 @@ pub(crate) fn unwind(machine: &mut Machine) -> Result<(), NoMemory>
     Ok(())
 }
 
-// Gives this text out, and goes on with the frame.
+// Outputs this text, and goes on with the frame.
 pub(crate) fn give(machine: &mut Machine, frame: Frame, text: SharedBytes) -> Result<(), NoMemory>
     ensures shown { OnOk result ((board : State) → shown_machine board machine.new ≡ goes machine.old.legs (with_piece machine.old.out text) (shown_frame board frame ∷ shown_frames board machine.old.frames)) }
     ensures placed { OnOk result ((board : State) → IsPlaced board frame → ArePlaced board machine.old.frames → ArePlaced board machine.new.frames) }

@@ -49,33 +49,33 @@ pub enum State {
     Done(Arc<Outcome>),
 }
 
-/// Why a page doesn't tell where it stands.
+/// Why a page doesn't report where it stands.
 #[derive(Clone, Copy, Debug, Drop, PartialEq, Eq, Error)]
 pub enum PageError {
-    /// A growth was refused: a page that wasn't done is broken.
+    /// An allocation failed: a page that wasn't done is broken.
     #[error("out of memory: accept the page anew with more of it")]
     NoMemory,
-    /// A growth was refused earlier, before the page was done.
+    /// An allocation failed earlier, before the page was done.
     #[error("the page ran out of memory before: accept it anew")]
     Broken,
 }
 
-/// Why a page doesn't take a receipt, or is broken by it.
+/// Why a page refuses a receipt, or is broken by it.
 #[must_use]
 pub enum PostFault {
-    /// There is no slot of that number with that URL.
+    /// There is no slot with that number and that URL.
     Stranger(Receipt),
     /// Nobody has claimed the slot.
     NotClaimed(Receipt),
-    /// The slot has its answer.
+    /// The slot already has its answer.
     Filled(Receipt),
-    /// A growth was refused: the answer is in, and the page is broken.
+    /// An allocation failed: the answer is in, and the page is broken.
     NoMemory,
-    /// A growth was refused earlier, before the page was done.
+    /// An allocation failed earlier, before the page was done.
     Broken(Receipt),
 }
 
-// By hand: what hands a receipt back can't be let go, as an `Error` can.
+// By hand: what hands a receipt back can't be dropped, as an `Error` can.
 impl fmt::Display for PostFault {
     fn fmt<W: fmt::Write>(&self, f: &mut fmt::Formatter<W>) -> fmt::Result {
         f.write_str(match self {
@@ -93,13 +93,13 @@ impl fmt::Display for PostFault {
 // How far a page is.
 #[derive(Drop)]
 pub(crate) enum Stage {
-    // Its own answer has not been looked at.
+    // Its own answer has not been looked at yet.
     Unread,
-    // Its own answer is a template, whose plan is run.
+    // Its own answer is a template, whose plan is being run.
     Running,
     // It has its outcome.
     Done(SharedOutcome),
-    // A growth was refused.
+    // An allocation failed.
     Broken,
 }
 
@@ -108,7 +108,7 @@ pub(crate) enum Stage {
 /// ```text
 ///  accept --> underway --advance--> done, for good
 ///                |
-///                +--a growth refused in post or advance--> broken, for good
+///                +--an allocation fails in post or advance--> broken, for good
 /// ```
 #[derive(Drop)]
 pub struct Page {
@@ -136,10 +136,10 @@ impl Model for Page {
 }
 
 impl Page {
-    /// A page of which no answer is in: one slot, for the page's own URL, at depth 0.
+    /// A page with no answers in: one slot, for the page's own URL, at depth 0.
     ///
-    /// `ahead` is how many slots posts may open ahead, at most `MAX_AHEAD`. `NoMemory` where a growth
-    /// is refused; nothing is left then.
+    /// `ahead` is how many slots posts may open ahead, at most `MAX_AHEAD`. `NoMemory` if an allocation
+    /// fails; nothing is left then.
     ///
     /// Our profile.
     pub fn accept(
@@ -178,7 +178,7 @@ impl Page {
         &self.url
     }
 
-    /// Lends what the reader's request says. Takes no memory.
+    /// Lends the reader's request. Takes no memory.
     pub fn request(&self) -> &Request
         ensures { result.now ≡ self.now.request }
     {
@@ -193,7 +193,7 @@ impl Page {
         self.levels
     }
 
-    /// How many slots there are, also on a page that is done or broken: at most one for the page, one
+    /// How many slots there are, even on a page that is done or broken: at most one for the page, one
     /// for each leg that it may try, and those ahead. Takes no memory.
     ///
     /// Our profile.
@@ -225,9 +225,9 @@ impl Page {
         self.board.filled().len()
     }
 
-    /// Lends the answer of this number, from 0, in order of posting; none past the last. They are a
+    /// Lends the answer with this number, from 0, in order of posting; `None` past the last. They are a
     /// legal log: the first is the page's own, no URL has two, and each other's is one that a `src` or
-    /// an `alt` stands for in the template of an earlier one. Takes no memory.
+    /// an `alt` denotes in the template of an earlier one. Takes no memory.
     ///
     /// Our profile.
     pub fn logged(&self, i: usize) -> Option<&Arc<Answer>>
@@ -237,7 +237,7 @@ impl Page {
         filled_answer(&self.board, i)
     }
 
-    /// Claims the first unclaimed slot, and gives its ticket; none where each is claimed, and none
+    /// Claims the first unclaimed slot, and returns its ticket; `None` if all are claimed, and
     /// once the page is done or broken. Takes no memory.
     ///
     /// Our profile.
@@ -253,12 +253,12 @@ impl Page {
         }
     }
 
-    /// Takes an answer in. While the page isn't done, opens slots ahead: for each leg of the posted
+    /// Takes an answer in. While the page isn't done, it opens slots ahead: for each leg of the posted
     /// template, in text order, whose URL has no slot, one level deeper, while the page has levels
     /// left there and there is room. On a page that is done it opens none and takes no memory.
     ///
     /// `Broken` on a broken page, else `Stranger`, `NotClaimed` or `Filled` as the board says, each of
-    /// which hands the receipt back and changes nothing; else `NoMemory` where a growth is refused,
+    /// which hands the receipt back and changes nothing; else `NoMemory` if an allocation fails,
     /// after which the answer is in and the page is broken.
     ///
     /// Our profile.
@@ -300,10 +300,10 @@ impl Page {
         }
     }
 
-    /// Goes on to where the page waits or is done, and tells it. A URL that is waited for and has no
+    /// Advances to where the page waits or is done, and reports it. A URL that is waited for and has no
     /// slot gets one.
     ///
-    /// `Broken` on a broken page; `NoMemory` where a growth is refused, after which a page that wasn't
+    /// `Broken` on a broken page; `NoMemory` if an allocation fails, after which a page that wasn't
     /// done is broken. A page that is done stays so, with the same outcome.
     ///
     /// Source: ESI Language Specification 1.0, "ESI Language"; the order of answers and the limits are
@@ -336,14 +336,14 @@ impl Page {
         }
     }
 
-    // Tells what holds of the page's board.
+    // States the invariant of the page's board.
     pub(crate) fn sound(&self)
         ensures { IsBoard self.now.board }
     {
         let _ = &self.board;
     }
 
-    // On from where it stands; it is broken where a growth is refused.
+    // Goes on from where it stands; it is broken if an allocation fails.
     fn proceed(&mut self) -> Result<State, NoMemory>
         requires underway { self.old.standing ≡ Underway }
         ensures told { IfOk result (λ s. state self.new.request (log_of self.new.board) self.new.levels self.new.url ≡ told_state s) }
@@ -357,7 +357,7 @@ impl Page {
         ensures appended { IfOk result (λ s. IsFilled self.old.board → HasAppended s self.old.board self.new.board) }
         ensures moves { IfOk result (λ s. Moves s self.old.levels (waits_at self.old.request (log_of self.old.board) self.old.levels self.old.url) self.old.board self.new.board) }
     {
-        // Broken until all growths are made.
+        // Broken until all allocations have succeeded.
         let stage = mem::replace(&mut self.stage, Stage::Broken);
         let setting = Setting {
             alloc: self.alloc,
@@ -387,7 +387,7 @@ impl Page {
     }
 }
 
-// The answer that was filled in at this number, from 0.
+// The answer that was filled in with this number, from 0.
 fn filled_answer(board: &Board, i: usize) -> Option<&Arc<Answer>>
     ensures { option_map arc_value (option_copied result) ≡ option_and_then (answer_at board.now.slots) (slice_get board.now.filled i) }
 {
@@ -400,7 +400,7 @@ fn filled_answer(board: &Board, i: usize) -> Option<&Arc<Answer>>
     }
 }
 
-// Tells an outcome once more.
+// Reports an outcome once more.
 fn known(outcome: &SharedOutcome) -> Result<State, PageError>
     ensures told { IfOk result (λ s. told_state s ≡ Done outcome.now) }
     ensures standing { IfOk result (λ s. standing_after s ≡ Finished outcome.now) }
@@ -412,7 +412,7 @@ fn known(outcome: &SharedOutcome) -> Result<State, PageError>
     }
 }
 
-// On from how far the page is.
+// Goes on from the stage that the page has reached.
 fn run(
     setting: &Setting<'_>,
     url: &PageUrl,

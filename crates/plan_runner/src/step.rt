@@ -31,15 +31,15 @@ use std::sync::Arc;
 pub(crate) enum Reached {
     // It was made.
     Went,
-    // It asks, at this level, a URL whose answer isn't there.
+    // It needs, at this level, a URL whose answer isn't there.
     Waits(u8, PageUrl),
-    // It is a leg more than a page may try.
+    // It is one more leg than a page may try.
     TooMany,
-    // There is none.
+    // There is no step.
     End,
 }
 
-// One step of the frame, which stands on this template. Where the step isn't made, the frame is put
+// One step of the frame, which is in this template. If the step isn't made, the frame is put
 // back as it was.
 pub(crate) fn run(
     machine: &mut Machine,
@@ -79,7 +79,7 @@ pub(crate) fn run(
     Ok(Reached::Went)
 }
 
-// On behind so many steps.
+// Goes on after this many steps.
 fn skip(machine: &mut Machine, mut frame: Frame, by: usize) -> Result<(), NoMemory>
     requires { frame.at + 1 + by ≤ usize.MAX }
     ensures shown { OnOk result ((board : State) → shown_machine board machine.new ≡ goes machine.old.legs machine.old.out (moved (shown_frame board frame) (frame.at + 1 + by) ∷ shown_frames board machine.old.frames)) }
@@ -90,7 +90,7 @@ fn skip(machine: &mut Machine, mut frame: Frame, by: usize) -> Result<(), NoMemo
     Ok(())
 }
 
-// Puts a handler on.
+// Adds a handler.
 fn guard(machine: &mut Machine, mut frame: Frame, by: usize) -> Result<(), NoMemory>
     requires { frame.at + 1 + by ≤ usize.MAX }
     ensures shown { OnOk result ((board : State) → shown_machine board machine.new ≡ goes machine.old.legs machine.old.out
@@ -106,7 +106,7 @@ fn guard(machine: &mut Machine, mut frame: Frame, by: usize) -> Result<(), NoMem
     Ok(())
 }
 
-// Takes a handler off.
+// Removes a handler.
 fn unguard(machine: &mut Machine, mut frame: Frame, by: usize) -> Result<(), NoMemory>
     requires { frame.at + 1 + by ≤ usize.MAX }
     ensures shown { OnOk result ((board : State) → shown_machine board machine.new ≡ goes machine.old.legs machine.old.out
@@ -145,7 +145,7 @@ fn open(machine: &mut Machine, mut frame: Frame, inner: Frame) -> Result<(), NoM
     Ok(())
 }
 
-// Gives this text out, and goes on behind the step.
+// Outputs this text, and goes on after the step.
 fn give_next(machine: &mut Machine, mut frame: Frame, text: SharedBytes) -> Result<(), NoMemory>
     requires { frame.at + 1 ≤ usize.MAX }
     ensures shown { OnOk result ((board : State) → shown_machine board machine.new ≡ goes machine.old.legs (with_piece machine.old.out text) (moved (shown_frame board frame) (frame.at + 1) ∷ shown_frames board machine.old.frames)) }
@@ -156,7 +156,7 @@ fn give_next(machine: &mut Machine, mut frame: Frame, text: SharedBytes) -> Resu
     Ok(())
 }
 
-// An answer that isn't processed: its body as it stands, where the fetch succeeded.
+// An answer that isn't processed: its body as it is, if the fetch succeeded.
 fn give_plain(machine: &mut Machine, frame: Frame, answer: &Arc<Answer>) -> Result<(), NoMemory>
     requires { frame.at + 1 ≤ usize.MAX }
     ensures shown { OnOk result ((board : State) (r : Request) → shown_machine board machine.new ≡ plain_leg r (log_of board) machine.old.legs machine.old.out (moved (shown_frame board frame) (frame.at + 1) ∷ shown_frames board machine.old.frames) (arc_value answer.now).reply) }
@@ -171,7 +171,7 @@ fn give_plain(machine: &mut Machine, frame: Frame, answer: &Arc<Answer>) -> Resu
     Ok(())
 }
 
-// What the answer in the slot of this number comes to.
+// What the answer in the slot with this number results in.
 fn enter(
     machine: &mut Machine,
     setting: &Setting<'_>,

@@ -14,7 +14,7 @@ pub fn check(alloc: Global, row: &[u8], line: &mut Line) -> Option<()> {
     Some(())
 }
 
-/// A row is no test; the place in it is told, and what is wrong there.
+/// A row isn't a test; the place in it is printed, and what is wrong there.
 pub fn trouble_of(alloc: Global, row: &[u8], line: &mut Line) -> Option<()> {
     let trouble = expr_check::trouble_of(alloc, row).ok()?;
     line.display(&trouble.place);
@@ -23,7 +23,7 @@ pub fn trouble_of(alloc: Global, row: &[u8], line: &mut Line) -> Option<()> {
     Some(())
 }
 
-/// A row is a place, and behind a space the text; the line and the column are told.
+/// A row is a place and, after a space, the text; the line and the column are printed.
 pub fn position_of(row: &[u8], line: &mut Line) -> Option<()> {
     let (place, text) = pair(row);
     let position = template_check::position_of(text, number(place)?);
@@ -33,7 +33,7 @@ pub fn position_of(row: &[u8], line: &mut Line) -> Option<()> {
     Some(())
 }
 
-/// What is told of a file `f`, and behind it how many errors and warnings these are.
+/// What is reported of a file `f`, and then how many errors and warnings there are.
 pub fn report(alloc: Global, row: &[u8], line: &mut Line) -> Option<()> {
     let text = SharedBytes::copy_of(alloc, row).ok()?;
     let mut lines = Vec::new(alloc);

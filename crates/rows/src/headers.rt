@@ -34,7 +34,7 @@ pub fn token(row: &[u8], line: &mut Line) -> Option<()> {
     Some(())
 }
 
-/// A row is the name of a device, or `own` for this edge, whose field is told whole.
+/// A row is the name of a device, or `own` for this edge, whose field is printed whole.
 pub fn capability(alloc: Global, row: &[u8], line: &mut Line) -> Option<()> {
     if row == b"own".as_slice() {
         let (name, value) = own_capability();

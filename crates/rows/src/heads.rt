@@ -6,7 +6,7 @@ use page_http::Field;
 use std::alloc::Global;
 use std::str;
 
-/// A row is the method and, behind a space, the target; then come the lines, with a bar before each.
+/// A row is the method and, after a space, the target; then come the lines, with a bar before each.
 pub fn answer_head(alloc: Global, row: &[u8], line: &mut Line) -> Option<()> {
     let (method, row) = pair(row);
     let (target, lines) = around(b'|', row).unwrap_or((row, b""));
@@ -30,7 +30,7 @@ fn fields(alloc: Global, lines: &[u8]) -> Option<Vec<Field<'_>>> {
 }
 
 // The page that is asked for, and the host, the cookies, the referer, the agent, the language and the query, with a
-// bar behind each.
+// bar after each.
 fn push_asked(line: &mut Line, url: &PageUrl, request: &Request) {
     for field in [
         url.as_bytes(),
@@ -46,7 +46,7 @@ fn push_asked(line: &mut Line, url: &PageUrl, request: &Request) {
     }
 }
 
-/// A row is two bytes as numbers; those from the one to the other that are a host are told.
+/// A row is two bytes as numbers; those in this range that may be in a host are printed.
 pub fn hosts(alloc: Global, row: &[u8], line: &mut Line) -> Option<()> {
     let (first, last) = pair(row);
     for byte in number::<u8>(first)?..=number(last)? {

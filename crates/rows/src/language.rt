@@ -1,4 +1,4 @@
-//! References and tests, and what they are for a request.
+//! References and tests, and their values for a request.
 
 use crate::row::{Line, number, pair};
 use edge_types::{Octets, Request, SharedBytes};
@@ -18,7 +18,7 @@ pub fn parts_of(alloc: Global, text: &[u8]) -> Option<Vec<Part>> {
     esi_vars::parts(alloc, &text).ok()
 }
 
-/// The parts of a row, with a bar behind each.
+/// The parts of a row, with a bar after each.
 pub fn parts(alloc: Global, row: &[u8], line: &mut Line) -> Option<()> {
     for part in &parts_of(alloc, row)? {
         push_part(line, part);
@@ -40,7 +40,7 @@ fn push_part(line: &mut Line, part: &Part) {
     }
 }
 
-// A reference is told as it is written, with its default in quotes.
+// A reference is printed as it is written, with its default in quotes.
 fn push_reference(line: &mut Line, reference: &Reference) {
     line.push("$(");
     line.show(match &reference.variable {
@@ -65,7 +65,7 @@ fn push_reference(line: &mut Line, reference: &Reference) {
     line.push(")");
 }
 
-/// A row is the cookie, and behind a space the text.
+/// A row is the cookie and, after a space, the text.
 pub fn substitute(alloc: Global, row: &[u8], line: &mut Line) -> Option<()> {
     let (cookie, text) = pair(row);
     let request = request(alloc, cookie)?;
@@ -89,7 +89,7 @@ pub fn substitute_within(alloc: Global, row: &[u8], line: &mut Line) -> Option<(
     Some(())
 }
 
-/// A row is the cookie and the text; the reference's value is told and, behind a bar, what follows it.
+/// A row is the cookie and the text; the reference's value is printed and, after a bar, what follows it.
 pub fn reference_at(alloc: Global, row: &[u8], line: &mut Line) -> Option<()> {
     let (cookie, text) = pair(row);
     let request = request(alloc, cookie)?;
@@ -104,7 +104,7 @@ pub fn reference_at(alloc: Global, row: &[u8], line: &mut Line) -> Option<()> {
     Some(())
 }
 
-/// A row is the cookie, and behind a space the test.
+/// A row is the cookie and, after a space, the test.
 pub fn holds(alloc: Global, row: &[u8], line: &mut Line) -> Option<()> {
     let (cookie, text) = pair(row);
     let request = request(alloc, cookie)?;

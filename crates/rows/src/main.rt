@@ -1,5 +1,5 @@
 //! Tables of worked examples. Each argument names a table, a file of rows; the program prints each row and, after
-//! ` => `, what the call of the table's name answers.
+//! ` => `, what the call with the table's name returns.
 //!
 //! In a row `[[3*ab]]` is `ababab`, and then `\n`, `\t`, `\r` and `\xNN` are bytes. In an answer a line feed, a
 //! tabulator and a carriage return are written so, and of a long text the beginning and the length. What a row holds
@@ -70,7 +70,7 @@ fn answer(rt: &HostRuntime, table: &str, row: &[u8], line: &mut Line) -> Option<
     }
 }
 
-// The same for tables of texts of the language.
+// Does so for tables of texts of the language.
 fn answer_of_language(rt: &HostRuntime, table: &str, row: &[u8], line: &mut Line) -> Option<()> {
     let alloc = rt.alloc();
     match table {
@@ -92,7 +92,7 @@ fn answer_of_language(rt: &HostRuntime, table: &str, row: &[u8], line: &mut Line
     }
 }
 
-// The same for tables of pages, of what HTTP carries, and of the cache.
+// Does so for tables of pages, of what HTTP carries, and of the cache.
 fn answer_of_pages(rt: &HostRuntime, table: &str, row: &[u8], line: &mut Line) -> Option<()> {
     let alloc = rt.alloc();
     match table {

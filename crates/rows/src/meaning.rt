@@ -7,7 +7,7 @@ use edge_types::{Answer, Control, Octets, Outcome, PageUrl, Request, SharedBytes
 use std::alloc::Global;
 use std::sync::Arc;
 
-/// A row is a page, a template that includes nothing.
+/// A row is a page, a template without includes.
 pub fn plain_page(alloc: Global, row: &[u8], line: &mut Line) -> Option<()> {
     let url = url(alloc, b"http://a.test/p")?;
     let mut table = Table::new(alloc);
@@ -40,7 +40,7 @@ fn push_page(
     Some(())
 }
 
-/// A row is the URL of what includes, and behind a space the source.
+/// A row is the URL of the including template and, after a space, the source.
 pub fn leg_url(alloc: Global, row: &[u8], line: &mut Line) -> Option<()> {
     let (base, source) = pair(row);
     let base = url(alloc, base)?;

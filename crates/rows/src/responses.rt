@@ -101,7 +101,7 @@ fn next_frame(rt: &HostRuntime, body: &mut EdgeBody) -> Option<Bytes> {
     frame.ok()?.into_data().ok()
 }
 
-/// A row is a status by which the edge refuses a request.
+/// A row is a status with which the edge refuses a request.
 pub fn refusal_of(rt: &HostRuntime, row: &[u8], line: &mut Line) -> Option<()> {
     let status: u16 = number(row)?;
     match status {
@@ -113,8 +113,8 @@ pub fn refusal_of(rt: &HostRuntime, row: &[u8], line: &mut Line) -> Option<()> {
     }
 }
 
-/// A row is how many pieces a body has, all of them owners of the same bytes, and how many these are. The frames are
-/// counted, and their bytes.
+/// A row is the number of a body's pieces, all of them owners of the same bytes, and the number of these bytes. The
+/// frames are counted, and their bytes.
 pub fn frames(rt: &HostRuntime, row: &[u8], line: &mut Line) -> Option<()> {
     let outcome = Arc::new(rt.alloc(), shared_page(rt.alloc(), row)?).ok()?;
     let response = page_http::response_of(rt.alloc(), outcome).ok()?;

@@ -6,12 +6,12 @@ use std::fmt::{Debug, Display, Write};
 use std::str;
 use std::str::FromStr;
 
-// A longer text is cut off in an answer, behind so many of its characters.
+// A longer text is cut off in an answer, after this many of its characters.
 const LONG: usize = 1000;
 
 const SHOWN: usize = 40;
 
-/// An answer as far as it is written. A growth that is refused is told at the end, so that nobody who writes has to.
+/// An answer as far as it is written. An allocation that fails is reported at the end, so that no writer has to.
 #[derive(Drop)]
 pub struct Line {
     text: String,
@@ -26,7 +26,7 @@ impl Line {
         }
     }
 
-    /// The whole text; none where a growth was refused.
+    /// The whole text; `None` if an allocation failed.
     pub fn whole(&self) -> Option<&str> {
         if self.is_cut {
             None
@@ -56,14 +56,14 @@ impl Line {
         self.note(pushed);
     }
 
-    /// Pushes a space where something stands before it.
+    /// Pushes a space if something is before it.
     pub fn space(&mut self) {
         if !self.text.is_empty() {
             self.push(" ");
         }
     }
 
-    /// Pushes a word, behind a space where something stands before it.
+    /// Pushes a word, after a space if something is before it.
     pub fn word(&mut self, word: &str) {
         self.space();
         self.push(word);
@@ -110,7 +110,7 @@ pub fn written_out(alloc: Global, row: &str) -> Option<Vec<u8>> {
     Some(bytes)
 }
 
-// Pushes the byte whose name begins the part; gives what stands behind it.
+// Pushes the byte whose name begins the part; returns what follows it.
 fn push_escape<'a>(bytes: &mut Vec<u8>, part: &'a str) -> Option<&'a str> {
     let (byte, len) = match part.as_bytes() {
         [b'n', ..] => (b'\n', 1),
@@ -135,7 +135,7 @@ fn repeated(alloc: Global, row: &str) -> Option<String> {
     Some(text)
 }
 
-// Pushes what is repeated at the part's beginning, and what stands behind it.
+// Pushes what is repeated at the part's beginning, and what follows it.
 fn push_repeated(text: &mut String, part: &str) -> Option<()> {
     let (inner, rest) = part.split_once("]]")?;
     let (count, unit) = inner.split_once('*')?;
@@ -146,12 +146,12 @@ fn push_repeated(text: &mut String, part: &str) -> Option<()> {
     text.push_str(rest).ok()
 }
 
-/// The words of a row up to the first space, and those behind it.
+/// The words of a row up to the first space, and those after it.
 pub fn pair(row: &[u8]) -> (&[u8], &[u8]) {
     around(b' ', row).unwrap_or((row, b""))
 }
 
-/// The number that a word is.
+/// The number that a word writes.
 pub fn number<N: FromStr>(word: &[u8]) -> Option<N>
 where
     N: Drop,

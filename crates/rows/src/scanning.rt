@@ -4,7 +4,7 @@ use crate::row::{Line, number, pair};
 use esi_scanner::{Attributes, Kind, KnownAttribute, ScanFault, Tag, Token};
 use std::alloc::Global;
 
-/// A token is told by its place and what it is, a tag by its name and its attributes.
+/// A token is printed by its place and what it is, a tag by its name and its attributes.
 pub fn scan(alloc: Global, row: &[u8], line: &mut Line) -> Option<()> {
     match esi_scanner::scan(alloc, row) {
         Ok(tokens) => {
@@ -52,7 +52,7 @@ fn push_tag(line: &mut Line, tag: &Tag) {
     line.push(if tag.closed { "/" } else { "" });
 }
 
-/// What the first tag's attributes of a known name have as values.
+/// The values of those attributes of the first tag that have a known name.
 pub fn attributes(alloc: Global, row: &[u8], line: &mut Line) -> Option<()> {
     let tokens = esi_scanner::scan(alloc, row).ok()?;
     match &tokens.first()?.kind {
@@ -78,7 +78,7 @@ fn push_values(line: &mut Line, attributes: &Attributes) {
     }
 }
 
-/// A row is the place of an opener, and behind a space the text.
+/// A row is the place of an opener and, after a space, the text.
 pub fn trouble_at(alloc: Global, row: &[u8], line: &mut Line) -> Option<()> {
     let (at, text) = pair(row);
     let trouble = esi_scanner::trouble_at(alloc, text, number(at)?).ok()?;

@@ -1,4 +1,4 @@
-//! A shard of the cache: calls, and what each answers.
+//! A shard of the cache: calls, and what each returns.
 ghost use Rattle.std.specs.Prelude.{◌≡◌};
 ghost use Rattle.std.specs.Arc.{arc_value};
 
@@ -14,15 +14,15 @@ use surrogate_headers::{control, own_device};
 /// A row is the capacity of a new shard, and calls with `; ` between:
 ///
 /// ```text
-/// begin PATH NOW             the answer that is had, or who is to fetch it
-/// look PATH NOW              the answer that is had, if any
+/// begin PATH NOW             the answer that is there, or who is to fetch it
+/// look PATH NOW              the answer that is there, if any
 /// land FLIGHT NOW TOLD       the answer for those who wait for the flight
 /// pick FLIGHT                the answer for one of those who joined it
 /// ```
 ///
-/// A flight is named by how many left before it, and an answer by its body. What an origin told is `failed`, or the
-/// status, the body and the value of the field `Surrogate-Control`. The path `#` is the number of the next flight. What a
-/// call with `-` before it answers is left out.
+/// A flight is named by how many left before it, and an answer by its body. An origin's answer is `failed`, or the
+/// status, the body and the value of the field `Surrogate-Control`. The path `#` is the number of the next flight. The
+/// result of a call with `-` before it is left out.
 pub fn play(alloc: Global, row: &[u8], line: &mut Line) -> Option<()> {
     let (capacity, calls) = pair(row);
     let calls = str::from_utf8(calls).ok()?;
@@ -55,8 +55,8 @@ fn play_call(alloc: Global, desk: &mut Desk, call: &str, line: &mut Line) -> Opt
     Some(())
 }
 
-// A flight that a leader holds, by its number, with its ready made failed answer. It lands in a shard of its own where
-// it is let go.
+// A flight that a leader holds, by its number, with its ready made failed answer. It lands in a shard of its own when
+// it is dropped.
 struct Held {
     number: u64,
     flight: Flight,
@@ -78,7 +78,7 @@ impl Drop for Held {
 }
 
 impl Held {
-    // Lands with what was told, or with the failed answer.
+    // Lands with the origin's answer, or with the failed answer.
     fn land(self, shard: &mut Shard, told: Option<Arc<Answer>>, now: u64) -> Arc<Answer> {
         let Held {
             number: _,
@@ -93,8 +93,8 @@ impl Held {
     }
 }
 
-// A shard, what its leaders hold, and how many of them there were: a flight is told by how many left before it, which is
-// what a join answers.
+// A shard, what its leaders hold, and how many of them there were: a flight is named by how many left before it, which
+// is what a join returns.
 #[derive(Drop)]
 struct Desk {
     shard: Shard,
@@ -181,7 +181,7 @@ impl Desk {
     }
 }
 
-// What was told of a URL: an answer, or none where the origin failed.
+// What an origin answered for a URL: an answer, or none if the origin failed.
 fn told_answer(alloc: Global, url: &PageUrl, told: &[u8]) -> Option<Option<Arc<Answer>>> {
     if told == b"failed".as_slice() {
         return Some(None);

@@ -6,8 +6,8 @@ use edge_types::SharedBytes;
 use esi_tree::{Branch, Include, Node, TreeFault};
 use std::alloc::Global;
 
-/// The nodes of a template, a bar after each: text as it is and, inside a `vars`, behind a `~`; an include as `{src}`,
-/// `{src,alt}` or, where the page goes on without it, `{src,alt}?`; the others by their names, with what they hold in
+/// The nodes of a template, a bar after each: text as it is and, inside a `vars`, after a `~`; an include as `{src}`,
+/// `{src,alt}` or, if the page goes on without it, `{src,alt}?`; the others by their names, with what they contain in
 /// brackets; a swapped try as `swapped`; a comment or a remove as `-`.
 pub fn template(alloc: Global, row: &[u8], line: &mut Line) -> Option<()> {
     let text = SharedBytes::copy_of(alloc, row).ok()?;
@@ -18,7 +18,7 @@ pub fn template(alloc: Global, row: &[u8], line: &mut Line) -> Option<()> {
     Some(())
 }
 
-/// A row is the place of a fault, or `memory` where that ran out.
+/// A row is the place of a fault, or `memory` if that ran out.
 pub fn tree_fault(row: &[u8], line: &mut Line) -> Option<()> {
     line.display(&match row {
         b"memory" => TreeFault::NoMemory,

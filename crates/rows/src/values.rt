@@ -9,7 +9,7 @@ use std::alloc::Global;
 use std::str;
 use std::sync::Arc;
 
-/// The URL of a text, which has one.
+/// The URL of a text that is one.
 pub fn url(alloc: Global, text: &[u8]) -> Option<PageUrl> {
     PageUrl::parse(alloc, text).ok()?
 }
@@ -26,7 +26,7 @@ pub fn parse(alloc: Global, row: &[u8], line: &mut Line) -> Option<()> {
     Some(())
 }
 
-/// A row is the base, and behind a space the text.
+/// A row is the base and, after a space, the text.
 pub fn resolve(alloc: Global, row: &[u8], line: &mut Line) -> Option<()> {
     let (base, text) = pair(row);
     push_url(line, &url(alloc, base)?.resolve(alloc, text).ok()?);
@@ -51,7 +51,7 @@ pub fn query(row: &[u8], line: &mut Line) -> Option<()> {
     Some(())
 }
 
-/// A row is two bytes as numbers; those from the one to the other that are white space are told.
+/// A row is two bytes as numbers; those in this range that are white space are printed.
 pub fn white_space(row: &[u8], line: &mut Line) -> Option<()> {
     let (first, last) = pair(row);
     for byte in number::<u8>(first)?..=number(last)? {
@@ -62,7 +62,7 @@ pub fn white_space(row: &[u8], line: &mut Line) -> Option<()> {
     Some(())
 }
 
-/// The halves of a row round its first `=`, with a bar between.
+/// The halves of a row around its first `=`, with a bar between.
 pub fn halves(row: &[u8], line: &mut Line) -> Option<()> {
     match around(b'=', row) {
         Some((before, after)) => {
@@ -75,7 +75,7 @@ pub fn halves(row: &[u8], line: &mut Line) -> Option<()> {
     Some(())
 }
 
-/// A row is the URL, the status, `esi` or `plain`, and the type and, behind a bar, the body.
+/// A row is the URL, the status, `esi` or `plain`, and the type and, after a bar, the body.
 pub fn got(alloc: Global, row: &[u8], line: &mut Line) -> Option<()> {
     let (at, row) = pair(row);
     let (status, row) = pair(row);
@@ -117,8 +117,8 @@ fn push_answer(line: &mut Line, answer: &Answer) {
     line.show(answer.body());
 }
 
-/// A row is calls of a new table, with `; ` between: `insert` and `get`, each with a URL, which is the body of an
-/// answer too.
+/// A row is calls of a new table, with `; ` between: `insert` and `get`, each with a URL, which is also the body of
+/// an answer.
 pub fn table(alloc: Global, row: &[u8], line: &mut Line) -> Option<()> {
     let calls = str::from_utf8(row).ok()?;
     let mut table = Table::new(alloc);
@@ -155,7 +155,7 @@ fn insert(alloc: Global, table: &mut Table, url: PageUrl, line: &mut Line) -> Op
     Some(())
 }
 
-/// A row is a text, and calls of a new body with a bar before each: `FROM TO` puts this part of the text in, `mark` marks
+/// A row is a text, and calls of a new body with a bar before each: `FROM TO` adds this part of the text, `mark` marks
 /// a place, and `cut` goes back to it.
 pub fn body(alloc: Global, row: &[u8], line: &mut Line) -> Option<()> {
     let (whole, calls) = around(b'|', row)?;
@@ -184,7 +184,7 @@ fn push_part(body: &mut PageBody, whole: &SharedBytes, call: &[u8]) -> Option<()
     body.push(whole.part(from, to).ok()?).ok()
 }
 
-/// Pushes the pieces of a body, with a bar behind each.
+/// Pushes the pieces of a body, with a bar after each.
 pub fn push_pieces(line: &mut Line, body: &PageBody) {
     for number in 0..body.mark() {
         line.show(body.piece(number).unwrap_or(b""));
@@ -192,7 +192,7 @@ pub fn push_pieces(line: &mut Line, body: &PageBody) {
     }
 }
 
-/// The fault of a name.
+/// The fault with a name.
 pub fn fault_of(row: &[u8]) -> Option<PageFault> {
     match row {
         b"PageFetch" => Some(PageFault::PageFetch),

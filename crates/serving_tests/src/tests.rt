@@ -1,6 +1,6 @@
 // A case has answers with a `;` between two: a path, `failed` or a status with what its control says, and
-// the body. A control is `plain`, or `esi` where the body is processed; a number in its place is the
-// max-age, and one more behind a `+` the extension.
+// the body. A control is `plain`, or `esi` if the body is processed; a number in its place is the
+// max-age, and a second one after a `+` the extension.
 use edge_types::{Answer, Control, NoMemory, Octets, PageUrl, SharedBytes, Table};
 use fetch_workers::{Source, TableSource};
 use std::alloc::Global;
@@ -32,7 +32,7 @@ fn insert(rt: &impl Abort, alloc: Global, table: &mut Table, text: &str) -> Resu
     };
     let url = url(rt, alloc, path)?;
     let body = SharedBytes::copy_of(alloc, body.as_bytes())?;
-    // Nothing is got where there is no status.
+    // Nothing was fetched if there is no status.
     let status = status.parse::<u16>().unwrap_or(0);
     if let Some(answer) = Answer::got(url, status, Octets::empty(alloc), control, body) {
         assert!(rt; table.insert(Arc::new(alloc, answer)?).is_ok(), "{text}");
@@ -48,8 +48,8 @@ fn source_of(rt: &impl Abort, alloc: Global, case: &str) -> Result<TableSource, 
     Ok(TableSource::new(table))
 }
 
-// A table whose answers have to be waited for. It counts the fetches; finds no memory at that of a number,
-// and of each round of so many; and has nothing from one on.
+// A table whose answers have to be waited for. It counts the fetches; runs out of memory at the one with a number
+// in each round of this many; and has nothing from one on.
 #[derive(Drop)]
 struct Origin<'a> {
     table: TableSource,

@@ -1,4 +1,4 @@
--- What the directives of a value come to at a device.
+-- What the directives of a value mean for a device.
 use Rattle.std.specs.Prelude.{ℕ, Bool, true, false, ◌&&◌, ◌||◌, List, [], ◌∷◌, filter, bytes_eq, Option, Some, None, option_map, unwrap_or}
 use Rattle.std.specs.List.{filter_map, list_any}
 use Rattle.std.specs.Option.{option_map_or, option_or}
@@ -10,7 +10,7 @@ use Rattle.edge_types.specs.Blanks.{trimmed}
 use Rattle.surrogate_headers.specs.Cut.{parts_of}
 use Rattle.surrogate_headers.specs.Directive.{Target, Every, Device, Directive, directive_of}
 
--- the directives among the parts, in order; a part that is none is passed over
+-- the directives among the parts, in order; a part that isn't one is skipped
 abbrev pub directives_among : List (List ℕ) → List Directive
 directives_among parts = filter_map (λ part. directive_of (trimmed part)) parts
 
@@ -28,7 +28,7 @@ abbrev pub is_unaimed : Target → Bool
 is_unaimed Every = true
 is_unaimed (Device token) = false
 
--- what directives of one name say: nothing of another name
+-- what directives with one name say: nothing under another name
 abbrev pub is_no_store : Asks → Bool
 is_no_store NoStore = true
 is_no_store _ = false
@@ -46,16 +46,16 @@ abbrev pub first : {A : Type 0} → List A → Option A
 first [] = None
 first (x ∷ xs) = Some x
 
--- what the first of the directives says that says anything
+-- what the first directive says that says something of this kind
 abbrev pub first_said : {A : Type 0} → (Asks → Option A) → List Directive → Option A
 first_said say ds = first (filter_map (λ d. say d.asks) ds)
 
--- what counts: of the directives aimed at the device the first, else the first of the unaimed ones
+-- what counts: the first of the directives aimed at the device, else the first of the unaimed ones
 abbrev pub counting : {A : Type 0} → (Asks → Option A) → List ℕ → List Directive → Option A
 counting say device ds =
     option_or (first_said say (filter (λ d. is_aimed_at device d.target) ds)) (first_said say (filter (λ d. is_unaimed d.target) ds))
 
--- some directive forbids storing, which is aimed at the device or at none
+-- some directive forbids storing and is aimed at the device or at none
 abbrev pub forbids_storing : List ℕ → List Directive → Bool
 forbids_storing device ds = list_any (λ d. is_no_store d.asks && (is_aimed_at device d.target || is_unaimed d.target)) ds
 

@@ -5,7 +5,7 @@ use Rattle.std.specs.Borrow.{Bor}
 use Rattle.std.specs.Str.{byte}
 use Rattle.surrogate_headers.specs.declared.parts.Parts.{Parts}
 
--- the parts between the commas; inside quotes, which may never be closed, a comma cuts nothing
+-- the parts between the commas; inside quotes, which may never be closed, a comma doesn't cut
 abbrev pub parts_from : Bool → List ℕ → List (List ℕ)
 parts_from quoted [] = [] ∷ []
 parts_from true (b ∷ bs) = onto_first b (parts_from (not (b == byte "\"")) bs)

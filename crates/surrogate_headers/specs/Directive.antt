@@ -14,7 +14,7 @@ use Rattle.surrogate_headers.specs.declared.directive.Target.{Target as LentTarg
 use Rattle.surrogate_headers.specs.declared.directive.Target.TheVariants as lent
 use Rattle.surrogate_headers.specs.declared.directive.Directive.{Directive as LentDirective}
 
--- which devices a directive is aimed at: every one, or the one of this token
+-- which devices a directive is aimed at: every one, or the one with this token
 pub data Target : Type 0 where
   Every : Target
   Device : List ℕ → Target
@@ -27,7 +27,7 @@ pub record Directive : Type 0 where
 unfoldable pub ends_name : ℕ → Bool
 ends_name b = is_blank b || (b == byte "=" || b == byte ";")
 
--- the name that a text writes, capitals aside
+-- the name that a text writes, ignoring case
 unfoldable pub name_of : List ℕ → Option Name
 name_of text =
     if str_eq_ignore_ascii_case text (codes "no-store") || str_eq_ignore_ascii_case text (codes "no-store-remote") then Some name.NoStore
@@ -45,7 +45,7 @@ asked_by name.Content text = do
   value ← value_at text
   Some (Content (names_esi value.0), value.1)
 
--- the token behind a `;`, with or without blanks before it
+-- the token after a `;`, with or without blanks before it
 abbrev pub token_behind : List ℕ → Option Target
 token_behind [] = None
 token_behind (b ∷ bs) = if b == byte ";" then (if is_token (skip_blanks bs) then Some (Device (skip_blanks bs)) else None) else None
@@ -55,7 +55,7 @@ unfoldable pub target_of : List ℕ → Option Target
 target_of [] = Some Every
 target_of (b ∷ bs) = token_behind (skip_blanks (b ∷ bs))
 
--- the directive that a part of a header is, where it is well formed
+-- the directive that a part of a header is, if it is well formed
 unfoldable pub directive_of : List ℕ → Option Directive
 directive_of part = do
   let n = position_or_len ends_name part
@@ -64,7 +64,7 @@ directive_of part = do
   target ← target_of asked.1
   Some (record { asks = asked.0; target = target })
 
--- what the code's readers lend
+-- what the readers of the code lend
 abbrev pub shown_asked : Asks × Bor (List ℕ) → Asks × List ℕ
 shown_asked asked = (asked.0, asked.1.now)
 

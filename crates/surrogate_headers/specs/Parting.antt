@@ -8,7 +8,7 @@ abbrev pub is_open : List ℕ → Bool
 is_open [] = false
 is_open (b ∷ bs) = if b == byte "\"" then not (is_open bs) else is_open bs
 
--- each comma of the part stands inside quotes
+-- each comma of the part is inside quotes
 abbrev pub IsWhole : List ℕ → Type 0
 IsWhole part = (i : ℕ) → i < length part → slice_index part i ≡ byte "," → is_open (take i part) ≡ true
 

@@ -12,18 +12,18 @@ use Rattle.edge_types.specs.Blanks.{is_blank}
 use Rattle.surrogate_headers.specs.Parameter.{ends_value, max_seconds, names_esi}
 use Rattle.surrogate_headers.specs.Directive.{Target, Every, Device, Directive, directive_of}
 
--- each byte of the text passes the test, and none does
+-- each byte of the text passes the test, and no byte does
 abbrev pub EachPasses : (ℕ → Bool) → List ℕ → Type 0
 EachPasses p text = list_all p text ≡ true
 
 abbrev pub NonePasses : (ℕ → Bool) → List ℕ → Type 0
 NonePasses p text = list_all (λ b. not (p b)) text ≡ true
 
--- the text is this name, capitals aside
+-- the text is this name, ignoring case
 abbrev pub IsNamed : List ℕ → List ℕ → Type 0
 IsNamed text name = str_eq_ignore_ascii_case text name ≡ true
 
--- a value between quotes, with none in it
+-- a value between quotes, without a quote in it
 pub record SpellsQuoted (spelling value : List ℕ) : Type 0 where
   pub spelled : spelling ≡ byte "\"" ∷ (value ++ byte "\"" ∷ [])
   pub no_quote : NonePasses (λ b. b == byte "\"") value
@@ -67,13 +67,13 @@ pub record SpellsParameter (text name value : List ℕ) : Type 0 where
   pub named : IsNamed front name
   pub spelled : SpellsValue back value
 
--- a name, with its value where it has one
+-- a name, with its value if it has one
 abbrev pub SpellsAsks : List ℕ → Asks → Type 0
 SpellsAsks text NoStore = IsNamed text (codes "no-store") ⊎ IsNamed text (codes "no-store-remote")
 SpellsAsks text (MaxAge age) = (value : List ℕ) × SpellsParameter text (codes "max-age") value × SpellsAge value age
 SpellsAsks text (Content esi) = (value : List ℕ) × SpellsParameter text (codes "content") value × (esi ≡ names_esi value)
 
--- a `;` and a token, with any blanks round the `;`
+-- a `;` and a token, with any blanks around the `;`
 pub record SpellsDevice (text token : List ℕ) : Type 0 where
   pub before : List ℕ
   pub after : List ℕ
@@ -86,7 +86,7 @@ abbrev pub SpellsTarget : List ℕ → Target → Type 0
 SpellsTarget text Every = text ≡ []
 SpellsTarget text (Device token) = SpellsDevice text token
 
--- what is asked, and behind it the device where there is one
+-- what is asked, and after it the device if there is one
 pub record Spells (part : List ℕ) (directive : Directive) : Type 0 where
   pub front : List ℕ
   pub back : List ℕ
@@ -94,7 +94,7 @@ pub record Spells (part : List ℕ) (directive : Directive) : Type 0 where
   pub asks : SpellsAsks front directive.asks
   pub target : SpellsTarget back directive.target
 
--- What is read is spelled so, and what is spelled so is read.
+-- What is read is spelled by the text, and what is spelled is read.
 pub record ReadsDirectives : Type 0 where
   pub sound : (part : List ℕ) (directive : Directive) → directive_of part ≡ Some directive → Spells part directive
   pub complete : (part : List ℕ) (directive : Directive) → Spells part directive → directive_of part ≡ Some directive

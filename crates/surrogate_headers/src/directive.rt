@@ -1,4 +1,5 @@
-// A directive: what it asks, and which device it is aimed at.
+//! A directive: what it asks, and which device it is aimed at.
+
 ghost use Rattle.std.specs.Prelude.{◌≡◌, ◌≤◌, length, bytes_eq, IfSome};
 ghost use Rattle.std.specs.List.{position_or_len};
 ghost use Rattle.std.specs.Option.{option_map};
@@ -23,7 +24,7 @@ enum Name {
 pub(crate) enum Asks {
     /// Not to store the answer.
     NoStore,
-    /// To hold the answer fresh for so long.
+    /// To hold the answer fresh for this long.
     MaxAge(Age),
     /// To process the body as an ESI template, or not to.
     Content(bool),
@@ -33,7 +34,7 @@ pub(crate) enum Asks {
 #[derive(Clone, Copy, Drop)]
 pub(crate) enum Target<'a> {
     Every,
-    /// The one of this token.
+    /// The one with this token.
     Device(&'a [u8]),
 }
 
@@ -51,7 +52,7 @@ fn ends_name(byte: u8) -> bool
     is_blank(byte) || byte == b'=' || byte == b';'
 }
 
-// How many bytes stand before the first that ends a name.
+// How many bytes are before the first that ends a name.
 fn name_len(part: &[u8]) -> usize
     ensures value { result ≡ position_or_len spec.ends_name part.now }
     ensures within { result ≤ length part.now }
@@ -70,7 +71,7 @@ fn is_named(text: &[u8], name: &[u8]) -> bool
     text.eq_ignore_ascii_case(name)
 }
 
-// The name that a text writes, capitals aside.
+// The name that a text writes, ignoring case.
 #[tactic(auto, unfolding(crate::specs::Directive::name_of))]
 fn name_of(text: &[u8]) -> Option<Name>
     ensures { result ≡ name_of text.now }
@@ -104,7 +105,7 @@ fn asked_by(name: Name, text: &[u8]) -> Option<(Asks, &[u8])>
     }
 }
 
-// The token behind a `;`, with or without blanks before it.
+// The token after a `;`, with or without blanks before it.
 fn token_behind(text: &[u8]) -> Option<Target<'_>>
     ensures { option_map shown_target result ≡ token_behind text.now }
 {
@@ -130,7 +131,7 @@ fn target_of(text: &[u8]) -> Option<Target<'_>>
     token_behind(skip_blanks(text))
 }
 
-/// The directive that a part of a header is, where it is well formed.
+/// The directive that a part of a header is, if it is well formed.
 #[tactic(auto, unfolding(crate::specs::Directive::directive_of))]
 pub(crate) fn directive_of(part: &[u8]) -> Option<Directive<'_>>
     ensures { option_map shown_directive result ≡ directive_of part.now }

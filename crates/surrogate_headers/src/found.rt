@@ -1,4 +1,5 @@
-// What was found so far among a value's directives.
+//! What was found so far among a value's directives.
+
 ghost use Rattle.std.specs.Prelude.{◌≡◌, ℕ, List, []};
 ghost use Rattle.std.specs.Option.{option_or};
 ghost use Rattle.surrogate_headers.specs.Directive.{shown_target};
@@ -15,7 +16,7 @@ pub(crate) enum Aim {
     Anywhere,
 }
 
-/// How a target concerns a device; `None` where it is another device's.
+/// How a target concerns a device; `None` if it is another device's.
 pub(crate) fn aim_of(target: Target<'_>, device: &[u8]) -> Option<Aim>
     ensures { result ≡ spec.aim_of (shown_target target.entry) device.now }
 {
@@ -43,7 +44,7 @@ impl<T: Copy> Choice<T> {
         }
     }
 
-    // The first of each kind stays.
+    // The first of each kind is kept.
     fn offered(self, aim: Aim, value: T) -> Choice<T>
         ensures { result ≡ spec.offered self aim value }
     {
@@ -85,7 +86,7 @@ impl Found {
         }
     }
 
-    /// Takes note of what one more directive asks that concerns the device.
+    /// Records what one more directive asks that concerns the device.
     pub(crate) fn note(&mut self, asks: Asks, aim: Aim)
         ensures { self.new ≡ spec.noted self.old asks aim }
     {
@@ -96,7 +97,7 @@ impl Found {
         }
     }
 
-    /// What is asked where no directive follows.
+    /// What is asked if no more directives follow.
     #[tactic(auto, unfolding(crate::specs::Found::settled))]
     pub(crate) fn control(&self) -> Control
         ensures { (device : List ℕ) → result ≡ spec.settled self.now device [] }

@@ -9,7 +9,7 @@ pub fn values_are_cut_outside_quotes()
     ensures { CutsValues }
 {}
 
-/// A part that is read as a directive is spelled as one, and each spelling is read so.
+/// A part that is read as a directive is spelled as one, and each spelling is read as its directive.
 ///
 /// Source: Edge Architecture Specification 1.0, "Surrogate-Control Header".
 pub fn directives_are_read_as_spelled()

@@ -1,4 +1,4 @@
-//! The headers by which an origin and an edge talk of templates: `Surrogate-Control` is read, and
+//! The headers by which an origin and an edge negotiate templates: `Surrogate-Control` is read, and
 //! `Surrogate-Capability` is written.
 //!
 //! Source: Edge Architecture Specification 1.0.

@@ -1,4 +1,5 @@
-// The parameter of a directive: the value after its name's `=`.
+//! The parameter of a directive: the value after its name's `=`.
+
 ghost use Rattle.std.specs.Prelude.{◌≡◌, ◌==◌, ◌<◌, ◌≤◌, length, position, bytes_eq, codes, IfSome};
 ghost use Rattle.std.specs.List.{position_or_len};
 ghost use Rattle.std.specs.Option.{option_map};
@@ -29,7 +30,7 @@ fn ends_value(byte: u8) -> bool
     is_ws(byte) || matches!(byte, b',' | b';' | b'"')
 }
 
-// How many bytes stand before the first that ends a value.
+// How many bytes are before the first that ends a value.
 fn bare_len(text: &[u8]) -> usize
     ensures value { result ≡ position_or_len spec.ends_value text.now }
     ensures within { result ≤ length text.now }
@@ -89,7 +90,7 @@ fn seconds_of(digits: &[u8]) -> Option<u32>
         if !digit.is_ascii_digit() {
             return None;
         }
-        // Cut back at each digit, so that no further one wraps.
+        // Cut back at each digit, so that no later one overflows.
         total = total
             .saturating_mul(10)
             .saturating_add(u32::from(*digit - b'0'))

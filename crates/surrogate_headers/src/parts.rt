@@ -1,4 +1,5 @@
-// The parts of a header's value, one after another.
+//! The parts of a header's value, one after another.
+
 ghost use Rattle.std.specs.Prelude.{◌≡◌, ◌∷◌};
 ghost use Rattle.std.specs.Iterator.{YieldsFirstRef, item_count};
 ghost use Rattle.surrogate_headers.specs.Cut.{parts_of, parts_after, parts_left};

@@ -1,17 +1,18 @@
-// What the edge tells an origin that it can do.
+//! What the edge says to an origin that it can do.
+
 ghost use Rattle.std.specs.Prelude.{◌≡◌, IfOk, IsTrue};
 ghost use Rattle.surrogate_headers.specs.Token.{capability_of, is_token};
 
 use edge_types::NoMemory;
 use std::alloc::Global;
 
-// The two specifications that a device keeps to, as the value of its token.
+// The two specifications that a device supports, as the value of its token.
 const CAPABILITIES: &[u8] = b"=\"Surrogate/1.0 ESI/1.0\"";
 
 /// Writes the value of `Surrogate-Capability` for a device.
 ///
 /// It is the device's token, then `="Surrogate/1.0 ESI/1.0"`. `is_token` tests whether a name can
-/// be a device's. The one refusal is want of memory, which leaves nothing.
+/// be a device's. The only refusal is out of memory, which leaves nothing behind.
 ///
 /// Source: Edge Architecture Specification 1.0, "Surrogate-Capability Request Header".
 pub fn capability(alloc: Global, device: &[u8]) -> Result<Vec<u8>, NoMemory>

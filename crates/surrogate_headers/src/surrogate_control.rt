@@ -1,4 +1,5 @@
-// What an origin asks of the edge.
+//! What an origin asks of the edge.
+
 ghost use Rattle.std.specs.Prelude.{◌≡◌, ℕ, List, ◌∷◌};
 ghost use Rattle.surrogate_headers.specs.Control.{control_of, directives_among};
 ghost use Rattle.surrogate_headers.specs.Found.{settled};
@@ -13,7 +14,7 @@ use edge_types::{Control, trimmed};
 /// `value` is the raw value of the field, `device` the raw token of the device; ages are seconds.
 /// The value is cut into directives at each comma outside quotes; a quote that isn't closed reaches
 /// to the end. A malformed directive, an unknown one and one that is aimed at another device are
-/// passed over. Of several with one name the first that is aimed at this device counts, else the
+/// skipped. Of several with one name the first that is aimed at this device counts, else the
 /// first that is aimed at none. More seconds than `MAX_SECONDS` count as that many.
 ///
 /// Takes no memory.
@@ -30,7 +31,7 @@ pub fn control(value: &[u8], device: &[u8]) -> Control
     found.control()
 }
 
-// Takes note of one more part, so that only those after it are still to be read.
+// Records one more part, so that only those after it are still to be read.
 fn note_part(found: &mut Found, part: &[u8], device: &[u8])
     ensures { (parts : List (List ℕ))
         → settled found.new device.now (directives_among parts)

@@ -1,9 +1,10 @@
-// The device that this edge is: the token by which origins aim at it, and the line by which it says
-// what it can do.
+//! The device that this edge is: the token by which origins aim at it, and the field by which it says
+//! what it can do.
+
 ghost use Rattle.std.specs.Prelude.{◌≡◌, codes};
 ghost use Rattle.surrogate_headers.specs.Token.{capability_of, own_device};
 
-/// Tells the token of this edge, for which it reads `Surrogate-Control`.
+/// Returns the token of this edge, for which it reads `Surrogate-Control`.
 ///
 /// Takes no memory.
 ///
@@ -14,7 +15,7 @@ pub fn own_device() -> &'static [u8]
     b"edge1"
 }
 
-/// Tells the field by which this edge says to origins what it can do: its name in lower case, and
+/// Returns the field by which this edge says to origins what it can do: its name in lower case, and
 /// its value, which is what `capability` writes for the edge's own token.
 ///
 /// Takes no memory.

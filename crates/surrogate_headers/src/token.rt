@@ -1,8 +1,9 @@
-// Tokens, by which devices are named.
+//! Tokens, which name devices.
+
 ghost use Rattle.std.specs.Prelude.{◌≡◌};
 ghost use Rattle.surrogate_headers.specs.Token as spec;
 
-// The bytes of a token beside letters and digits.
+// The bytes of a token other than letters and digits.
 const TOKEN_MARKS: &[u8] = b"!#$%&'*+-.^_`|~";
 
 #[tactic(auto, unfolding(crate::specs::Token::is_token_byte))]
@@ -12,7 +13,7 @@ fn is_token_byte(byte: u8) -> bool
     byte.is_ascii_alphanumeric() || TOKEN_MARKS.contains(&byte)
 }
 
-/// Tells whether a text is a token, by which a device can be named.
+/// Whether a text is a token, by which a device can be named.
 ///
 /// A token is one or more letters, digits and bytes of ``!#$%&'*+-.^_`|~``.
 ///

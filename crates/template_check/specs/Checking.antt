@@ -14,12 +14,12 @@ use Rattle.template_check.specs.declared.reason.Reason.{Reason}
 use Rattle.template_check.specs.declared.reason.Reason.TheVariants.{Malformed, NoRun}
 use Rattle.template_check.specs.Reasons.{reason_of}
 
--- a text that has tokens is asked for the token at the place, any other for the tag at which it has none
+-- for a text that has tokens the reason of the token at the place, for any other that of the tag at which it has none
 abbrev pub reason_in : List ℕ → ℕ → Result (List Token) ℕ → Reason
 reason_in text place (Ok tokens) = reason_of tokens place
 reason_in text place (Err at) = Malformed (trouble_at text at)
 
--- why a text is no template from this place on
+-- why a text isn't a template from this place on
 abbrev pub reason_at : List ℕ → ℕ → Reason
 reason_at text place = reason_in text place (scan_of text)
 
@@ -27,22 +27,22 @@ abbrev fault_in : List ℕ → Result Elements ℕ → Option Fault
 fault_in text (Ok tree) = None
 fault_in text (Err place) = Some (record { place = place; reason = reason_at text place })
 
--- nothing where a text is a template, else the place from which on it is none, and why
+-- nothing if a text is a template, else the place from which on it isn't one, and why
 abbrev pub fault_of : List ℕ → Option Fault
 fault_of text = fault_in text (tree_of text)
 
--- where an author has to look: at the place of the trouble, unless that is what is lacking behind the tag
+-- where an author has to look: at the place of the trouble, unless that is what is missing after the tag
 abbrev place_in : ℕ → Trouble → Problem → ℕ
 place_in place trouble problem.TextEnds = place
 place_in place trouble problem.NoRemoveEnd = place
 place_in place trouble problem.NoBlockEnd = place
 place_in place trouble _ = trouble.place
 
--- where the first byte that is no white space stands, from a place on
+-- where the first byte that isn't white space is, from a place on
 abbrev pub visible_from : List ℕ → ℕ → ℕ
 visible_from text place = length text - length (after_ws (drop (min place (length text)) text))
 
--- and of text that can't stand there behind the white space before it
+-- and, for text that may not be there, after the white space before it
 abbrev place_by : List ℕ → ℕ → Reason → ℕ
 place_by text place (Malformed trouble) = place_in place trouble trouble.problem
 place_by text place (NoRun within) = visible_from text place

@@ -20,11 +20,11 @@ IsOneLine bytes = line_feeds bytes ≡ 0
 abbrev pub LineIsCounted : Type 0
 LineIsCounted = (text : List ℕ) (place : ℕ) → (position_of text place).line ≡ line_feeds (before text place) + 1
 
--- the column is one more than the bytes before the place, where they are one line
+-- the column is one more than the bytes before the place, if they are one line
 abbrev pub FirstLineIsCounted : Type 0
 FirstLineIsCounted = (text : List ℕ) (place : ℕ) → IsOneLine (before text place) → (position_of text place).column ≡ length (before text place) + 1
 
--- and else than those behind the last line feed before it
+-- and otherwise than those after the last line feed before it
 abbrev pub ColumnIsCounted : Type 0
 ColumnIsCounted =
     (text : List ℕ) (place : ℕ) (lines line : List ℕ) → before text place ≡ lines ++ byte "\n" ∷ line → IsOneLine line → (position_of text place).column ≡ length line + 1

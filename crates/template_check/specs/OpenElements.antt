@@ -1,4 +1,4 @@
--- Which elements are open behind tokens, of which the last stands first.
+-- Which elements are open after tokens, of which the last comes first.
 use Rattle.std.specs.Prelude.{ℕ, zero, suc, ◌+◌, ◌==◌, Bool, true, false, ◌&&◌, List, [], ◌∷◌, Option, Some, None, if◌then◌else◌}
 use Rattle.esi_scanner.specs.declared.element_name.ElementName.{ElementName}
 use Rattle.esi_scanner.specs.declared.token.Kind.{Kind}
@@ -7,12 +7,12 @@ use Rattle.esi_scanner.specs.declared.token.Token.{Token}
 use Rattle.esi_tree.specs.Reading.{is_same}
 use Rattle.template_check.specs.declared.elements.Opened.{Opened}
 
--- one less, where there is one
+-- one less, if there is one
 abbrev pub one_less : ℕ → Option ℕ
 one_less zero = None
 one_less (suc n) = Some n
 
--- How many elements that end behind a token began before it, where so many end behind it: none, and the token opens
+-- How many elements that end after a token began before it, if this many end after it: none, and the token opens
 -- one that doesn't end. A closed tag opens its element and ends it.
 abbrev pub ended_before : Kind → ℕ → Option ℕ
 ended_before (kinds.Open tag) n = if tag.closed then Some n else one_less n
@@ -27,13 +27,13 @@ opened_as _ place = None
 abbrev pub opened_by : Token → Option Opened
 opened_by token = opened_as token.kind token.span.start
 
--- whether a token ends an element of this name
+-- whether a token ends an element with this name
 abbrev pub ends : ElementName → Kind → Bool
 ends wanted (kinds.Open tag) = tag.closed && is_same tag.name wanted
 ends wanted (kinds.Close name) = is_same name wanted
 ends wanted _ = false
 
--- and one that stands directly in the innermost open element
+-- and one that is directly in the innermost open element
 abbrev pub ends_part : ElementName → Kind → ℕ → Bool
 ends_part wanted kind n = n == 0 && ends wanted kind
 
@@ -55,7 +55,7 @@ unfoldable pub open_count : ℕ → List Token → ℕ
 open_count n [] = 0
 open_count n (token ∷ tokens) = then_count (λ m. open_count m tokens) n (ended_before token.kind n)
 
--- whether an element of this name stands directly in the innermost
+-- whether an element with this name is directly in the innermost
 abbrev pub then_part : (ℕ → Bool) → Option ℕ → Bool
 then_part others None = false
 then_part others (Some n) = others n

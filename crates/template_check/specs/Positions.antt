@@ -3,13 +3,13 @@ use Rattle.std.specs.Prelude.{ℕ, ◌+◌, ◌==◌, List, [], ◌∷◌, take,
 use Rattle.std.specs.Str.{byte}
 use Rattle.template_check.specs.declared.position.Position.{Position}
 
--- the position behind one byte more: a line feed ends its line
+-- the position after one more byte: a line feed ends its line
 abbrev pub behind : ℕ → Position → Position
 behind b position =
     if b == byte "\n" then record { line = position.line + 1; column = 1 }
     else record { line = position.line; column = position.column + 1 }
 
--- the position behind these bytes
+-- the position after these bytes
 abbrev pub behind_all : List ℕ → Position → Position
 behind_all [] position = position
 behind_all (b ∷ bs) position = behind_all bs (behind b position)

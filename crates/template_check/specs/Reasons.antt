@@ -1,4 +1,4 @@
--- Why a text is no template from a place on. Tokens before a place are given with the last one first.
+-- Why a text isn't a template from a place on. Tokens before a place are given with the last one first.
 use Rattle.std.specs.Prelude.{ℕ, Bool, true, false, not, ◌&&◌, nat_lt, List, [], ◌∷◌, take, drop, reverse, Option, Some, None, if◌then◌else◌}
 use Rattle.std.specs.List.{prefix_len}
 use Rattle.esi_scanner.specs.declared.attribute.Attribute.{Attribute}
@@ -18,7 +18,7 @@ use Rattle.template_check.specs.declared.reason.Reason.{Reason}
 use Rattle.template_check.specs.declared.reason.Reason.TheVariants as why
 use Rattle.template_check.specs.OpenElements.{innermost, open_count, has_part}
 
--- whether an element may stand directly in another, by their names alone
+-- whether an element may be directly in another, by their names alone
 abbrev pub is_branch : ElementName → Bool
 is_branch element.When = true
 is_branch element.Otherwise = true
@@ -36,19 +36,19 @@ stands_in name element.Choose = is_branch name
 stands_in name element.Try = is_half name
 stands_in name _ = stands_in_run name
 
--- whether it may stand directly in the innermost open element
+-- whether it may be directly in the innermost open element
 abbrev pub may_stand : ElementName → Option Opened → Bool
 may_stand name None = stands_in_run name
 may_stand name (Some opened) = stands_in name opened.name
 
--- whether one of this name at most may stand in an element
+-- whether at most one with this name may be in an element
 abbrev pub is_single : ElementName → Bool
 is_single element.Otherwise = true
 is_single element.Attempt = true
 is_single element.Except = true
 is_single _ = false
 
--- why an element can't end: a choose lacks its `when`, a try its attempt, or else its except
+-- why an element can't end: its `when` is missing in a choose, its attempt in a try, or else its except
 abbrev pub ending_by : ElementName → Opened → List Token → Reason
 ending_by element.Choose opened before = why.NoWhen opened
 ending_by element.Try opened before = why.NoHalf (if has_part element.Attempt 0 before then element.Except else element.Attempt) opened
@@ -76,7 +76,7 @@ lacking_by name attributes place = why.NoWhen (record { name = name; place = pla
 abbrev pub lacking : Tag → ℕ → Reason
 lacking tag place = lacking_by tag.name tag.attributes place
 
--- why no template goes on with an opening tag at this place
+-- why no template continues with an opening tag at this place
 abbrev pub open_reason : Tag → ℕ → List Token → Reason
 open_reason tag place before =
     let within = innermost 0 before in
@@ -105,12 +105,12 @@ token_reason token before = by_kind token.kind token.span.start before
 abbrev pub count_before : List Token → ℕ → ℕ
 count_before tokens place = prefix_len (λ (token : Token). nat_lt token.span.start place) tokens
 
--- of the first token behind others, else of the text's end
+-- the reason of the first token after others, else of the text's end
 abbrev pub first_reason : List Token → List Token → Reason
 first_reason before [] = why.Ends (innermost 0 before)
 first_reason before (token ∷ tokens) = token_reason token before
 
--- why a text of these tokens is no template from this place on
+-- why a text with these tokens isn't a template from this place on
 abbrev pub reason_of : List Token → ℕ → Reason
 reason_of tokens place =
     let n = count_before tokens place in

@@ -1,4 +1,4 @@
--- What each reason says of the reading that stops there. Tokens before a place are given with the last one first.
+-- What each reason says about the reading that stops there. Tokens before a place are given with the last one first.
 use Rattle.std.specs.Prelude.{◌≡◌, ◌⊎◌, ℕ, ◌≤◌, Bool, true, false, not, List, [], ◌∷◌, ◌++◌, length, map, reverse, Option, Some, None, Ok, Err, if◌then◌else◌}
 use Rattle.std.specs.List.{list_any}
 use Rattle.esi_scanner.specs.declared.element_name.ElementName.{ElementName}
@@ -23,12 +23,12 @@ use Rattle.template_check.specs.declared.reason.Reason.{Reason}
 use Rattle.template_check.specs.declared.reason.Reason.TheVariants as why
 use Rattle.template_check.specs.Checking.{reason_at}
 
--- what has been read behind tokens, where a template goes on with each
+-- what has been read after tokens, if each can continue a template
 unfoldable pub state_behind : List ℕ → List Token → Option State
 state_behind text [] = Some start
 state_behind text (token ∷ before) = state_behind text before >>= λ state. after (item_of text token) state
 
--- The elements that are open behind tokens, the innermost first: a tag opens its element, a closed one ends it too, and
+-- The elements that are open after tokens, the innermost first: a tag opens its element, a closed one ends it too, and
 -- a closing tag ends the innermost.
 abbrev pub outer_of : List Opened → List Opened
 outer_of [] = []
@@ -63,7 +63,7 @@ has name (InChoose branches) = has_branch name branches
 has name (InTry halves) = has_half name halves
 has name _ = false
 
--- whether a try lacks such a part
+-- whether such a part of a try is missing
 abbrev pub lacks : ElementName → Halves → Bool
 lacks element.Attempt halves = lacks_attempt halves
 lacks element.Except halves = lacks_except halves
@@ -82,7 +82,7 @@ IsClosed opened frame token =
 abbrev pub Ends : Opened → Frame → Token → State → List Opened → Type 0
 Ends opened frame token state elements = Closes opened frame token state elements ⊎ IsClosed opened frame token
 
--- what a reason says of a token with which no template goes on behind this state, where these elements are open
+-- what a reason says about a token that can't continue a template after this state, if these elements are open
 abbrev pub Says : Reason → Token → State → List Opened → Type 0
 Says (why.NoRun within) token state elements = (within ≡ first elements) × (is_run state.frames ≡ false)
 Says why.TooDeep token state elements = OPEN_LIMIT ≤ length state.frames
@@ -106,7 +106,7 @@ Says (why.Ends within) token state elements = ⊥
 abbrev pub AreNamed : List Opened → State → Type 0
 AreNamed elements state = map (λ (opened : Opened). opened.name) elements ≡ map name_of state.frames
 
--- no template goes on with the token at this place, and the reason is true of it
+-- the token at this place can't continue a template, and the reason is true of it
 pub record StopsAt (text : List ℕ) (tokens : List Token) (place : ℕ) (reason : Reason) : Type 0 where
   pub front : List Token
   pub token : Token
@@ -119,7 +119,7 @@ pub record StopsAt (text : List ℕ) (tokens : List Token) (place : ℕ) (reason
   pub named : AreNamed (open_behind (reverse front)) state
   pub says : Says reason token state (open_behind (reverse front))
 
--- a template goes on with each token, and the text ends inside the element that the reason names
+-- each token can continue a template, and the text ends inside the element that the reason names
 pub record EndsInside (text : List ℕ) (tokens : List Token) (place : ℕ) (reason : Reason) : Type 0 where
   pub ends : place ≡ length text
   pub state : State
@@ -135,12 +135,12 @@ pub record IsMalformed (text : List ℕ) (place : ℕ) (reason : Reason) : Type 
   pub scanned : scan_of text ≡ Err place
   pub says : reason ≡ why.Malformed (trouble_at text place)
 
--- a text has tokens, and the reason is true of the first with which no template goes on, or of the text's end
+-- a text has tokens, and the reason is true of the first that can't continue a template, or of the text's end
 pub record IsRefused (text : List ℕ) (place : ℕ) (reason : Reason) : Type 0 where
   pub tokens : List Token
   pub scanned : scan_of text ≡ Ok tokens
   pub stops : StopsAt text tokens place reason ⊎ EndsInside text tokens place reason
 
--- where a text is no template, its reason is true of the reading that stops at its place
+-- if a text isn't a template, its reason is true of the reading that stops at its place
 abbrev pub ReasonsAreTrue : Type 0
 ReasonsAreTrue = (text : List ℕ) (place : ℕ) → tree_of text ≡ Err place → IsMalformed text place (reason_at text place) ⊎ IsRefused text place (reason_at text place)

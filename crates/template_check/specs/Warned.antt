@@ -1,4 +1,4 @@
--- What a text says that is no fault of a template, and hardly meant.
+-- Likely mistakes in a text that aren't faults of a template.
 use Rattle.std.specs.Prelude.{ℕ, ◌+◌, ◌-◌, Bool, true, false, not, ◌&&◌, nat_lt, List, [], ◌∷◌, ◌++◌, take, drop, length, min, codes, Option, Some, None, Result, Ok, Err, if◌then◌else◌}
 use Rattle.std.specs.Option.{option_or}
 use Rattle.std.specs.Str.{str_eq_ignore_ascii_case}
@@ -26,20 +26,20 @@ use Rattle.template_check.specs.Warnings.{is_of}
 
 -- ---- references
 
--- whether requests can say something of a variable
+-- whether requests can say something about a variable
 abbrev pub is_known : Variable → Bool
 is_known (variable.Unknown name) = false
 is_known _ = true
 
--- of a reference to a variable, known or not, where references are replaced or are not: outside `vars` the known ones
--- are meant to be replaced, inside it the unknown ones stand for nothing
+-- for a reference to a variable, known or not, where references are replaced or are not: outside `vars` the known ones
+-- are meant to be replaced, inside it the unknown ones denote nothing
 abbrev by_variable : Bool → Bool → Option Warning
 by_variable true true = None
 by_variable true false = Some warning.UnknownVariable
 by_variable false true = Some warning.IdleReference
 by_variable false false = None
 
--- of what begins with `$(`, by the reference that was found there
+-- for what begins with `$(`, by the reference that was found there
 abbrev pub judged : Bool → Option (Reference × List ℕ) → Option Warning
 judged true None = Some warning.NoReference
 judged false None = None
@@ -60,7 +60,7 @@ after_ws text = bytes.after_ws text
 abbrev pub begins_name : List ℕ → Bool
 begins_name text = str_eq_ignore_ascii_case (take (min (length text) 4) text) (codes "esi:")
 
--- what follows a `/` and the white space behind it
+-- what follows a `/` and the white space after it
 abbrev pub after_slash : List ℕ → List ℕ
 after_slash text = if bytes.begins_with text (codes "/") then after_ws (drop 1 text) else text
 
@@ -68,23 +68,23 @@ after_slash text = if bytes.begins_with text (codes "/") then after_ws (drop 1 t
 abbrev pub begins_tag : List ℕ → Bool
 begins_tag text = bytes.begins_with text (codes "<") && begins_name (after_slash (after_ws (drop 1 text)))
 
--- what the front of a text is warned of
+-- the warning about the front of a text
 abbrev pub text_warning : Bool → List ℕ → Option Warning
 text_warning replaced text = if begins_tag text then Some warning.TagInText else reference_warning replaced text
 
--- a warning at its place, where there is one
+-- a warning at its place, if there is one
 abbrev pub warned : ℕ → Option Warning → List Warned
 warned place None = []
 warned place (Some found) = record { place = place; warning = found } ∷ []
 
--- what each place of a text is warned of, of which the first is given
+-- the warnings about each place of a text, of which the first is given
 unfoldable pub text_warnings : Bool → ℕ → List ℕ → List Warned
 text_warnings replaced place [] = []
 text_warnings replaced place (b ∷ bs) = warned place (text_warning replaced (b ∷ bs)) ++ text_warnings replaced (place + 1) bs
 
 -- ---- tags
 
--- the first place of a value whose reference, or lack of one, is to be warned of; references in it are replaced
+-- the first warning about a reference in a value, or about a missing one; references in it are replaced
 unfoldable pub value_warning : List ℕ → Option Warning
 value_warning [] = None
 value_warning (b ∷ bs) = option_or (reference_warning true (b ∷ bs)) (value_warning bs)
@@ -96,8 +96,8 @@ warning_in (Some value) = value_warning value
 abbrev pub attribute_warning : Tag → KnownAttribute → Option Warning
 attribute_warning tag attribute = warning_in (value_of attribute tag.attributes)
 
--- what an inline's name is warned of: that it stands for no URL that is asked; names are tried at one page, since
--- relative ones stand for a URL at any
+-- the warning about an inline's name: that it doesn't denote a URL that is fetched; names are tried at one page, since
+-- relative ones denote a URL at any page
 abbrev by_url : Option (List ℕ) → Option Warning
 by_url None = Some warning.IdleName
 by_url (Some url) = None
@@ -126,11 +126,11 @@ values_by _ place tag = []
 abbrev pub value_warnings : ℕ → Tag → List Warned
 value_warnings place tag = values_by tag.name place tag
 
--- a warning, where a tag is to be warned so
+-- a warning, if it applies to a tag
 abbrev pub due : Tag → Warning → Option Warning
 due tag w = if is_of w tag then Some w else None
 
--- those of these that a tag is to be warned of
+-- those of these that apply to a tag
 unfoldable pub each_warning : ℕ → Tag → List Warning → List Warned
 each_warning place tag [] = []
 each_warning place tag (w ∷ ws) = warned place (due tag w) ++ each_warning place tag ws
@@ -139,7 +139,7 @@ each_warning place tag (w ∷ ws) = warned place (due tag w) ++ each_warning pla
 abbrev pub of_tags : List Warning
 of_tags = warning.OnError ∷ warning.UnknownAttribute ∷ warning.EmptySource ∷ warning.SecureSource ∷ warning.EmptyText ∷ []
 
--- all of a tag, at the tag's place
+-- all warnings about a tag, at the tag's place
 abbrev pub tag_warnings : ℕ → Tag → List Warned
 tag_warnings place tag = each_warning place tag of_tags ++ value_warnings place tag
 
@@ -151,7 +151,7 @@ spanned text span =
     let front = take (min span.end (length text)) text in
     drop (min span.start (length front)) front
 
--- of a token, by whether references are replaced there
+-- for a token, by whether references are replaced there
 abbrev by_kind : Bool → List ℕ → Span → Kind → List Warned
 by_kind replaced text span kinds.Text = text_warnings replaced span.start (spanned text span)
 by_kind replaced text span (kinds.Open tag) = tag_warnings span.start tag
@@ -160,7 +160,7 @@ by_kind replaced text span _ = []
 abbrev pub token_warnings : Bool → List ℕ → Token → List Warned
 token_warnings replaced text token = by_kind replaced text token.span token.kind
 
--- how many `vars` are open behind a token
+-- how many `vars` are open after a token
 abbrev is_vars : ElementName → Bool
 is_vars element.Vars = true
 is_vars _ = false
@@ -170,13 +170,13 @@ depth_behind depth (kinds.Open tag) = if is_vars tag.name && not tag.closed then
 depth_behind depth (kinds.Close name) = if is_vars name then depth - 1 else depth
 depth_behind depth _ = depth
 
--- of tokens before which so many `vars` are open: references are replaced where one is
+-- for tokens before which this many `vars` are open: references are replaced if one is
 unfoldable pub warnings_from : ℕ → List ℕ → List Token → List Warned
 warnings_from depth text [] = []
 warnings_from depth text (token ∷ tokens) =
     token_warnings (nat_lt 0 depth) text token ++ warnings_from (depth_behind depth token.kind) text tokens
 
--- of a text by its tokens; a text that has none is warned of nothing
+-- for a text by its tokens; a text without tokens gets no warnings
 abbrev warnings_in : List ℕ → Result (List Token) ℕ → List Warned
 warnings_in text (Ok tokens) = warnings_from 0 text tokens
 warnings_in text (Err at) = []

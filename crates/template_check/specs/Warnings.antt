@@ -1,4 +1,4 @@
--- What a tag says that is no fault, and hardly meant.
+-- Likely mistakes in a tag that aren't faults.
 use Rattle.std.specs.Prelude.{ℕ, Bool, true, false, not, ◌&&◌, ◌==◌, List, [], ◌∷◌, length, codes, bytes_eq, Option, Some, None, if◌then◌else◌}
 use Rattle.std.specs.Str.{byte}
 use Rattle.std.specs.List.{list_any}
@@ -22,16 +22,16 @@ abbrev pub is_when : ElementName → Bool
 is_when element.When = true
 is_when _ = false
 
--- whether a value is there that passes the test
+-- whether there is a value that passes the test
 abbrev passes : (List ℕ → Bool) → Option (List ℕ) → Bool
 passes test None = false
 passes test (Some value) = test value
 
--- an `onerror` other than the one value that says something
+-- an `onerror` other than the only value that has a meaning
 abbrev pub is_idle_onerror : List Attribute → Bool
 is_idle_onerror attributes = passes (λ value. not (bytes_eq value (codes "continue"))) (value_of known.OnError attributes)
 
--- a name that the language doesn't give
+-- a name that the language doesn't define
 abbrev unknown_name : AttributeName → Bool
 unknown_name (Known _) = false
 unknown_name (Other _) = true
@@ -39,18 +39,18 @@ unknown_name (Other _) = true
 abbrev pub is_unknown : Attribute → Bool
 is_unknown attribute = unknown_name attribute.name
 
--- a source that is empty, and one that is never asked
+-- a source that is empty, and one that is never fetched
 abbrev pub is_source_empty : List Attribute → Bool
 is_source_empty attributes = passes (λ value. length value == 0) (value_of known.Src attributes)
 
 abbrev pub is_source_secure : List Attribute → Bool
 is_source_secure attributes = passes (λ value. begins_with value (codes "https:")) (value_of known.Src attributes)
 
--- whether `''` stands at the front, and no bar before it
+-- whether `''` is at the front, with no bar before it
 abbrev pub begins_empty : Bool → List ℕ → Bool
 begins_empty behind_bar text = not behind_bar && begins_with text (codes "''")
 
--- whether `''` stands in a test, but directly behind a bar, where it is a default; whether a bar stands before the
+-- whether `''` is in a test other than directly after a bar, where it is a default; whether a bar is before the
 -- text is given
 unfoldable pub stands_empty : Bool → List ℕ → Bool
 stands_empty behind_bar [] = false
@@ -60,7 +60,7 @@ stands_empty behind_bar (b ∷ bs) =
 abbrev pub has_empty_text : List Attribute → Bool
 has_empty_text attributes = passes (stands_empty false) (value_of known.Test attributes)
 
--- whether a tag is to be warned of so; what isn't of tags alone never is
+-- whether this warning applies to a tag; never for one that isn't about tags alone
 abbrev pub is_of : Warning → Tag → Bool
 is_of warning.OnError tag = is_include tag.name && is_idle_onerror tag.attributes
 is_of warning.UnknownAttribute tag = list_any is_unknown tag.attributes

@@ -1,4 +1,5 @@
-// What is wrong with a text.
+//! What is wrong with a text.
+
 ghost use Rattle.std.specs.Prelude.{◌≡◌, IfOk};
 ghost use Rattle.template_check.specs.Checking.{reason_at, fault_of, visible_from, shown_at};
 ghost use Rattle.template_check.specs.Positions as positions;
@@ -15,12 +16,12 @@ use std::alloc::Global;
 /// What is wrong with a text.
 #[derive(Clone, Copy, Debug, Drop, PartialEq, Eq)]
 pub struct Fault {
-    /// Of the fault, in bytes from the text's start: the place that `template` tells.
+    /// Of the fault, in bytes from the text's start: the place that `template` reports.
     pub place: usize,
     pub reason: Reason,
 }
 
-// Where the first byte that is no white space stands, from this place on.
+// Where the first byte that isn't white space is, from this place on.
 fn visible_from(text: &[u8], place: usize) -> usize
     ensures { result ≡ visible_from text.now place }
 {
@@ -29,8 +30,8 @@ fn visible_from(text: &[u8], place: usize) -> usize
 }
 
 impl Fault {
-    // Where an author has to look: within a tag that can't be read at the trouble's own place, where there is one, and of
-    // text behind the white space before it.
+    // Where an author has to look: within a tag that can't be read at the trouble's own place, if there is one, and of
+    // text after the white space before it.
     fn shown_at(&self, text: &[u8]) -> usize
         ensures { result ≡ shown_at text.now self.now }
     {
@@ -46,7 +47,7 @@ impl Fault {
 
     /// The line and the column in this text at which an author has to look: those of the fault's place, but within a tag
     /// those of the name of the element or the attribute, or of the byte, that is wrong, and of text those of its first
-    /// byte that is no white space. Takes no memory.
+    /// byte that isn't white space. Takes no memory.
     pub fn position(&self, text: &[u8]) -> Position
         ensures { result ≡ positions.position_of text.now (shown_at text.now self.now) }
     {
@@ -54,7 +55,7 @@ impl Fault {
     }
 }
 
-// Why a text is no template from this place on.
+// Why a text isn't a template from this place on.
 fn reason_at(alloc: Global, text: &[u8], place: usize) -> Result<Reason, NoMemory>
     ensures { IfOk result (λ reason. reason ≡ reason_at text.now place) }
 {
@@ -65,8 +66,8 @@ fn reason_at(alloc: Global, text: &[u8], place: usize) -> Result<Reason, NoMemor
     }
 }
 
-/// Reads a text as a template, and tells what is wrong with it: nothing where it is one, else the place that `template`
-/// tells and why. `NoMemory` comes where a growth is refused.
+/// Reads a text as a template, and reports what is wrong with it: nothing if it is one, else the place that `template`
+/// reports and why. `NoMemory` if an allocation fails.
 ///
 /// A text with a fault is cut into tokens a second time.
 pub fn check(alloc: Global, text: &SharedBytes) -> Result<Option<Fault>, NoMemory>

@@ -1,10 +1,11 @@
-// Which elements are open behind tokens. The tokens are read backwards, from the last one on.
+//! Which elements are open after tokens. The tokens are read backwards, from the last one on.
+
 ghost use Rattle.std.specs.Prelude.{◌≡◌, ◌+◌, ◌^◌, ◌≤◌, ◌<◌, length, reverse, IfSome};
 ghost use Rattle.template_check.specs.OpenElements as spec;
 
 use esi_scanner::{ElementName, Kind, Token};
 
-/// An element whose end hasn't come.
+/// An element whose end hasn't come yet.
 #[derive(Clone, Copy, Debug, Drop, PartialEq, Eq)]
 pub struct Opened {
     pub name: ElementName,
@@ -12,7 +13,7 @@ pub struct Opened {
     pub place: usize,
 }
 
-// How many elements that end behind a token began before it; `None` where the token opens one that doesn't end.
+// How many elements that end after a token began before it; `None` if the token opens one that doesn't end.
 fn ended_before(kind: &Kind, ended: usize) -> Option<usize>
     requires { ended < 2 ^ 63 }
     ensures value { result ≡ spec.ended_before kind.now ended }
@@ -38,7 +39,7 @@ fn opened_by(token: &Token) -> Option<Opened>
     }
 }
 
-// Whether a token, seen from its end, ends an element of this name.
+// Whether a token, seen from its end, ends an element with this name.
 fn ends(wanted: ElementName, kind: &Kind) -> bool
     ensures { result ≡ spec.ends wanted kind.now }
 {
@@ -49,14 +50,14 @@ fn ends(wanted: ElementName, kind: &Kind) -> bool
     }
 }
 
-// The same of one that stands directly in the innermost open element.
+// Whether it ends such an element directly in the innermost open one.
 fn ends_part(wanted: ElementName, kind: &Kind, ended: usize) -> bool
     ensures { result ≡ spec.ends_part wanted kind.now ended }
 {
     ended == 0 && ends(wanted, kind)
 }
 
-/// The innermost element that is open behind these tokens.
+/// The innermost element that is open after these tokens.
 pub(crate) fn innermost(tokens: &[Token]) -> Option<Opened>
     ensures { result ≡ spec.innermost 0 (reverse tokens.now) }
 {
@@ -72,7 +73,7 @@ pub(crate) fn innermost(tokens: &[Token]) -> Option<Opened>
     None
 }
 
-/// How many elements are open behind these tokens.
+/// How many elements are open after these tokens.
 pub(crate) fn open_count(tokens: &[Token]) -> usize
     ensures { result ≡ spec.open_count 0 (reverse tokens.now) }
 {
@@ -89,7 +90,7 @@ pub(crate) fn open_count(tokens: &[Token]) -> usize
     count
 }
 
-/// Whether an element of this name stands directly in the innermost open one.
+/// Whether an element with this name is directly in the innermost open one.
 pub(crate) fn has_part(wanted: ElementName, tokens: &[Token]) -> bool
     ensures { result ≡ spec.has_part wanted 0 (reverse tokens.now) }
 {

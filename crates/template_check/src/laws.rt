@@ -7,7 +7,7 @@ pub fn lines_are_counted()
     ensures { LineIsCounted }
 {}
 
-/// Where no line feed stands before a place, its column is one more than the number of bytes before it.
+/// If no line feed is before a place, its column is one more than the number of bytes before it.
 pub fn columns_of_the_first_line_are_counted()
     ensures { FirstLineIsCounted }
 {}
@@ -17,7 +17,7 @@ pub fn columns_are_counted()
     ensures { ColumnIsCounted }
 {}
 
-/// Where a text is no template, the reason is true of the reading that stops at the fault's place.
+/// If a text isn't a template, the reason is true of the reading that stops at the fault's place.
 pub fn reasons_are_true()
     ensures { ReasonsAreTrue }
 {}

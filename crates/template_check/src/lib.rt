@@ -1,9 +1,9 @@
 //! What is wrong with a template, for the person who wrote it: where, and why.
 //!
-//! `report` prints both what `check` tells, a fault, and what `warnings` collects, what is no fault and hardly meant. A
-//! fault has the place that `template` of `esi_tree` tells, and a reason; `position_of` turns a place into a line and a
-//! column. `specs/Reasons.antt` says which reason a text has at a place, `specs/OpenElements.antt` which elements are
-//! open there, `specs/Warned.antt` what a text is warned of, and `specs/Positions.antt` what a line and a column are.
+//! `report` prints what `check` finds, a fault, and what `warnings` collects, likely mistakes that aren't faults. A
+//! fault has the place that `template` of `esi_tree` reports and a reason; `position_of` makes a line and a column of a
+//! place. `specs/Reasons.antt` says which reason a text has at a place, `specs/OpenElements.antt` which elements are
+//! open there, `specs/Warned.antt` which warnings a text gets, and `specs/Positions.antt` what a line and a column are.
 #![tactic(auto)]
 
 mod checker;

@@ -1,4 +1,5 @@
-// What is wrong with a text, in words.
+//! What is wrong with a text, in words.
+
 use crate::checker::Fault;
 use crate::elements::Opened;
 use crate::position::{Position, position_of};
@@ -27,7 +28,7 @@ fn is_word_byte(byte: u8) -> bool {
     byte.is_ascii_alphanumeric() || matches!(byte, b'-' | b'_' | b':' | b'.')
 }
 
-// How an attribute may look that an element needs.
+// What an attribute that an element needs may look like.
 fn example_of(name: KnownAttribute) -> &'static str {
     match name {
         KnownAttribute::Test => "test=\"$(HTTP_COOKIE{name})=='text'\"",
@@ -36,7 +37,7 @@ fn example_of(name: KnownAttribute) -> &'static str {
     }
 }
 
-// A part that an element lacks, with what it needs itself.
+// A part that is missing in an element, with what the part needs itself.
 fn part(name: ElementName) -> &'static str {
     match name {
         ElementName::When => "<esi:when test=\"..\">",
@@ -45,7 +46,7 @@ fn part(name: ElementName) -> &'static str {
     }
 }
 
-// The elements that alone can stand directly in this one; none where nothing can.
+// The only elements that may be directly in this one; `None` if none may.
 fn parts_of(name: ElementName) -> Option<&'static str> {
     match name {
         ElementName::Choose => Some("<esi:when> and <esi:otherwise>"),
@@ -54,7 +55,7 @@ fn parts_of(name: ElementName) -> Option<&'static str> {
     }
 }
 
-// The name that stands at a place.
+// The name that is at a place.
 fn word_at(text: &[u8], place: usize) -> &str {
     let (_, rest) = text.split_at(place.min(text.len()));
     let len = rest.iter().position(|byte| !is_word_byte(*byte));

@@ -1,33 +1,34 @@
-// Why a text is no template.
+//! Why a text isn't a template.
+
 use crate::elements::Opened;
 use esi_scanner::{ElementName, KnownAttribute, Trouble};
 use expr_check::TestTrouble;
 
-/// Why a text is no template from a place on.
+/// Why a text isn't a template from a place on.
 #[derive(Clone, Copy, Debug, Drop, PartialEq, Eq)]
 pub enum Reason {
     /// The tag there can't be read, or the block that begins there has no end.
     Malformed(Trouble),
-    /// Text or a `remove` that can't stand directly in the innermost open element.
+    /// Text or a `remove` that may not be directly in the innermost open element.
     NoRun(Option<Opened>),
     /// As many elements as may be open are open there.
     TooDeep,
-    /// The element can't stand directly in the innermost open one, or, where none is open, by itself.
+    /// The element may not be directly in the innermost open one, or, if none is open, on its own.
     Misplaced {
         name: ElementName,
         within: Option<Opened>,
     },
-    /// An element of this name stands in the innermost open one already, which takes one.
+    /// An element with this name is in the innermost open one already, which takes only one.
     Second {
         name: ElementName,
         within: Option<Opened>,
     },
-    /// The tag has no attribute of this name, which its element needs.
+    /// The tag has no attribute with this name, which its element needs.
     Lacks {
         name: ElementName,
         attribute: KnownAttribute,
     },
-    /// The attribute `test` is no test: how far it was read, in bytes of its value, and what is wrong there.
+    /// The attribute `test` isn't a test: how far it was read, in bytes of its value, and what is wrong there.
     BadTest(TestTrouble),
     /// The `choose` ends without a `when`.
     NoWhen(Opened),
@@ -38,7 +39,7 @@ pub enum Reason {
     },
     /// A closing tag where no element is open.
     Unopened(ElementName),
-    /// A closing tag of another element than the innermost open one.
+    /// A closing tag of an element other than the innermost open one.
     Crossed {
         name: ElementName,
         opened: Opened,

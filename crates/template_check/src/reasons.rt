@@ -1,4 +1,5 @@
-// Tells why no template goes on with a token.
+//! Says why no template continues with a token.
+
 ghost use Rattle.std.specs.Prelude.{◌≡◌, ◌≤◌, length, reverse, IfOk};
 ghost use Rattle.template_check.specs.Reasons as spec;
 
@@ -22,7 +23,7 @@ fn stands_in(name: ElementName, outer: ElementName) -> bool
     }
 }
 
-// Whether it may stand directly in the innermost opened element.
+// Whether it may be directly in the innermost opened element.
 fn may_stand(name: ElementName, within: Option<Opened>) -> bool
     ensures { result ≡ spec.may_stand name within }
 {
@@ -32,7 +33,7 @@ fn may_stand(name: ElementName, within: Option<Opened>) -> bool
     }
 }
 
-// Whether an element takes one of this name at most.
+// Whether an element takes at most one with this name.
 fn is_single(name: ElementName) -> bool
     ensures { result ≡ spec.is_single name }
 {
@@ -42,7 +43,7 @@ fn is_single(name: ElementName) -> bool
     )
 }
 
-// Why an element can't end. One of another name always can.
+// Why an element can't end. One with any other name always can.
 fn ending(opened: Opened, before: &[Token]) -> Reason
     ensures { result ≡ spec.ending opened (reverse before.now) }
 {
@@ -73,7 +74,7 @@ fn when_lacks(alloc: Global, attributes: &Attributes) -> Result<Reason, NoMemory
     }
 }
 
-// Why a tag opens no element that may stand there, or one that can't end at once.
+// Why a tag opens no element that may be there, or one that can't end at once.
 fn lacking(alloc: Global, tag: &Tag, place: usize) -> Result<Reason, NoMemory>
     ensures { IfOk result (λ reason. reason ≡ spec.lacking tag.now place) }
 {
@@ -96,7 +97,7 @@ fn lacking(alloc: Global, tag: &Tag, place: usize) -> Result<Reason, NoMemory>
     }
 }
 
-// Why no template goes on with an opening tag.
+// Why no template continues with an opening tag.
 fn open_reason(alloc: Global, tag: &Tag, place: usize, before: &[Token]) -> Result<Reason, NoMemory>
     ensures { IfOk result (λ reason. reason ≡ spec.open_reason tag.now place (reverse before.now)) }
 {
@@ -113,7 +114,7 @@ fn open_reason(alloc: Global, tag: &Tag, place: usize, before: &[Token]) -> Resu
     }
 }
 
-// Why no template goes on with a closing tag.
+// Why no template continues with a closing tag.
 fn close_reason(name: ElementName, before: &[Token]) -> Reason
     ensures { result ≡ spec.close_reason name (reverse before.now) }
 {
@@ -124,7 +125,7 @@ fn close_reason(name: ElementName, before: &[Token]) -> Reason
     }
 }
 
-// Why no template goes on with this token, behind those that stand before it.
+// Why no template continues with this token, after those that are before it.
 fn token_reason(alloc: Global, token: &Token, before: &[Token]) -> Result<Reason, NoMemory>
     ensures { IfOk result (λ reason. reason ≡ spec.token_reason token.now (reverse before.now)) }
 {
@@ -148,9 +149,9 @@ fn count_before(tokens: &[Token], place: usize) -> usize
     tokens.len()
 }
 
-/// Why no template goes on with the token at this place; behind all tokens, why the text can't end there.
+/// Why no template continues with the token at this place; past all tokens, why the text can't end there.
 ///
-/// `NoMemory` comes where a growth is refused.
+/// `NoMemory` if an allocation fails.
 pub(crate) fn reason_of(alloc: Global, tokens: &[Token], place: usize) -> Result<Reason, NoMemory>
     ensures { IfOk result (λ reason. reason ≡ spec.reason_of tokens.now place) }
 {

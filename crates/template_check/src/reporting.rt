@@ -1,4 +1,5 @@
-// Prints what is to be told of a text.
+//! Prints what is to be reported of a text.
+
 ghost use Rattle.std.specs.Prelude.{◌≡◌, ◌≤◌, IfOk, length};
 ghost use Rattle.template_check.specs.Checking.{fault_of};
 ghost use Rattle.template_check.specs.Report.{fault_count, told_of};
@@ -14,7 +15,7 @@ use std::io;
 use std::io::Write;
 use thiserror::Error;
 
-/// How much was told of a text.
+/// How much was reported of a text.
 #[derive(Clone, Copy, Debug, Drop, PartialEq, Eq)]
 pub struct Told {
     /// None or one: a text is read up to its first fault.
@@ -22,7 +23,7 @@ pub struct Told {
     pub warnings: usize,
 }
 
-/// Why not all could be told.
+/// Why not everything could be reported.
 #[derive(Clone, Copy, Debug, Drop, PartialEq, Eq, Error)]
 pub enum ReportFault {
     /// Also if a write, such as one to a buffer, runs out of memory.
@@ -48,7 +49,7 @@ impl From<io::Error> for ReportFault {
     }
 }
 
-// Prints the fault, where there is one.
+// Prints the fault, if there is one.
 fn report_fault<W: Write>(
     alloc: Global,
     writer: &mut W,
@@ -101,8 +102,8 @@ fn print_warnings<W: Write>(
     Ok(())
 }
 
-/// Prints what is to be told of a text of this name: a line for its fault, where it is no template, then one for each
-/// warning, in the text's order, `NAME:LINE:COLUMN: error: WORDS` and `NAME:LINE:COLUMN: warning: WORDS`.
+/// Prints what is to be reported of a text with this name: a line for its fault, if it isn't a template, then one for
+/// each warning, in the text's order: `NAME:LINE:COLUMN: error: WORDS` and `NAME:LINE:COLUMN: warning: WORDS`.
 pub fn report<W: Write>(
     alloc: Global,
     writer: &mut W,

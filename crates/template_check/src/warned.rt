@@ -1,4 +1,5 @@
-// Collects what is no fault of a template, and hardly meant.
+//! Collects likely mistakes in a template that aren't faults.
+
 ghost use Rattle.std.specs.Prelude.{◌≡◌, ◌≤◌, ◌<◌, ◌+◌, ◌^◌, ◌++◌, IfOk, OnOk, length};
 ghost use Rattle.esi_vars.specs.Shown.{shown_reference};
 ghost use Rattle.template_check.specs.Warned as spec;
@@ -9,22 +10,22 @@ use esi_scanner::{ElementName, Kind, KnownAttribute, ScanFault, Span, Tag, Token
 use esi_vars::{Reference, Variable, reference_at};
 use std::alloc::Global;
 
-/// A warning, and where it is due.
+/// A warning, and where it applies.
 #[derive(Clone, Copy, Debug, Drop, PartialEq, Eq)]
 pub struct Warned {
-    /// In bytes from the text's start: of the tag that is warned of, else of the byte in the text.
+    /// In bytes from the text's start: of the tag that the warning is about, else of the byte in the text.
     pub place: usize,
     pub warning: Warning,
 }
 
-// Whether requests can say something of a variable.
+// Whether requests can say something about a variable.
 fn is_known(variable: &Variable) -> bool
     ensures { result ≡ spec.is_known variable.now }
 {
     !matches!(variable, Variable::Unknown(_))
 }
 
-// What a reference is warned of, or its lack behind `$(`, where references are replaced or are not.
+// The warning about a reference, or about a missing one after `$(`, where references are replaced or are not.
 fn judged(replaced: bool, found: Option<(Reference, &[u8])>) -> Option<Warning>
     ensures { result ≡ spec.judged replaced (shown_reference found.entry) }
 {
@@ -42,7 +43,7 @@ fn judged(replaced: bool, found: Option<(Reference, &[u8])>) -> Option<Warning>
     }
 }
 
-// What the `$(` at the front of a text is warned of. Each reading ends before the second `$(` or quote behind it, so
+// The warning about the `$(` at the front of a text. Each reading ends before the second `$(` or quote after it, so
 // that all places of a text together take time in proportion to its length.
 fn reference_warning(
     alloc: Global,
@@ -58,7 +59,7 @@ fn reference_warning(
     }
 }
 
-// How many bytes of white space stand at the front.
+// How many bytes of white space are at the front.
 fn ws_len(text: &[u8]) -> usize
     ensures value { result ≡ spec.ws_len text.now }
     ensures within { result ≤ length text.now }
@@ -88,7 +89,7 @@ fn begins_name(text: &[u8]) -> bool
     front.eq_ignore_ascii_case(b"esi:")
 }
 
-// What follows the `/` of a closing tag and the white space behind it, where there is one.
+// What follows the `/` of a closing tag and the white space after it, if there is one.
 fn after_slash(text: &[u8]) -> &[u8]
     ensures { result.now ≡ spec.after_slash text.now }
 {
@@ -98,7 +99,7 @@ fn after_slash(text: &[u8]) -> &[u8]
     }
 }
 
-// Whether what stands at the front looks like a tag.
+// Whether the text at the front looks like a tag.
 fn begins_tag(text: &[u8]) -> bool
     ensures { result ≡ spec.begins_tag text.now }
 {
@@ -108,7 +109,7 @@ fn begins_tag(text: &[u8]) -> bool
     }
 }
 
-// What the front of a text is warned of.
+// The warning about the front of a text.
 fn text_warning(alloc: Global, replaced: bool, text: &[u8]) -> Result<Option<Warning>, NoMemory>
     ensures { IfOk result (λ found. found ≡ spec.text_warning replaced text.now) }
 {
@@ -119,7 +120,7 @@ fn text_warning(alloc: Global, replaced: bool, text: &[u8]) -> Result<Option<War
     }
 }
 
-// One more, where there is one.
+// Adds one more, if there is one.
 fn add(found: &mut Vec<Warned>, place: usize, warning: Option<Warning>) -> Result<(), NoMemory>
     ensures { OnOk result (found.new.items ≡ found.old.items ++ spec.warned place warning) }
 {
@@ -129,7 +130,7 @@ fn add(found: &mut Vec<Warned>, place: usize, warning: Option<Warning>) -> Resul
     Ok(())
 }
 
-// Those of a text that begins at a place.
+// Adds the warnings about a text that begins at a place.
 fn add_text(
     alloc: Global,
     found: &mut Vec<Warned>,
@@ -148,7 +149,7 @@ fn add_text(
     Ok(())
 }
 
-// The first of the references in a value, where they are replaced.
+// The warning about the first reference in a value that needs one, where references are replaced.
 fn value_warning(alloc: Global, value: &[u8]) -> Result<Option<Warning>, NoMemory>
     ensures { IfOk result (λ found. found ≡ spec.value_warning value.now) }
 {
@@ -162,7 +163,7 @@ fn value_warning(alloc: Global, value: &[u8]) -> Result<Option<Warning>, NoMemor
     Ok(None)
 }
 
-// The same of an attribute, where the tag has it.
+// The warning about the references in an attribute, if the tag has it.
 fn attribute_warning(
     alloc: Global,
     tag: &Tag,
@@ -176,10 +177,10 @@ fn attribute_warning(
     }
 }
 
-// A page at which the names of inlines are tried: relative ones stand for a URL at any.
+// A page at which the names of inlines are tried: relative ones denote a URL at any page.
 const SOME_PAGE: &[u8] = b"http://localhost/";
 
-// What an inline's name is warned of: that it stands for no URL that is asked.
+// The warning about an inline's name that doesn't denote a URL that the edge fetches.
 fn name_warning(alloc: Global, name: &[u8]) -> Result<Option<Warning>, NoMemory>
     ensures { IfOk result (λ found. found ≡ spec.name_warning name.now) }
 {
@@ -192,7 +193,7 @@ fn name_warning(alloc: Global, name: &[u8]) -> Result<Option<Warning>, NoMemory>
     }
 }
 
-// The same of a tag, where it has a name.
+// The warning about the name of a tag, if it has one.
 fn inline_warning(alloc: Global, tag: &Tag) -> Result<Option<Warning>, NoMemory>
     ensures { IfOk result (λ found. found ≡ spec.inline_warning tag.now) }
 {
@@ -202,7 +203,7 @@ fn inline_warning(alloc: Global, tag: &Tag) -> Result<Option<Warning>, NoMemory>
     }
 }
 
-// Those of the values in which references are replaced, and of names.
+// Adds the warnings about the values in which references are replaced, and about names.
 fn add_values(
     alloc: Global,
     found: &mut Vec<Warned>,
@@ -230,7 +231,7 @@ fn add_values(
     }
 }
 
-// A warning, where a tag is to be warned so.
+// A warning, if it applies to a tag.
 fn due(tag: &Tag, warning: Warning) -> Option<Warning>
     ensures { result ≡ spec.due tag.now warning }
 {
@@ -241,7 +242,7 @@ fn due(tag: &Tag, warning: Warning) -> Option<Warning>
     }
 }
 
-// Those of these that a tag is to be warned of.
+// Adds those of these that apply to a tag.
 fn add_each(
     found: &mut Vec<Warned>,
     place: usize,
@@ -256,7 +257,7 @@ fn add_each(
     Ok(())
 }
 
-// Those of a tag.
+// Adds the warnings about a tag.
 fn add_tag(alloc: Global, found: &mut Vec<Warned>, place: usize, tag: &Tag) -> Result<(), NoMemory>
     ensures { OnOk result (found.new.items ≡ found.old.items ++ spec.tag_warnings place tag.now) }
 {
@@ -274,7 +275,7 @@ fn spanned(text: &[u8], span: Span) -> &[u8]
     run
 }
 
-// Those of a token, by whether it stands inside `vars`.
+// Adds the warnings about a token, by whether it is inside `vars`.
 fn add_token(
     alloc: Global,
     found: &mut Vec<Warned>,
@@ -297,7 +298,7 @@ fn add_token(
     }
 }
 
-// How many `vars` are open behind a token.
+// How many `vars` are open after a token.
 fn depth_behind(depth: usize, kind: &Kind) -> usize
     requires { depth < 2 ^ 63 }
     ensures value { result ≡ spec.depth_behind depth kind.now }
@@ -310,7 +311,7 @@ fn depth_behind(depth: usize, kind: &Kind) -> usize
     }
 }
 
-// Those of tokens.
+// The warnings about tokens.
 fn token_warnings(alloc: Global, text: &[u8], tokens: &[Token]) -> Result<Vec<Warned>, NoMemory>
     ensures { IfOk result (λ found. found.items ≡ spec.warnings_from 0 text.now tokens.now) }
 {
@@ -323,8 +324,8 @@ fn token_warnings(alloc: Global, text: &[u8], tokens: &[Token]) -> Result<Vec<Wa
     Ok(found)
 }
 
-/// What a text says that is no fault of a template, and hardly meant, in the text's order. Nothing is told of a text
-/// that has no tokens. `NoMemory` comes where a growth is refused.
+/// The likely mistakes in a text that aren't faults of a template, in the text's order. Nothing is reported of a text
+/// that has no tokens. `NoMemory` if an allocation fails.
 pub fn warnings(alloc: Global, text: &[u8]) -> Result<Vec<Warned>, NoMemory>
     ensures { IfOk result (λ found. found.items ≡ spec.warnings_of text.now) }
 {

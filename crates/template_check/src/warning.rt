@@ -1,4 +1,5 @@
-// What is no fault of a template, and hardly meant.
+//! Likely mistakes that aren't faults of a template.
+
 ghost use Rattle.std.specs.Prelude.{◌≡◌, false};
 ghost use Rattle.std.specs.List.{list_any};
 ghost use Rattle.template_check.specs.Warnings as spec;
@@ -7,28 +8,28 @@ use esi_scanner::{Attribute, AttributeName, Attributes, ElementName, KnownAttrib
 use std::fmt;
 use std::fmt::Write;
 
-/// What a template says that is no fault, and hardly meant.
+/// A likely mistake in a template that isn't a fault.
 #[derive(Clone, Copy, Debug, Drop, PartialEq, Eq)]
 pub enum Warning {
     /// An `onerror` of an include that isn't `continue`: it counts as absent.
     OnError,
-    /// An attribute that the language doesn't name: it says nothing.
+    /// An attribute that the language doesn't name: it has no meaning.
     UnknownAttribute,
-    /// An empty `src`, which asks for the page's own URL.
+    /// An empty `src`, which denotes the page's own URL.
     EmptySource,
-    /// A `src` that begins with `https:`, which is never asked.
+    /// A `src` that begins with `https:`, which is never fetched.
     SecureSource,
-    /// A `''` in a test that is no default: a comparison with it is false.
+    /// A `''` in a test that isn't a default: a comparison with it is false.
     EmptyText,
-    /// A reference in text that stands outside `vars`, where it isn't replaced.
+    /// A reference in text outside `vars`, where it isn't replaced.
     IdleReference,
-    /// A reference to a variable that there isn't: it stands for its default, or for nothing.
+    /// A reference to a variable that doesn't exist: it denotes its default, or nothing.
     UnknownVariable,
-    /// A `$(` with which no reference begins: it stands for itself.
+    /// A `$(` with which no reference begins: it denotes itself.
     NoReference,
-    /// Text that looks like a tag of the language, and is none.
+    /// Text that looks like a tag of the language, and isn't one.
     TagInText,
-    /// An inline's name that stands for no URL that is asked: no include comes to it.
+    /// An inline's name that doesn't denote a URL that the edge fetches: no include can reach it.
     IdleName,
 }
 
@@ -42,7 +43,7 @@ impl Warning {
         Warning::EmptyText,
     ];
 
-    /// Whether a tag is to be warned of so; never with a warning that isn't of tags alone. Takes no memory.
+    /// Whether this warning applies to a tag; never for one that isn't about tags alone. Takes no memory.
     pub fn is_of(self, tag: &Tag) -> bool
         ensures { result ≡ spec.is_of self tag.now }
     {
@@ -112,14 +113,14 @@ fn is_source_secure(attributes: &Attributes) -> bool
     }
 }
 
-// Whether `''` stands at the front, and no bar before it.
+// Whether `''` is at the front, with no bar before it.
 fn begins_empty(behind_bar: bool, text: &[u8]) -> bool
     ensures { result ≡ spec.begins_empty behind_bar text.now }
 {
     !behind_bar && text.starts_with(b"''")
 }
 
-// Whether `''` stands in a test, but directly behind a bar, where it is a default.
+// Whether `''` is in a test other than directly after a bar, where it is a default.
 fn stands_empty(test: &[u8]) -> bool
     ensures { result ≡ spec.stands_empty false test.now }
 {

@@ -1,5 +1,6 @@
-// What no page does with a board: receipts of another one, answers of another URL, and each call by
-// itself. A board is lent: whoever holds one pays in its proof for each way out.
+//! What no page does with a board: receipts of another board, answers of another URL, and each call on its
+//! own. A board is lent: whoever holds one pays in its proof for each way out.
+
 use super::url_of;
 use answer_board::{Board, FillFault, Receipt};
 use edge_types::{Answer, NoMemory, PageUrl};
@@ -15,7 +16,7 @@ fn failed(alloc: Global, url: &PageUrl) -> Result<Prepared, NoMemory> {
     Prepared::of(alloc, Arc::new(alloc, Answer::failed(url.share()?))?)
 }
 
-// The receipt of a board's next ticket, for a failed answer; none where there is no ticket.
+// The receipt of a board's next ticket, for a failed answer; `None` if there is no ticket.
 fn next(alloc: Global, board: &mut Board) -> Option<Receipt> {
     let ticket = board.claim()?;
     let ticket = match failed(alloc, ticket.url()) {
@@ -29,7 +30,7 @@ fn next(alloc: Global, board: &mut Board) -> Option<Receipt> {
     None
 }
 
-// The number that a fill answers, or its fault; the receipt is given up then.
+// The number that a fill returns, or its fault; the receipt is given up then.
 fn filled(board: &mut Board, receipt: Option<Receipt>) -> Result<usize, Option<FillFault>> {
     match receipt {
         Some(receipt) => match board.fill(receipt) {
@@ -65,7 +66,7 @@ fn open(rt: &impl Abort, alloc: Global, board: &mut Board, slots: &str) -> Resul
     Ok(())
 }
 
-// Checks the slots, each by its depth and, where it is filled, the URL of its answer; then the numbers of
+// Checks the slots, each by its depth and, if it is filled, the URL of its answer; then the numbers of
 // the filled ones.
 fn is_told(rt: &impl Abort, alloc: Global, board: &Board, wanted: &str) -> Result<(), NoMemory> {
     let mut line = String::new(alloc);
@@ -132,8 +133,8 @@ fn a_board_of_a_few_slots(rt: HostRuntime) -> Result<(), Fail> {
     Ok(refuse(&rt, rt.alloc(), &mut board)?)
 }
 
-// Offers the receipt of a board's next ticket to another board, and then fills it into its own:
-// what the other board answers, and what the own one.
+// Offers the receipt of a board's next ticket to another board, and then fills it into its own: what the
+// other board returns, and what its own does.
 fn offered(
     alloc: Global,
     own: &mut Board,
@@ -145,8 +146,8 @@ fn offered(
     }
 }
 
-// In the second board the slot of a receipt's number is filled, unclaimed, or of another URL. A receipt is
-// taken where that very number and URL are claimed there: the slot's own receipt then comes too late.
+// In the second board the slot with a receipt's number is filled, unclaimed, or of another URL. A receipt is
+// accepted if that very number and URL are claimed there: the slot's own receipt then comes too late.
 fn offer_all(
     rt: &impl Abort,
     alloc: Global,

@@ -1,6 +1,7 @@
-// A page that is refused a growth. Here memory is ample, so the page comes to its end: beside the
-// gate `tools/refuse_page_growths` refuses each growth of this test in turn, and looks for what it
-// then tells.
+//! A page for which an allocation fails. Here memory is ample, so the page reaches its end; outside the
+//! gate, `tools/refuse_page_growths` makes each allocation of this test fail in turn, and looks at what the
+//! test then reports.
+
 use super::answer;
 use answer_board::Receipt;
 use edge_types::{NoMemory, PageUrl, Request};
@@ -13,7 +14,7 @@ use std::test::Fail;
 const PAGE: &str =
     "<esi:try><esi:attempt><esi:include src='/x'/><esi:include src='/y'/></esi:attempt><esi:except>E</esi:except></esi:try><esi:include src='/z'/>";
 
-// What is told of a page that is broken as it should be.
+// What is reported of a page that is broken as it should be.
 const BROKEN: &str = "the page is broken";
 
 // A page with room for one slot ahead, so that posts and advances open slots.
@@ -32,7 +33,7 @@ fn prepared(alloc: Global, url: &PageUrl) -> Result<Option<Prepared>, NoMemory> 
     }
 }
 
-// The receipt of the next ticket, which is given up where there is none.
+// The receipt of the next ticket; the ticket is given up if there is none.
 fn next_receipt(alloc: Global, page: &mut Page) -> Result<Receipt, Fail> {
     let Some(ticket) = page.claim() else {
         return Err("a slot".into());
@@ -52,7 +53,7 @@ fn next_receipt(alloc: Global, page: &mut Page) -> Result<Receipt, Fail> {
     Err("an answer".into())
 }
 
-// Posts the next answer; false where a growth was refused, and the answer is in all the same.
+// Posts the next answer; false if an allocation failed, and the answer is in all the same.
 fn is_posted(alloc: Global, page: &mut Page) -> Result<bool, Fail> {
     let receipt = next_receipt(alloc, page)?;
     let before = page.posted();
@@ -76,7 +77,7 @@ fn is_posted(alloc: Global, page: &mut Page) -> Result<bool, Fail> {
     }
 }
 
-// Goes on to the page's end; false where a call of the page was refused a growth.
+// Goes on to the page's end; false if an allocation failed in a call of the page.
 fn is_finished(alloc: Global, page: &mut Page) -> Result<bool, Fail> {
     for _ in 0..6 {
         match page.advance() {
@@ -92,7 +93,7 @@ fn is_finished(alloc: Global, page: &mut Page) -> Result<bool, Fail> {
     Err("no end".into())
 }
 
-// A broken page gives no ticket, doesn't go on, and hands a receipt back.
+// A broken page gives no ticket, doesn't advance, and hands a receipt back.
 fn told_of_broken(page: &mut Page, receipt: Receipt) -> &'static str {
     let is_refused = match page.post(receipt) {
         Err(PostFault::Broken(receipt)) => {

@@ -12,7 +12,7 @@ const CASE: &[u8] =
 
 const PRINTED: &[u8] = b"200 3 text/html\nA1B";
 
-// Takes so many bytes, and then none.
+// Takes this many bytes, and then none.
 #[derive(Drop)]
 struct FullWriter {
     taken: Vec<u8>,

@@ -1,4 +1,4 @@
-//! Owners of bytes and answers, and refused growths.
+//! Owners of bytes and answers, and allocations that fail.
 
 use edge_types::{
     Answer, Control, NoMemory, Octets, PageBody, PageUrl, Request, SharedAnswer, SharedBytes,
@@ -9,7 +9,7 @@ use std::process::Abort;
 use std::sync::Arc;
 use std::test::Fail;
 
-// A part, which has to lie in the bytes.
+// A part, which has to be within the bytes.
 fn part(
     rt: &impl Abort,
     whole: &SharedBytes,
@@ -20,7 +20,7 @@ fn part(
     whole.part(from, to)
 }
 
-// A part of a part of a text, none of whose owners is left.
+// A part of a part of a text all of whose other owners are gone.
 fn inner_part(rt: &impl Abort, alloc: Global) -> Result<SharedBytes, NoMemory> {
     let whole = SharedBytes::copy_of(alloc, b"one two")?;
     let two = part(rt, &whole, 4, 7)?;
@@ -76,7 +76,7 @@ fn replaced(alloc: Global, cookie: &[u8], text: &[u8]) -> Result<Vec<u8>, NoMemo
     substitute(alloc, &request, parts.as_slice())
 }
 
-// Where the Nth growth is refused (`rt try --test --fail-alloc N`), it is told, or the answer is whole.
+// If the Nth allocation fails (`rt try --test --fail-alloc N`), that is reported, or the answer is whole.
 #[test]
 fn a_refused_growth_is_told(rt: HostRuntime) {
     match replaced(rt.alloc(), b"g=1", b"a$(HTTP_COOKIE{g}|'none')b$(X|'c')") {

@@ -1,9 +1,10 @@
-// Pages that are run by lists of events over tables: how many slots, pieces and steps they come to, which
-// no case shows. A row has a line with how many slots there may be ahead (several numbers: each of them),
-// how many levels, how often each event happens, and a name; a line for each answer: its path, `failed` or
-// a status, `esi` or `plain`, and the body; and behind `=> ` how what is told of the page begins. The page
-// is at `/p`. `{/x}` stands for an include of `/x`, and `{/x!}` for one with onerror="continue"; between
-// two `~` stands what comes several times, as `3*{/x^}`, with `^` for which time it is.
+//! Pages that are run by lists of events over tables: how many slots, pieces and steps they have, which
+//! no case shows. A row has a line with how many slots there may be ahead (several numbers: each of them),
+//! how many levels, how many times each event happens, and a name; a line for each answer: its path, `failed` or
+//! a status, `esi` or `plain`, and the body; and after `=> ` how the text about the page begins. The page
+//! is at `/p`. `{/x}` means an include of `/x`, and `{/x!}` one with onerror="continue"; between
+//! two `~` is what comes several times, as `3*{/x^}`, with `^` for which time it is.
+
 use super::{answer, url_of};
 use edge_types::{NoMemory, Outcome, PageFault, Request, Table};
 use esi_meaning::are_levels;
@@ -35,7 +36,7 @@ fn written_out(alloc: Global, short: &str) -> Result<String, NoMemory> {
     Ok(text)
 }
 
-// Takes in the answer of which a line says this.
+// Inserts the answer that a line describes.
 fn insert(rt: &impl Abort, alloc: Global, table: &mut Table, line: &str) -> Result<(), NoMemory> {
     let (path, said) = line.split_once(' ').unwrap_or((line, ""));
     let (status, said) = said.split_once(' ').unwrap_or(("", ""));
@@ -44,7 +45,7 @@ fn insert(rt: &impl Abort, alloc: Global, table: &mut Table, line: &str) -> Resu
     text.push_str("http://a.test")?;
     text.push_str(path)?;
     let url = url_of(rt, alloc, text.as_str())?;
-    // Nothing is got where there is no status.
+    // Nothing was fetched if there is no status.
     let status = status.parse::<u16>().unwrap_or(0);
     if let Some(answer) = answer(alloc, url, status, kind == "esi", body)? {
         assert!(rt; table.insert(Arc::new(alloc, answer)?).is_ok(), "{line}");
@@ -56,8 +57,8 @@ fn text_of<'a>(bytes: &'a [u8]) -> &'a str {
     str::from_utf8(bytes).unwrap_or("?")
 }
 
-// Puts behind the line where a page stands: `waits` and a URL; or the first bytes of the first pieces, a
-// bar behind each, or the fault; and how much there is of everything.
+// Adds to the line where a page is: `waits` and a URL; or the first bytes of the first pieces, a
+// bar after each, or the fault; and how much there is of everything.
 fn push_state(line: &mut String, page: &Page, state: &State) -> Result<(), NoMemory> {
     match state {
         State::Waiting(url) => write!(line, "waits {};", text_of(url.as_bytes()))?,
@@ -78,7 +79,7 @@ fn push_state(line: &mut String, page: &Page, state: &State) -> Result<(), NoMem
     Ok(())
 }
 
-// What a page over this table comes to by these events, each list so often.
+// The state of a page over this table after these events, each list this many times.
 fn told(
     rt: &impl Abort,
     alloc: Global,
@@ -122,7 +123,7 @@ const NEWEST_FIRST: [Event; 7] = [
     Event::Advance,
 ];
 
-// Checks a row, whose answers these are, in one order, or in both where there are many events.
+// Checks a row, which has these answers, in one order, or in both if there are many events.
 fn row_holds(rt: &impl Abort, alloc: Global, table: &Table, row: &str) -> Result<(), NoMemory> {
     let (head, wanted) = row.split_once("\n=> ").expect(rt, "what is wanted");
     let mut words = head.split(' ');

@@ -1,4 +1,5 @@
-// Answers made ready, and second owners of them: their plans, which no page shows.
+//! Answers made ready, and second owners of them: their plans, which no page shows.
+
 use super::{answer, url_of};
 use edge_types::NoMemory;
 use esi_vars::Part;
@@ -14,7 +15,7 @@ fn text_of<'a>(bytes: &'a [u8]) -> &'a str {
     str::from_utf8(bytes).unwrap_or("?")
 }
 
-// Puts a step behind the line, and a blank: a text as it is, `$` for values, `?n`, `+n`, `tryn` and
+// Adds a step to the line, and a space: a text as it is, `$` for values, `?n`, `+n`, `tryn` and
 // `endn` for a test, a jump, a try and its end, with what they skip, a leg's text in braces.
 fn push_step(line: &mut String, step: &Step) -> Result<(), NoMemory> {
     match step {
@@ -40,7 +41,7 @@ fn push_step(line: &mut String, step: &Step) -> Result<(), NoMemory> {
     Ok(())
 }
 
-// Puts the steps behind the line, and behind them the inlines, as `; name first..end`. No plan of
+// Adds the steps to the line, and after them the inlines, as `; name first..end`. No plan of
 // these tests has more of either.
 fn push_plan(line: &mut String, plan: &Plan) -> Result<(), NoMemory> {
     for i in 0..30 {
@@ -59,7 +60,7 @@ fn push_plan(line: &mut String, plan: &Plan) -> Result<(), NoMemory> {
 
 const PAGE: &str = "http://a.test/p";
 
-// A second owner of the answer of the page's URL, made ready; its body is processed where `esi` says so.
+// A second owner of the answer of the page's URL, made ready; its body is processed if `esi` says so.
 fn second(rt: &impl Abort, alloc: Global, esi: bool, body: &str) -> Result<Prepared, NoMemory> {
     let url = url_of(rt, alloc, PAGE)?;
     let answer = answer(alloc, url, 200, esi, body)?.expect(rt, "an answer");
@@ -77,7 +78,7 @@ fn form_told(alloc: Global, prepared: &Prepared) -> Result<String, NoMemory> {
     Ok(line)
 }
 
-// `esi` or `plain`, a body, ` => `, and what it is, by hand. Inlines are told in text order, which isn't
+// `esi` or `plain`, a body, ` => `, and what it is, written by hand. Inlines are in text order, which isn't
 // the order of the steps.
 const FORMS: &str = r#"esi  => 
 esi a<esi:remove>b</esi:remove><!--esi c--> => a  c
@@ -125,7 +126,7 @@ fn a_second_owner_is_the_same_answer_plain_planned_or_bad(rt: HostRuntime) -> Re
 const INLINES: &str =
     "0<esi:inline name='http://u:p@a.test/'>1</esi:inline><esi:inline name='/i'>2</esi:inline><esi:inline name='i'>3</esi:inline><esi:inline name='/j'>4</esi:inline>";
 
-// The URL of each inline, `-` for none, and of what would come behind the last.
+// The URL of each inline, `-` for none, and of what would come after the last.
 const URLS: [&str; 5] = [
     "-",
     "http://a.test/i",
@@ -134,7 +135,7 @@ const URLS: [&str; 5] = [
     "-",
 ];
 
-// The first step of the inline that a URL names, which has one.
+// The first step of the inline that a URL names, if it names one.
 const FOUND: [(&str, Option<usize>); 3] = [
     ("http://a.test/i", Some(2)),
     ("http://a.test/j", Some(4)),

@@ -1,4 +1,5 @@
-// A source behind a cache, whose clock is set by hand.
+//! A source under a cache whose clock is set by hand.
+
 use super::{Origin, source_of, url};
 use edge_types::NoMemory;
 use fetch_workers::{Cache, Clock, Source};
@@ -20,8 +21,8 @@ impl<R> Clock<R> for Hands<'_> {
     }
 }
 
-// What a source gives for a path: the first byte of the body, `-` of a failed answer, `?` where it finds
-// no memory.
+// What a source gives for a path: the first byte of the body, `-` for a failed answer, `?` if it runs out
+// of memory.
 fn ask<R: Abort, S: Source<R>>(rt: &R, alloc: Global, source: &S, path: &str) -> u8 {
     let Ok(url) = url(rt, alloc, path) else {
         return b'?';
@@ -32,7 +33,7 @@ fn ask<R: Abort, S: Source<R>>(rt: &R, alloc: Global, source: &S, path: &str) ->
     }
 }
 
-// Takes steps one after another: `+2` sets the clock two seconds on, a path is asked for. Tells what was
+// Takes steps one after another: `+2` sets the clock two seconds on, a path is asked for. Returns what was
 // given.
 fn given<R: Abort, S: Source<R>>(
     rt: &R,
@@ -53,8 +54,8 @@ fn given<R: Abort, S: Source<R>>(
     Ok(out)
 }
 
-// How many answers each of the eight shards keeps; which fetch finds no memory; from which on the origin has
-// nothing; the case; the steps; and what is given, and how often the origin was asked. The last bytes of
+// How many answers each of the eight shards keeps; which fetch runs out of memory; from which on the origin has
+// nothing; the case; the steps; and what is given, and how many times the origin was asked. The last bytes of
 // `/0` and `/8` put these into one shard.
 const ROWS: &str = "8|99|99|/x 200 60 1|/x /x|11 1
 8|99|99|/x 200 60 1|/x +59 /x +1 /x|111 2
@@ -118,7 +119,7 @@ fn wrong_answers<R: Abort, S: Source<R>>(rt: &R, alloc: Global, source: &S, firs
     wrong
 }
 
-// By 64 threads.
+// Counts these with 64 threads, and checks that there are none.
 fn none_is_wrong<R: Threads + Abort + Sync, S: Source<R> + Sync>(
     rt: &R,
     alloc: Global,
@@ -129,7 +130,7 @@ fn none_is_wrong<R: Threads + Abort + Sync, S: Source<R> + Sync>(
     Ok(())
 }
 
-// Sixteen URLs, of an origin that finds no memory at each tenth fetch. Tells how often it was asked.
+// Sixteen URLs, of an origin that runs out of memory at every tenth fetch. Returns how often it was asked.
 fn crowd<R: Wait + Threads + Abort + Sync>(
     rt: &R,
     alloc: Global,
@@ -154,7 +155,7 @@ fn crowd<R: Wait + Threads + Abort + Sync>(
 
 #[test]
 fn many_threads_share_flights(rt: HostRuntime) -> Result<(), Fail> {
-    // Each of the 16 is fetched until it is there: the tenth fetch found no memory.
+    // Each of the 16 is fetched until it is there: the tenth fetch ran out of memory.
     assert!(rt; crowd(&rt, rt.alloc(), "60")? == 17);
     assert!(rt; crowd(&rt, rt.alloc(), "plain")? <= 64 * 200);
     Ok(())

@@ -1,4 +1,5 @@
-// Streams and acceptors that fail.
+//! Streams and acceptors that fail.
+
 ghost use Rattle.std.specs.Prelude.{⊤};
 ghost use Rattle.std.specs.Io.{ReadsAtMost, WritesAtMost};
 
@@ -21,7 +22,7 @@ use tokio::io::{AsyncRead, AsyncWrite};
 // What a client sends.
 const ASKED: &[u8] = b"GET /p HTTP/1.1\r\nhost: a.test\r\n\r\n";
 
-// A client in memory, whose reads and writes fail after so many. It counts what is written.
+// A client in memory, whose reads and writes fail after this many. It counts what is written.
 #[derive(Drop)]
 struct Script {
     is_read: bool,
@@ -105,7 +106,7 @@ where
     Ok(EdgeService::new(rt.clone()?, rt.alloc(), source, how)?)
 }
 
-// How many bytes a client in memory is sent whose reads and writes fail after so many.
+// How many bytes are sent to a client in memory whose reads and writes fail after this many.
 fn written<R>(rt: &R, executor: &mut Executor, moves: u64) -> Result<u64, Fail>
 where
     R: Wait + Threads + Clock + RandomSource + AllocGlobal + Abort + Clone + Drop + Sync,
@@ -134,7 +135,7 @@ fn a_stream_that_fails_ends_its_exchange_alone(rt: HostRuntime) -> Result<(), Fa
     Ok(())
 }
 
-// Fails so many accepts, lets a client in memory through, and fails from then on.
+// Fails this many accepts, lets a client in memory through, and fails from then on.
 #[derive(Drop)]
 struct Failing {
     fails: u64,
@@ -159,8 +160,8 @@ impl<R> Accept<R> for Failing {
     fn end(&self, _rt: &R) {}
 }
 
-// Checks that a server ends whose accepts fail so often before and after one: after so many accepts, its
-// client having been sent so many bytes.
+// Checks that a server ends whose accepts fail this many times before and after one: after this many accepts,
+// with this many bytes sent to its client.
 fn ends<R>(rt: &R, fails: u64, accepts: u64, written: u64) -> Result<(), Fail>
 where
     R: Wait + Threads + Clock + RandomSource + AllocGlobal + Abort + Clone + Drop + Send + Sync,

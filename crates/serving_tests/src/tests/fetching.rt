@@ -1,4 +1,5 @@
-// Threads that fetch for one page: a gate, and want of memory.
+//! Threads that fetch for one page: a gate, and running out of memory.
+
 use super::{Origin, source_of, url};
 use edge_types::{NoMemory, Outcome, PageUrl, Request};
 use fetch_workers::{AssembleFault, Gate, MAX_WORKERS, assemble_gated};
@@ -11,8 +12,8 @@ use std::thread::Threads;
 use std::time::{Clock, Duration};
 use std::{str, thread};
 
-// Where two fetches of fragments meet: each waits for another, for so many milliseconds at least. A turn
-// that is only yielded may take milliseconds beside busy processes, so they can't be counted in its place.
+// Where two fetches of fragments meet: each waits for another, for at least this many milliseconds. A turn
+// that is only yielded may take milliseconds on a busy machine, so turns can't be counted instead.
 #[derive(Drop)]
 struct Meeting {
     came: AtomicU64,
@@ -46,7 +47,7 @@ impl<R: Clock> Gate<R> for Meeting {
     }
 }
 
-// The output of the page at `/p` by so many threads, or the fault.
+// The output of the page at `/p` with this many threads, or the fault.
 fn made<R: Wait + Threads + Clock + Abort + Sync>(
     rt: &R,
     alloc: Global,
@@ -78,7 +79,7 @@ fn made<R: Wait + Threads + Clock + Abort + Sync>(
 const CASE: &str =
     "/p 200 esi <esi:include src='/1'/><esi:include src='/2'/><esi:include src='/3'/><esi:include src='/4'/><esi:include src='/5'/><esi:include src='/6'/>;/1 200 plain 1;/2 200 esi 2<esi:include src='/7'/>;/3 200 plain 3;/4 200 plain 4;/5 200 plain 5;/6 200 plain 6;/7 200 plain 7";
 
-// How the page ends where the source finds no memory at the fetch of this number, and how many fetches
+// How the page ends if the source runs out of memory at the fetch with this number, and how many fetches
 // passed the gate without another.
 fn ended<R: Wait + Threads + Clock + Abort + Sync>(
     rt: &R,
@@ -100,7 +101,7 @@ fn ended<R: Wait + Threads + Clock + Abort + Sync>(
     Ok(gate.gave_up.load(Ordering::SeqCst))
 }
 
-// Nobody waits for ever. The page is there where so many fetches aren't made.
+// Nobody waits for ever. The page is there if this many fetches aren't made.
 #[test]
 fn no_memory_at_any_fetch_is_told(rt: HostRuntime) -> Result<(), Fail> {
     for refused in 0..9 {
@@ -112,7 +113,7 @@ fn no_memory_at_any_fetch_is_told(rt: HostRuntime) -> Result<(), Fail> {
     Ok(())
 }
 
-// One thread gives the first fragment's fetch up; of two both pass, however busy the machine is.
+// One thread's fetch of the first fragment passes alone; two threads pass together, however busy the machine is.
 #[test]
 fn the_gate_opens_where_two_fetch(rt: HostRuntime) -> Result<(), Fail> {
     assert!(rt; ended(&rt, rt.alloc(), (9, 1, 50), "1273456")? == 1);
