@@ -33,7 +33,7 @@ use Rattle.plan_runner.specs.Plain.{plain_outcome}
 use Rattle.plan_runner.specs.Resumed.{StandsAt}
 use Rattle.plan_runner.specs.Running.{IsTemplate, IsRunning, IsDone, last_step}
 use Rattle.plan_runner.specs.Shown.{url_in, tree_in, shown_frame, shown_machine, first_frame, IsPlaced, ArePlaced}
-use Rattle.plan_runner.proofs.Targets.{url_of_answer}
+use Rattle.plan_runner.proofs.Replies.{url_of_answer}
 
 -- the page's own answer, by its slot
 module _ (b : board.State) (sound : IsBoard b) (u : List ℕ) where

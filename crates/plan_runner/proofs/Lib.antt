@@ -1,4 +1,5 @@
 pub mod Placing
+pub mod Replies
 pub mod Targets
 pub mod Legs
 pub mod Stepping
@@ -13,7 +14,7 @@ pub mod Logs
 pub mod Promises
 pub mod Keeping
 pub mod States
+pub mod Sound
 pub mod Growing
 pub mod Tickets
 pub mod Holding
-pub mod Replies

@@ -1,10 +1,9 @@
 -- What a leg leads to.
-use Rattle.std.proofs.Common.{◌≡◌, ℕ, zero, suc, ◌-◌, ◌<◌, Bool, true, false, cond, List, [], ◌∷◌, Option, Some, None, refl, sym, ◌∙◌, ap, arith, option_and_then}
-use Rattle.std.proofs.lemmas.Slice.Eq.{bytes_eq-Decides}
+use Rattle.std.proofs.Common.{◌≡◌, ℕ, zero, suc, ◌-◌, ◌<◌, List, [], ◌∷◌, Option, Some, None, refl, sym, ◌∙◌, ap, arith, option_and_then}
 use Rattle.edge_types.specs.declared.request.Request.{Request}
 use Rattle.edge_types.specs.Answered.{Answered}
 use Rattle.edge_types.specs.Asked.{resolve}
-use Rattle.edge_types.specs.Table.{is_of, answer_of}
+use Rattle.edge_types.specs.Table.{answer_of}
 use Rattle.esi_vars.specs.declared.part.Part.{Part}
 use Rattle.esi_vars.specs.Values.{substituted}
 use Rattle.plan_compiler.specs.declared.inline.Inline.{Inline}
@@ -15,6 +14,7 @@ use Rattle.answer_board.specs.Sound.{IsBoard}
 use Rattle.answer_board.proofs.Log.{log-answers}
 use Rattle.plan_machine.specs.Machine.{Frame, asking_leg, named_leg, resolved_leg, leg_at}
 use Rattle.plan_runner.specs.Targets.{Missing, asked_target, named_target, resolved_target, target_of, acted, found_at}
+use Rattle.plan_runner.proofs.Replies.{url_of_answer}
 
 pub target_above : (r : Request) (log : List Answered) (u : List ℕ) (inlines : List Inline) (s : List Part) (n : ℕ) → 0 < n → target_of r log u inlines s n ≡ resolved_target log u inlines (resolve u (substituted r s))
 target_above r log u inlines s zero h = absurd (omega arith)
@@ -30,17 +30,6 @@ found_is b sound w number a is there =
 -- it isn't: the log has none
 pub missing_is : (b : State) → IsBoard b → (w : List ℕ) → option_and_then (answer_at b.slots) (number_of b.slots w) ≡ None → Missing w ≡ asked_target w (answer_of (log_of b) w)
 missing_is b sound w none = ap (asked_target w) (sym (log-answers b sound w ∙ none))
-
--- an answer of a URL names it
-url_step : (w : List ℕ) (x a : Answered) (rest : Option Answered) → (rest ≡ Some a → a.url ≡ w) → (b : Bool) → is_of w x ≡ b → cond b (Some x) rest ≡ Some a → a.url ≡ w
-url_step w x a rest later true is e =
-    let same : x ≡ a = cc in
-    ap (λ (y : Answered). y.url) (sym same) ∙ (bytes_eq-Decides x.url w).0 is
-url_step w x a rest later false is e = later e
-
-pub url_of_answer : (log : List Answered) (w : List ℕ) (a : Answered) → answer_of log w ≡ Some a → a.url ≡ w
-url_of_answer [] w a e = absurd (cc)
-url_of_answer (x ∷ xs) w a e = url_step w x a (answer_of xs w) (url_of_answer xs w a) (is_of w x) refl e
 
 module _ (r : Request) (log : List Answered) (legs : ℕ) (out : List (List ℕ)) (f : Frame) (fs : List Frame) where
   asking_acts : (n : ℕ) (w : List ℕ) → f.level ≡ suc n → (o : Option Answered) → answer_of log w ≡ o → asking_leg r log legs out (f ∷ fs) n w o ≡ acted r log legs out f fs (asked_target w o)

@@ -11,5 +11,6 @@ pub mod Calls
 pub mod Board
 pub mod Kept
 pub mod Headline
+pub mod Sound
 pub mod Events
 pub mod Holding

@@ -78,29 +78,6 @@ pub fn run_events(
     ensures over_the_table { IfOk result (λ (page, told). IsTrueOver (log_of page.board) table.now request levels url (told_state told)) }
     ensures err { IfErr result (λ e. e ≡ PageError.NoMemory) }
 {
-    match try_events(alloc, url, request, table, ahead, levels, events) {
-        Ok(end) => Ok(end),
-        Err(NoMemory) => Err(PageError::NoMemory),
-    }
-}
-
-// Does what `run_events` does, with out of memory as the only error.
-fn try_events(
-    alloc: Global,
-    url: PageUrl,
-    request: Request,
-    table: &Table,
-    ahead: u16,
-    levels: u8,
-    events: &[Event],
-) -> Result<(Page, State), NoMemory>
-    requires ahead { ahead ≤ MAX_AHEAD }
-    requires levels { AreLevels levels }
-    ensures ran { IfOk result (λ (page, told). Ran table.now events.now (accepted url request ahead levels) told page) }
-    ensures agrees { IfOk result (λ (page, told). Agrees (log_of page.board) table.now) }
-    ensures told { IfOk result (λ (page, told). told_state told ≡ state request (log_of page.board) levels url) }
-    ensures over_the_table { IfOk result (λ (page, told). IsTrueOver (log_of page.board) table.now request levels url (told_state told)) }
-{
     let mut hand = Hand::accept(alloc, url, request, ahead, levels)?;
     run_all(&mut hand, table, events)?;
     let told = hand.advance(table)?;

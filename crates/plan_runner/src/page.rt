@@ -20,6 +20,7 @@ ghost use Rattle.plan_runner.specs.Calls.{IsOnePage, TakesIn, Refuses, Errs, tol
 ghost use Rattle.plan_runner.specs.Headline.{TellsTheTruth};
 ghost use Rattle.plan_runner.specs.Kept.{standing_of, IsStage};
 ghost use Rattle.plan_runner.specs.Running.{IsDone, Comes};
+ghost use Rattle.plan_runner.specs.Sound.{IsSound};
 
 use crate::advance::Progress;
 use crate::ahead::open_ahead;
@@ -58,6 +59,16 @@ pub enum PageError {
     /// An allocation failed earlier, before the page was done.
     #[error("the page ran out of memory before: accept it anew")]
     Broken,
+}
+
+impl From<NoMemory> for PageError {
+    ghost use Rattle.plan_runner.specs.declared.page.PageError.TheVariants as error;
+
+    ghost from_gives = { λ _ e. e ≡ error.NoMemory };
+
+    fn from(_: NoMemory) -> PageError {
+        PageError::NoMemory
+    }
 }
 
 /// Why a page refuses a receipt, or is broken by it.
@@ -193,6 +204,15 @@ impl Page {
         self.levels
     }
 
+    /// How many slots posts may open ahead in all, which is what `accept` got. Takes no memory.
+    ///
+    /// Our profile.
+    pub fn ahead(&self) -> u16
+        ensures { result ≡ self.now.ahead }
+    {
+        self.ahead
+    }
+
     /// How many slots there are, even on a page that is done or broken: at most one for the page, one
     /// for each leg that it may try, and those ahead. Takes no memory.
     ///
@@ -235,6 +255,17 @@ impl Page {
         ensures legal { IsLegal self.now.request self.now.url (log_of self.now.board) }
     {
         filled_answer(&self.board, i)
+    }
+
+    /// States what holds of every page, even one that was just taken from a lock: its log is legal, no
+    /// URL has two slots, and if it is done its outcome is that over its own log, which has the answer
+    /// of each URL that is asked for. Does nothing.
+    ///
+    /// Our profile.
+    pub fn sound(&self)
+        ensures { IsSound self.now }
+    {
+        let _ = &self.board;
     }
 
     /// Claims the first unclaimed slot, and returns its ticket; `None` if all are claimed, and
@@ -336,13 +367,6 @@ impl Page {
         }
     }
 
-    // States the invariant of the page's board.
-    pub(crate) fn sound(&self)
-        ensures { IsBoard self.now.board }
-    {
-        let _ = &self.board;
-    }
-
     // Goes on from where it stands; it is broken if an allocation fails.
     fn proceed(&mut self) -> Result<State, NoMemory>
         requires underway { self.old.standing ≡ Underway }
@@ -406,10 +430,7 @@ fn known(outcome: &SharedOutcome) -> Result<State, PageError>
     ensures standing { IfOk result (λ s. standing_after s ≡ Finished outcome.now) }
     ensures err { IfErr result (λ e. e ≡ PageError.NoMemory) }
 {
-    match outcome.share() {
-        Ok(outcome) => Ok(State::Done(outcome)),
-        Err(NoMemory) => Err(PageError::NoMemory),
-    }
+    Ok(State::Done(outcome.share()?))
 }
 
 // Goes on from the stage that the page has reached.

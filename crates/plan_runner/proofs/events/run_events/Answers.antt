@@ -1,5 +1,5 @@
 use Rattle.plan_runner.proofs.Holding.{ran_same, told_after, over_after}
-use Rattle.plan_runner.proofs.events.try_events.Goals as goal
+use Rattle.plan_runner.proofs.events.run_events.Goals as goal
 
 pub returns-clause-told : goal.returns-clause-told
 returns-clause-told c =
