@@ -1,7 +1,7 @@
 //! Cases, and the texts that spell them.
 ghost use Rattle.std.specs.Prelude.{◌≡◌, ◌≤◌, length, IfOk, IfSome, IfNone};
 ghost use Rattle.edge_case.specs.Case.{IsCaseText};
-ghost use Rattle.edge_case.specs.Reading.{lines_case, case_of};
+ghost use Rattle.edge_case.specs.Reading.{case_of};
 
 use crate::answers::answers_at;
 use crate::heading::heading_at;
@@ -22,11 +22,14 @@ pub struct Case {
     pub table: Table,
 }
 
-// The case that a text of lines spells.
-#[tactic(auto, unfolding(crate::specs::Reading::lines_case))]
-fn lines_case(alloc: Global, text: &[u8]) -> Result<Option<Case>, NoMemory>
-    ensures { IfOk result (λ found. found ≡ lines_case text.now) }
+// The case that a text spells.
+#[tactic(auto, unfolding(crate::specs::Reading::case_of, crate::specs::Reading::lines_case))]
+fn case_of(alloc: Global, text: &[u8]) -> Result<Option<Case>, NoMemory>
+    ensures { IfOk result (λ found. found ≡ case_of text.now) }
 {
+    if text.len() > MAX_CASE {
+        return Ok(None);
+    }
     let Some((heading, rest)) = heading_at(text) else {
         return Ok(None);
     };
@@ -41,17 +44,6 @@ fn lines_case(alloc: Global, text: &[u8]) -> Result<Option<Case>, NoMemory>
         request: heading.request(alloc)?,
         table,
     }))
-}
-
-// The case that a text spells.
-#[tactic(auto, unfolding(crate::specs::Reading::case_of))]
-fn case_of(alloc: Global, text: &[u8]) -> Result<Option<Case>, NoMemory>
-    ensures { IfOk result (λ found. found ≡ case_of text.now) }
-{
-    if text.len() > MAX_CASE {
-        return Ok(None);
-    }
-    lines_case(alloc, text)
 }
 
 impl Case {

@@ -2,9 +2,9 @@
 ghost use Rattle.std.specs.Prelude.{◌≡◌, ◌≢◌, ◌≤◌, ◌+◌, IfOk, IfErr, IsErrOf};
 ghost use Rattle.std.specs.Io.KnownBytes.{Appends, Keeps};
 ghost use Rattle.esi_meaning.specs.Meaning.{AreLevels};
-ghost use Rattle.edge_case.specs.Bytes.{AppendsPart, TakesAtMost, IsInput, IsReadThrough};
+ghost use Rattle.edge_case.specs.Bytes.{AppendsPart, TakesAtMost, IsInput};
 ghost use Rattle.edge_case.specs.Printed.{end_of, printed};
-ghost use Rattle.edge_case.specs.Run.{outcome_of, Reads, IsNoCase, Prints, PrintsPart};
+ghost use Rattle.edge_case.specs.Run.{outcome_of, Reads, IsNoCase, ReadsBefore, Prints, PrintsPart};
 ghost use Rattle.edge_case.specs.declared.case_text.Case.{Case};
 
 use crate::case_text::{Case, MAX_CASE};
@@ -29,8 +29,7 @@ fn read_case<R: Read>(alloc: Global, reader: &mut R) -> Result<(Case, Vec<u8>), 
     ensures ok { IfOk result (λ (case, text). Reads (R.remaining reader.old) case) }
     ensures text { IfOk result (λ (case, text). IsInput (R.remaining reader.old) text.items) }
     ensures bad { IsErrOf result CaseFault.BadCase → IsNoCase (R.remaining reader.old) }
-    ensures through { IfOk result (λ _. IsReadThrough MAX_CASE (R.remaining reader.old) (R.remaining reader.new)) }
-    ensures bad_through { IsErrOf result CaseFault.BadCase → IsReadThrough MAX_CASE (R.remaining reader.old) (R.remaining reader.new) }
+    ensures through { ReadsBefore result (R.remaining reader.old) (R.remaining reader.new) }
     ensures at_most { TakesAtMost (MAX_CASE + 1) (R.remaining reader.old) (R.remaining reader.new) }
     ensures never_write { IfErr result (λ e. e ≢ CaseFault.Write) }
 {
@@ -92,12 +91,9 @@ pub fn run_case<R: Read, W: Write>(
     ensures printed { IfOk result (λ end. Prints levels (R.remaining reader.old)
         (W.contents writer.old) (W.contents writer.new) end) }
     ensures bad_case { IsErrOf result CaseFault.BadCase → IsNoCase (R.remaining reader.old) }
-    // Before anything is said of the case the input was read to its end, or past the limit.
-    ensures through { IfOk result (λ _. IsReadThrough MAX_CASE (R.remaining reader.old) (R.remaining reader.new)) }
-    ensures bad_through { IsErrOf result CaseFault.BadCase → IsReadThrough MAX_CASE (R.remaining reader.old) (R.remaining reader.new) }
+    ensures through { ReadsBefore result (R.remaining reader.old) (R.remaining reader.new) }
     ensures nothing { IfErr result (λ e. e ≢ CaseFault.Write → Keeps (W.contents writer.old) (W.contents writer.new)) }
-    ensures part { IsErrOf result CaseFault.Write → PrintsPart levels (R.remaining reader.old)
-        (W.contents writer.old) (W.contents writer.new) }
+    ensures part { IsErrOf result CaseFault.Write → PrintsPart levels (R.remaining reader.old) (W.contents writer.old) (W.contents writer.new) }
     ensures at_most { TakesAtMost (MAX_CASE + 1) (R.remaining reader.old) (R.remaining reader.new) }
 {
     // The text isn't kept: the case has its own copies.
@@ -123,11 +119,9 @@ pub fn run_case_and_keep<R: Read, W: Write>(
         (W.contents writer.old) (W.contents writer.new) ran.end) }
     ensures text { IfOk result (λ ran. IsInput (R.remaining reader.old) ran.text.items) }
     ensures bad_case { IsErrOf result CaseFault.BadCase → IsNoCase (R.remaining reader.old) }
-    ensures through { IfOk result (λ _. IsReadThrough MAX_CASE (R.remaining reader.old) (R.remaining reader.new)) }
-    ensures bad_through { IsErrOf result CaseFault.BadCase → IsReadThrough MAX_CASE (R.remaining reader.old) (R.remaining reader.new) }
+    ensures through { ReadsBefore result (R.remaining reader.old) (R.remaining reader.new) }
     ensures nothing { IfErr result (λ e. e ≢ CaseFault.Write → Keeps (W.contents writer.old) (W.contents writer.new)) }
-    ensures part { IsErrOf result CaseFault.Write → PrintsPart levels (R.remaining reader.old)
-        (W.contents writer.old) (W.contents writer.new) }
+    ensures part { IsErrOf result CaseFault.Write → PrintsPart levels (R.remaining reader.old) (W.contents writer.old) (W.contents writer.new) }
     ensures at_most { TakesAtMost (MAX_CASE + 1) (R.remaining reader.old) (R.remaining reader.new) }
 {
     let (case, text) = read_case(alloc, reader)?;
