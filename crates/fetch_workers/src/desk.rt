@@ -2,6 +2,7 @@
 
 ghost use Rattle.std.specs.Prelude.{◌≡◌, ◌↔◌, ◌+◌, ◌<◌, ◌≤◌, IsTrue, MatchBool};
 ghost use Rattle.std.specs.VecDeque.{deque_len};
+ghost use Rattle.plan_runner.specs.Sound.{IsSound};
 
 use crate::fault::AssembleFault;
 use answer_board::{Receipt, Ticket};
@@ -70,6 +71,13 @@ impl Desk {
             asleep: 0,
             ended: false,
         }
+    }
+
+    /// States what holds of the page whenever the desk is taken from its lock. Does nothing.
+    pub(crate) fn sound(&self)
+        ensures { IsSound self.now.page }
+    {
+        self.page.sound();
     }
 
     /// What a worker does next. A ticket that was set aside is handed out once no slot is unclaimed.

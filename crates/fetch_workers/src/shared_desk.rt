@@ -2,6 +2,8 @@
 //! fetched, made ready or copied under the lock.
 
 ghost use Rattle.std.specs.Prelude.{◌<◌};
+ghost use Rattle.std.specs.Sync.Mutex.{mutex_guard_value};
+ghost use Rattle.plan_runner.specs.Sound.{IsSound};
 
 use crate::desk::{Desk, Turn};
 use crate::fault::AssembleFault;
@@ -9,7 +11,7 @@ use answer_board::{Receipt, Ticket};
 use edge_types::NoMemory;
 use plan_runner::Page;
 use std::alloc::Global;
-use std::sync::{Condvar, Mutex, Wait};
+use std::sync::{Condvar, Mutex, MutexGuard, Wait};
 
 /// What the workers of a page share, given the runtime by which they wait.
 pub(crate) trait Shared<R> {
@@ -43,6 +45,15 @@ impl SharedDesk {
         }
     }
 
+    // The desk, once nobody else holds the lock. Its page is sound whenever the lock is got.
+    fn lock<R: Wait>(&self, rt: &R) -> MutexGuard<'_, Desk>
+        ensures { IsSound (mutex_guard_value result).page }
+    {
+        let desk = self.desk.lock(rt);
+        desk.sound();
+        desk
+    }
+
     /// The page, once nobody works on it.
     pub(crate) fn into_page(self) -> Page {
         let SharedDesk { desk, moved: _ } = self;
@@ -52,12 +63,12 @@ impl SharedDesk {
 
 impl<R: Wait> Shared<R> for SharedDesk {
     fn end(&self, rt: &R) {
-        self.desk.lock(rt).end();
+        self.lock(rt).end();
         self.moved.notify_all();
     }
 
     fn next_turn(&self, rt: &R) -> Turn {
-        let mut desk = self.desk.lock(rt);
+        let mut desk = self.lock(rt);
         for _ in rt.forever() {
             match desk.turn() {
                 Turn::Sleep => {
@@ -77,13 +88,13 @@ impl<R: Wait> Shared<R> for SharedDesk {
     }
 
     fn post(&self, rt: &R, receipt: Receipt) -> Result<usize, AssembleFault> {
-        let posted = self.desk.lock(rt).post(receipt);
+        let posted = self.lock(rt).post(receipt);
         self.moved.notify_all();
         posted
     }
 
     fn set_aside(&self, rt: &R, ticket: Ticket) -> Result<(), NoMemory> {
-        let kept = self.desk.lock(rt).set_aside(ticket);
+        let kept = self.lock(rt).set_aside(ticket);
         self.moved.notify_one();
         kept
     }
