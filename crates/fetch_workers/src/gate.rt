@@ -4,7 +4,8 @@ use edge_types::PageUrl;
 
 /// What a worker passes before it fetches.
 pub trait Gate<R> {
-    /// Called before each fetch of a page, by the thread that is going to fetch, with no lock held.
+    /// Called before each fetch of a page, by the thread that is going to fetch, with no lock held. An answer
+    /// that the source has ready isn't fetched, and passes no gate.
     fn before_fetch(&self, rt: &R, url: &PageUrl);
 }
 

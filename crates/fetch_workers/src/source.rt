@@ -20,7 +20,8 @@ pub trait Source<R> {
     fn fetch(&self, rt: &R, alloc: Global, url: &PageUrl) -> Result<Arc<Answer>, NoMemory>
         ensures { IfOk result (λ answer. gives self.now url.now (arc_value answer)) };
 
-    /// The answer of a URL, if it is there without waiting; by default a source has none.
+    /// The answer of a URL, if it is there without waiting; by default a source has none. Whoever gets it
+    /// doesn't fetch, so a page's gate isn't called.
     fn ready(
         &self,
         _rt: &R,
