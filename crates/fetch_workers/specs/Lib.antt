@@ -1,4 +1,5 @@
 pub mod Given
+pub mod Faults
 pub mod Rests
 pub mod Laws
 pub mod Shards

@@ -1,13 +1,15 @@
 //! Pages that are assembled by several threads.
 
-ghost use Rattle.std.specs.Prelude.{◌≡◌, ◌≤◌, map, IfOk, IsTrue};
+ghost use Rattle.std.specs.Prelude.{◌≡◌, ◌≤◌, map, IfOk, IfErr, IsTrue};
 ghost use Rattle.std.specs.Arc.{arc_value};
 ghost use Rattle.edge_types.specs.Outcome.{shown};
 ghost use Rattle.esi_meaning.specs.Ahead.{IsLegal};
 ghost use Rattle.esi_meaning.specs.Meaning.{AreLevels};
 ghost use Rattle.answer_board.specs.Board.{log_of};
 ghost use Rattle.plan_runner.specs.declared.page.TheConstants.{MAX_AHEAD};
+ghost use Rattle.plan_runner.specs.Page.{accepted};
 ghost use Rattle.fetch_workers.specs.declared.log.Own.{Own};
+ghost use Rattle.fetch_workers.specs.Faults.{fault_of_page};
 ghost use Rattle.fetch_workers.specs.Rests.{AreWorkers, IsAssembled, RestsOn};
 
 use crate::crew::run_workers;
@@ -17,7 +19,7 @@ use crate::log::{Own, answers_of, is_log_of};
 use crate::same::same_request;
 use crate::shared_desk::SharedDesk;
 use crate::source::Source;
-use edge_types::{Answer, Outcome, PageUrl, Request};
+use edge_types::{Answer, NoMemory, Outcome, PageUrl, Request};
 use plan_runner::{Page, State};
 use std::alloc::Global;
 use std::sync::{Arc, Wait};
@@ -79,12 +81,7 @@ where
     ensures { IfOk result (λ page.
         IsAssembled (S.gives source.now) request levels url (map arc_value page.log.items) (shown (arc_value page.outcome))) }
 {
-    let how = Assembling {
-        ahead,
-        workers,
-        levels,
-    };
-    how.assemble(rt, alloc, source, &OpenGate, url, request)
+    Assembling::new(ahead, workers, levels).assemble(rt, alloc, source, &OpenGate, url, request)
 }
 
 /// Assembles a page as `assemble` does, with a gate that is passed before each fetch.
@@ -111,12 +108,7 @@ where
     ensures { IfOk result (λ page.
         IsAssembled (S.gives source.now) request levels url (map arc_value page.log.items) (shown (arc_value page.outcome))) }
 {
-    let how = Assembling {
-        ahead,
-        workers,
-        levels,
-    };
-    how.assemble(rt, alloc, source, gate, url, request)
+    Assembling::new(ahead, workers, levels).assemble(rt, alloc, source, gate, url, request)
 }
 
 impl Assembling {
@@ -155,17 +147,24 @@ impl Assembling {
         ensures { IfOk result (λ page.
             IsAssembled (S.gives source.now) request self.levels url (map arc_value page.log.items) (shown (arc_value page.outcome))) }
     {
-        let page = Page::accept(
+        let page = self.accept(alloc, &url, &request)?;
+        let shared = SharedDesk::new(alloc, page, self.workers);
+        let mut own = run_workers(rt, alloc, source, gate, &shared, self.workers)?;
+        own.sort_unstable_by_key(|o| o.place);
+        compared(alloc, shared.into_page(), own, &url, &request, self.levels)
+    }
+
+    // The page, before anybody works for it.
+    fn accept(self, alloc: Global, url: &PageUrl, request: &Request) -> Result<Page, NoMemory>
+        ensures { IfOk result (λ page. page ≡ accepted url.now request.now self.ahead self.levels) }
+    {
+        Page::accept(
             alloc,
             url.share()?,
             request.copy(alloc)?,
             self.ahead,
             self.levels,
-        )?;
-        let shared = SharedDesk::new(alloc, page, self.workers);
-        let mut own = run_workers(rt, alloc, source, gate, &shared, self.workers)?;
-        own.sort_unstable_by_key(|o| o.place);
-        compared(alloc, shared.into_page(), own, &url, &request, self.levels)
+        )
     }
 }
 
@@ -192,9 +191,10 @@ fn compared(
     Ok(Assembled { outcome, log })
 }
 
-// The outcome of a page that is done.
+// The outcome of a page that is done; of any other, why it has none.
 fn told(page: &mut Page) -> Result<Arc<Outcome>, AssembleFault>
-    ensures { IfOk result (λ outcome. RestsOn page.new.request page.new.levels page.new.url (log_of page.new.board) (shown (arc_value outcome))) }
+    ensures outcome { IfOk result (λ outcome. RestsOn page.new.request page.new.levels page.new.url (log_of page.new.board) (shown (arc_value outcome))) }
+    ensures fault { IfErr result (λ fault. fault ≡ fault_of_page page.new.standing) }
 {
     match page.advance() {
         Ok(State::Done(outcome)) => Ok(outcome),

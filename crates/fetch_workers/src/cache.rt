@@ -10,6 +10,7 @@ use crate::source::Source;
 use edge_types::{Answer, NoMemory, PageUrl};
 use fragment_cache::{Begun, Flight, MAX_CAPACITY};
 use std::alloc::Global;
+use std::array;
 use std::sync::{Arc, Wait};
 
 /// How many shards a cache has, each under a lock of its own.
@@ -52,16 +53,7 @@ impl<S: Drop, C: Drop> Cache<S, C> {
         Ok(Cache {
             source,
             clock,
-            shards: [
-                SharedShard::new(alloc, capacity)?,
-                SharedShard::new(alloc, capacity)?,
-                SharedShard::new(alloc, capacity)?,
-                SharedShard::new(alloc, capacity)?,
-                SharedShard::new(alloc, capacity)?,
-                SharedShard::new(alloc, capacity)?,
-                SharedShard::new(alloc, capacity)?,
-                SharedShard::new(alloc, capacity)?,
-            ],
+            shards: array::try_from_fn(|_| SharedShard::new(alloc, capacity))?,
         })
     }
 }

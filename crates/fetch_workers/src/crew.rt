@@ -1,7 +1,8 @@
 //! The threads of a page. Each starts at most one other at a time, and joins those that it started.
 
-ghost use Rattle.std.specs.Prelude.{◌≡◌, ◌<◌, IfOk};
+ghost use Rattle.std.specs.Prelude.{◌≡◌, ◌<◌, IfOk, IfErr};
 ghost use Rattle.std.specs.Thread.{IsSync};
+ghost use Rattle.fetch_workers.specs.Faults.{fault_of_both};
 ghost use Rattle.fetch_workers.specs.Given.{AllOwn};
 
 use crate::fault::AssembleFault;
@@ -100,7 +101,7 @@ where
     both::<R, S>(source, rest, child.join(rt))
 }
 
-// What both posted, or the first of their faults.
+// What both posted, or the first of their faults; out of memory if there is no room for what both posted.
 fn both<R, S: Source<R>>(
     _source: &S,
     one: Result<Vec<Own>, AssembleFault>,
@@ -108,11 +109,12 @@ fn both<R, S: Source<R>>(
 ) -> Result<Vec<Own>, AssembleFault>
     requires one { IfOk one (λ own. AllOwn (S.gives _source.now) own.items) }
     requires other { IfOk other (λ own. AllOwn (S.gives _source.now) own.items) }
-    ensures { IfOk result (λ own. AllOwn (S.gives _source.now) own.items) }
+    ensures given { IfOk result (λ own. AllOwn (S.gives _source.now) own.items) }
+    ensures fault { IfErr result (λ fault. fault ≡ fault_of_both one other) }
 {
     let (mut all, mut more) = match (one, other) {
         (Ok(all), Ok(more)) => (all, more),
-        (Err(one), Err(other)) => return Err(one.min(other)),
+        (Err(one), Err(other)) => return Err(one.or_earlier(other)),
         (Err(fault), Ok(_)) => return Err(fault),
         (Ok(_), Err(fault)) => return Err(fault),
     };

@@ -1,8 +1,9 @@
 //! The state under a page's lock, and every decision about it.
 
-ghost use Rattle.std.specs.Prelude.{◌≡◌, ◌↔◌, ◌+◌, ◌<◌, ◌≤◌, IsTrue, MatchBool};
+ghost use Rattle.std.specs.Prelude.{◌≡◌, ◌↔◌, ◌+◌, ◌-◌, ◌^◌, ◌<◌, ◌≤◌, min, IsTrue, MatchBool};
 ghost use Rattle.std.specs.VecDeque.{deque_len};
 ghost use Rattle.plan_runner.specs.Sound.{IsSound};
+ghost use Rattle.fetch_workers.specs.Faults.{fault_of_refusal};
 
 use crate::fault::AssembleFault;
 use answer_board::{Receipt, Ticket};
@@ -61,6 +62,9 @@ pub(crate) enum Turn {
 impl Desk {
     pub(crate) fn new(alloc: Global, page: Page, workers: u8) -> Desk
         requires { 0 < workers }
+        ensures page { result.page ≡ page }
+        ensures limit { result.limit ≡ workers }
+        ensures threads { (result.threads ≡ 1) × (result.asleep ≡ 0) }
     {
         Desk {
             page,
@@ -157,11 +161,15 @@ impl Desk {
         }
     }
 
-    pub(crate) fn falls_asleep(&mut self) {
+    pub(crate) fn falls_asleep(&mut self)
+        ensures { self.new.asleep ≡ min (self.old.asleep + 1) (2 ^ 8 - 1) }
+    {
         self.asleep = self.asleep.saturating_add(1);
     }
 
-    pub(crate) fn wakes(&mut self) {
+    pub(crate) fn wakes(&mut self)
+        ensures { self.new.asleep ≡ self.old.asleep - 1 }
+    {
         self.asleep = self.asleep.saturating_sub(1);
     }
 
@@ -186,7 +194,9 @@ impl Desk {
 
 // What a page's refusal means. Only a page other than the one that gave the ticket refuses a
 // receipt.
-fn refused(fault: PostFault) -> AssembleFault {
+fn refused(fault: PostFault) -> AssembleFault
+    ensures { result ≡ fault_of_refusal fault }
+{
     match fault {
         PostFault::NoMemory => AssembleFault::NoMemory,
         PostFault::Broken(receipt) => {

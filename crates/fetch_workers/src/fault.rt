@@ -1,5 +1,9 @@
 //! Why a page was not assembled.
 
+ghost use Rattle.std.specs.Prelude.{◌≡◌};
+ghost use Rattle.fetch_workers.specs.Faults.{first_of};
+ghost use Rattle.fetch_workers.specs.declared.fault.AssembleFault.TheVariants as fault;
+
 use edge_types::NoMemory;
 use thiserror::Error;
 
@@ -18,7 +22,18 @@ pub enum AssembleFault {
     Torn,
 }
 
+impl AssembleFault {
+    /// The first of two.
+    pub(crate) fn or_earlier(self, other: AssembleFault) -> AssembleFault
+        ensures { result ≡ first_of self other }
+    {
+        self.min(other)
+    }
+}
+
 impl From<NoMemory> for AssembleFault {
+    ghost from_gives = { λ _ reported. reported ≡ fault.NoMemory };
+
     fn from(_: NoMemory) -> AssembleFault {
         AssembleFault::NoMemory
     }
