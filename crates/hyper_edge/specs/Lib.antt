@@ -1,2 +1,4 @@
 pub mod Roster
 pub mod Responses
+pub mod Records
+pub mod Lines

@@ -1,7 +1,11 @@
 -- When threads that serve may accept, when one more is wanted, and when failed accepts end a
 -- server.
-use Rattle.std.specs.Prelude.{◌+◌, ◌-◌, ◌^◌, ◌<◌, ◌≤◌, min, false, IsFalse}
+use Rattle.std.specs.Prelude.{ℕ, ◌+◌, ◌-◌, ◌^◌, ◌<◌, ◌≤◌, min, false, true, IsFalse}
 use Rattle.hyper_edge.specs.declared.roster.Roster.{Roster}
+
+-- before any accept: nobody serves, and the first thread is wanted
+abbrev pub opened : ℕ → ℕ → Roster
+opened count most = record { left = count; threads = 0; most = most; serving = 0; failed = 0; wanted = true }
 
 -- this many accepts have failed since the last that succeeded, so no more are made
 abbrev pub HasFailed : Roster → Type 0
@@ -24,6 +28,10 @@ given_back roster = record roster { left = min (roster.left + 1) (2 ^ 64 - 1); f
 abbrev pub succeeded : Roster → Roster
 succeeded roster = record roster { failed = 0; serving = min (roster.serving + 1) (2 ^ 16 - 1) }
 
+-- one thread fewer serves
+abbrev pub has_served : Roster → Roster
+has_served roster = record roster { serving = roster.serving - 1 }
+
 -- one more thread is wanted: all existing ones are serving, there may be more, and none is wanted yet
 pub record WantsThread (roster : Roster) : Type 0 where
   pub quiet : IsFalse roster.wanted
@@ -33,3 +41,7 @@ pub record WantsThread (roster : Roster) : Type 0 where
 -- a thread that was wanted is counted
 abbrev pub counted : Roster → Roster
 counted roster = record roster { wanted = false; threads = min (roster.threads + 1) (2 ^ 16 - 1) }
+
+-- a thread that was counted could not be started
+abbrev pub uncounted : Roster → Roster
+uncounted roster = record roster { threads = roster.threads - 1 }

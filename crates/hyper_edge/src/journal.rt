@@ -1,11 +1,19 @@
 //! What a server reports about the requests that it answered.
 
+ghost use Rattle.std.specs.Prelude.{◌≡◌, ◌/◌, ◌-◌, ◌^◌, min, length, slice_get, IfSome};
+ghost use Rattle.std.specs.Arc.{arc_value};
+ghost use Rattle.std.specs.Duration.{as_nanos};
+ghost use Rattle.edge_types.specs.Pieces.{joined};
+ghost use Rattle.http.specs.Request as http;
+ghost use Rattle.page_http.specs.Sent.{sent};
+ghost use Rattle.hyper_edge.specs.Records.{IsCopyOrEmpty};
+
 use crate::responding::Responded;
 use http::Request;
 use http_body::Body;
 use std::alloc::{AllocError, Global};
 use std::sync::{Arc, Mutex, Wait};
-use std::time::{Clock, Instant};
+use std::time::{Clock, Duration, Instant};
 
 /// What each request that was answered is reported to, by the threads that serve.
 ///
@@ -75,14 +83,7 @@ impl Note {
         request: &Request<B>,
         responded: &Responded,
     ) {
-        let record = RequestRecord {
-            method: copy(alloc, request.method().as_str().as_bytes()),
-            url: url_of(alloc, request, responded),
-            status: responded.response.status().as_u16(),
-            body: responded.response.body().size_hint().exact().unwrap_or(0),
-            answers: responded.log.len() as u64,
-            micros: 0,
-        };
+        let record = record_of(alloc, request, responded);
         *self.left.lock(rt) = Some((begun, record));
     }
 
@@ -92,14 +93,41 @@ impl Note {
             return;
         };
         if let Ok(taken) = begun.elapsed(rt) {
-            record.micros = u64::try_from(taken.as_micros()).unwrap_or(u64::MAX);
+            record.micros = micros_of(taken);
         }
         journal.served(rt, &record);
     }
 }
 
+// The record of how a request was answered, as long as its connection hasn't ended.
+fn record_of<B>(alloc: Global, request: &Request<B>, responded: &Responded) -> RequestRecord
+    ensures method { IsCopyOrEmpty (http.head_of request.now).method result.method.items }
+    ensures url { IfSome (slice_get responded.now.log.items 0) (λ page. IsCopyOrEmpty (arc_value page).url result.url.items) }
+    ensures status { result.status ≡ (sent responded.now.response).status }
+    ensures body { result.body ≡ length (joined (sent responded.now.response).frames) }
+    ensures answers { result.answers ≡ length responded.now.log.items }
+{
+    RequestRecord {
+        method: copy(alloc, request.method().as_str().as_bytes()),
+        url: url_of(alloc, request, responded),
+        status: responded.response.status().as_u16(),
+        body: responded.response.body().size_hint().exact().unwrap_or(0),
+        answers: responded.log.len() as u64,
+        micros: 0,
+    }
+}
+
+// The whole microseconds of a time, at most `u64::MAX`.
+fn micros_of(taken: Duration) -> u64
+    ensures { result ≡ min (as_nanos taken / 1_000) (2 ^ 64 - 1) }
+{
+    u64::try_from(taken.as_micros()).unwrap_or(u64::MAX)
+}
+
 // The URL of the page that was assembled, whose own answer came first; else the request's target.
-fn url_of<B>(alloc: Global, request: &Request<B>, responded: &Responded) -> Vec<u8> {
+fn url_of<B>(alloc: Global, request: &Request<B>, responded: &Responded) -> Vec<u8>
+    ensures { IfSome (slice_get responded.now.log.items 0) (λ page. IsCopyOrEmpty (arc_value page).url result.items) }
+{
     match responded.log.first() {
         Some(page) => copy(alloc, page.url().as_bytes()),
         None => match format!(in alloc; "{}", request.uri()) {
@@ -109,6 +137,8 @@ fn url_of<B>(alloc: Global, request: &Request<B>, responded: &Responded) -> Vec<
     }
 }
 
-fn copy(alloc: Global, text: &[u8]) -> Vec<u8> {
+fn copy(alloc: Global, text: &[u8]) -> Vec<u8>
+    ensures { IsCopyOrEmpty text.now result.items }
+{
     text.to_vec(alloc).unwrap_or(Vec::new(alloc))
 }

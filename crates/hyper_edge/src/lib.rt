@@ -20,6 +20,7 @@ pub use client_stream::{ClientStream, Limits};
 pub use connection::serve_io;
 pub use executor::Executor;
 pub use journal::{Journal, NoJournal, RequestRecord};
+pub use page_http::{EdgeBody, Field, HeadFault, answer_head, refusal_of, response_of};
 pub use responding::respond;
 pub use roster::ServeEnd;
 pub use runtime::ServerRuntime;

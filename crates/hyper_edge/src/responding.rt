@@ -37,8 +37,21 @@ where
     ensures { IfOk result (λ response.
         spec.Responds (S.gives source.now) method.now target.now fields.now how.levels (sent response)) }
 {
-    let responded = respond_with_log(rt, alloc, source, method, target, fields, how)?;
+    let head = RequestHead {
+        method,
+        target,
+        fields,
+    };
+    let responded = respond_with_log(rt, alloc, source, &head, how)?;
     Ok(responded.response)
+}
+
+/// The head of a request, as `answer_head` reads it.
+#[derive(Clone, Copy)]
+pub(crate) struct RequestHead<'a> {
+    pub(crate) method: &'a [u8],
+    pub(crate) target: &'a [u8],
+    pub(crate) fields: &'a [Field<'a>],
 }
 
 /// A response, and the answers that it rests on: a page's own first; none for a refusal.
@@ -53,18 +66,16 @@ pub(crate) fn respond_with_log<R, S>(
     rt: &R,
     alloc: Global,
     source: &S,
-    method: &[u8],
-    target: &[u8],
-    fields: &[Field<'_>],
+    head: &RequestHead<'_>,
     how: Assembling,
 ) -> Result<Responded, NoMemory>
 where
     R: Wait + Threads + Sync,
     S: Source<R> + Sync,
     ensures { IfOk result (λ responded.
-        spec.Responds (S.gives source.now) method.now target.now fields.now how.levels (sent responded.response)) }
+        spec.Responds (S.gives source.now) head.now.method.now head.now.target.now head.now.fields.now how.levels (sent responded.response)) }
 {
-    match answer_head(alloc, method, target, fields) {
+    match answer_head(alloc, head.method, head.target, head.fields) {
         Ok((url, request)) => paged(rt, alloc, source, url, request, how),
         Err(HeadFault::Method) => refused(alloc, 405),
         Err(HeadFault::Unreadable) => refused(alloc, 400),

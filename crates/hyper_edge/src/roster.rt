@@ -34,7 +34,9 @@ pub(crate) struct Roster {
 
 impl Roster {
     /// For this many accepts, by at most this many threads, of which the first is wanted.
-    pub(crate) fn new(count: u64, most: u16) -> Roster {
+    pub(crate) fn new(count: u64, most: u16) -> Roster
+        ensures { result ≡ spec.opened count most }
+    {
         Roster {
             left: count,
             threads: 0,
@@ -75,7 +77,9 @@ impl Roster {
     }
 
     /// A thread has served.
-    pub(crate) fn served(&mut self) {
+    pub(crate) fn served(&mut self)
+        ensures { self.new ≡ spec.has_served self.old }
+    {
         self.serving = self.serving.saturating_sub(1);
     }
 
@@ -104,7 +108,10 @@ impl Roster {
     }
 
     /// Called when a thread could not be started. Returns true if no thread is left.
-    pub(crate) fn not_started(&mut self) -> bool {
+    pub(crate) fn not_started(&mut self) -> bool
+        ensures uncounted { self.new ≡ spec.uncounted self.old }
+        ensures alone { IsTrue result ↔ (self.new.threads ≡ 0) }
+    {
         self.threads = self.threads.saturating_sub(1);
         self.threads == 0
     }

@@ -1,7 +1,10 @@
 //! What answers the requests of a connection.
 
+ghost use Rattle.std.specs.Prelude.{◌≡◌, map, IfOk};
+ghost use Rattle.hyper_edge.specs.Lines.{line, lines_of};
+
 use crate::journal::Note;
-use crate::responding::{Responded, no_room, respond_with_log};
+use crate::responding::{RequestHead, Responded, no_room, respond_with_log};
 use edge_types::NoMemory;
 use fetch_workers::{Assembling, Source};
 use http::header::HeaderValue;
@@ -88,15 +91,12 @@ where
         let Ok(target) = target_of(alloc, request.uri()) else {
             return no_room(alloc);
         };
-        respond_with_log(
-            &self.rt,
-            alloc,
-            &*self.source,
-            request.method().as_str().as_bytes(),
-            target.as_bytes(),
-            fields.as_slice(),
-            self.how,
-        )
+        let head = RequestHead {
+            method: request.method().as_str().as_bytes(),
+            target: target.as_bytes(),
+            fields: fields.as_slice(),
+        };
+        respond_with_log(&self.rt, alloc, &*self.source, &head, self.how)
     }
 }
 
@@ -113,8 +113,10 @@ impl<S: Drop, R: Clone + Drop> EdgeService<S, R> {
     }
 }
 
-// The lines of a head, in order.
-fn fields_of(alloc: Global, headers: &HeaderMap<HeaderValue>) -> Result<Vec<Field<'_>>, NoMemory> {
+// The lines of a head.
+fn fields_of(alloc: Global, headers: &HeaderMap<HeaderValue>) -> Result<Vec<Field<'_>>, NoMemory>
+    ensures { IfOk result (λ fields. map line fields.items ≡ lines_of headers.now) }
+{
     let mut fields = Vec::new(alloc);
     for (name, value) in headers.iter() {
         fields.push(Field {

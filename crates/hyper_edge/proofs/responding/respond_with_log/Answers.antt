@@ -8,6 +8,6 @@ use Rattle.hyper_edge.proofs.responding.respond_with_log.Goals as goal
 
 pub returns-in-Err-Unreadable : goal.returns-in-Err-Unreadable
 returns-in-Err-Unreadable g c =
-    let get : c.args.method.now ≡ served = is_served c.args.method.now (search rules) in
-    let nothing : spec.AsksNothing c.args.target.now c.args.fields.now = c.in-Err-Unreadable.ensures.unreadable (search rules) in
+    let get : c.args.head.now.method.now ≡ served = is_served c.args.head.now.method.now (search rules) in
+    let nothing : spec.AsksNothing c.args.head.now.target.now c.args.head.now.fields.now = c.in-Err-Unreadable.ensures.unreadable (search rules) in
     IfOk-weaker c.refused-in-Err-Unreadable.result _ _ (λ responded same. inr (get, inl (nothing, same))) c.refused-in-Err-Unreadable.ensures
