@@ -1,3 +1,4 @@
 pub mod Stops
 pub mod Troubles
+pub mod Words
 pub mod Laws

@@ -1,9 +1,10 @@
 //! What is wrong with a test.
 
-ghost use Rattle.std.specs.Prelude.{◌≡◌, IfOk};
+ghost use Rattle.std.specs.Prelude.{◌≡◌, IfOk, Some};
 ghost use Rattle.esi_expr.specs.Shown.{shown_stop};
 ghost use Rattle.expr_check.specs.Stops as stops;
 ghost use Rattle.expr_check.specs.Troubles as spec;
+ghost use Rattle.expr_check.specs.Words.{words_of};
 
 use edge_types::NoMemory;
 use esi_expr::{Halt, Stop, Wanted, read};
@@ -46,6 +47,8 @@ pub struct TestTrouble {
 }
 
 impl fmt::Display for TestProblem {
+    ghost output = { λ problem. Some (words_of problem) };
+
     fn fmt<W: fmt::Write>(&self, f: &mut fmt::Formatter<W>) -> fmt::Result {
         f.write_str(match self {
             TestProblem::NoOperand => {
