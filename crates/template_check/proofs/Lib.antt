@@ -1,10 +1,12 @@
 pub mod ElementLemmas
+pub mod MessageLemmas
 pub mod OpenLemmas
 pub mod PartLemmas
 pub mod PlaceLemmas
 pub mod PositionLemmas
 pub mod ReadLemmas
 pub mod RefusalLemmas
+pub mod ReportLemmas
 pub mod SayLemmas
 pub mod TagLemmas
 pub mod WarnedLemmas

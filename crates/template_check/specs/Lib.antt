@@ -6,4 +6,5 @@ pub mod Refusals
 pub mod Laws
 pub mod Warnings
 pub mod Warned
+pub mod Messages
 pub mod Report

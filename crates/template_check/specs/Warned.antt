@@ -3,6 +3,7 @@ use Rattle.std.specs.Prelude.{ℕ, ◌+◌, ◌-◌, Bool, true, false, not, ◌
 use Rattle.std.specs.Option.{option_or}
 use Rattle.std.specs.Str.{str_eq_ignore_ascii_case}
 use Rattle.edge_types.specs.Asked.{asked, resolve}
+use Rattle.edge_types.specs.WhiteSpace.{after_ws}
 use Rattle.esi_scanner.specs.declared.attribute.KnownAttribute.{KnownAttribute}
 use Rattle.esi_scanner.specs.declared.attribute.KnownAttribute.TheVariants as known
 use Rattle.esi_scanner.specs.declared.element_name.ElementName.{ElementName}
@@ -49,12 +50,6 @@ abbrev pub reference_warning : Bool → List ℕ → Option Warning
 reference_warning replaced text = if bytes.begins_with text (codes "$(") then judged replaced (reference_at text) else None
 
 -- ---- text
-
-abbrev pub ws_len : List ℕ → ℕ
-ws_len text = bytes.ws_len text
-
-abbrev pub after_ws : List ℕ → List ℕ
-after_ws text = bytes.after_ws text
 
 -- `esi:`, in letters of any case
 abbrev pub begins_name : List ℕ → Bool

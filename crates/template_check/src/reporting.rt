@@ -1,13 +1,14 @@
 //! Prints what is to be reported of a text.
 
-ghost use Rattle.std.specs.Prelude.{◌≡◌, ◌≤◌, IfOk, length};
+ghost use Rattle.std.specs.Prelude.{◌≡◌, IfOk, OnOk};
+ghost use Rattle.std.specs.Io.KnownBytes.{Appends};
 ghost use Rattle.template_check.specs.Checking.{fault_of};
-ghost use Rattle.template_check.specs.Report.{fault_count, told_of};
-ghost use Rattle.template_check.specs.Warned.{warnings_of};
+ghost use Rattle.template_check.specs.Positions.{position_of};
+ghost use Rattle.template_check.specs.Report as spec;
 
 use crate::checker::check;
 use crate::message::Message;
-use crate::position::Position;
+use crate::position::{Position, position_of};
 use crate::warned::{Warned, warnings};
 use edge_types::{NoMemory, SharedBytes};
 use std::alloc::Global;
@@ -56,7 +57,9 @@ fn report_fault<W: Write>(
     name: &str,
     text: &SharedBytes,
 ) -> Result<usize, ReportFault>
-    ensures { IfOk result (λ errors. errors ≡ fault_count (fault_of text.now)) }
+    ensures count { IfOk result (λ errors. errors ≡ spec.fault_count (fault_of text.now)) }
+    ensures written { OnOk result
+        (Appends (W.contents writer.old) (W.contents writer.new) (spec.fault_lines name.now text.now (fault_of text.now))) }
 {
     match check(alloc, text)? {
         Some(fault) => {
@@ -71,13 +74,30 @@ fn report_fault<W: Write>(
     }
 }
 
+// The position of a place, counted on from that of an earlier one; of one that isn't earlier, counted anew.
+#[tactic(auto, using(crate::proofs::PositionLemmas::counted_on, crate::proofs::PositionLemmas::lines_few, crate::proofs::PositionLemmas::columns_few))]
+fn position_from(text: &[u8], position: Position, at: usize, place: usize) -> Position
+    requires { position ≡ position_of text.now at }
+    ensures { result ≡ position_of text.now place }
+{
+    if place < at || text.len() < at {
+        return position_of(text, place);
+    }
+    let (_, rest) = text.split_at(at);
+    let (between, _) = rest.split_at((place - at).min(rest.len()));
+    position.behind(between)
+}
+
 // Prints a warning.
 fn print_warning<W: Write>(
     writer: &mut W,
     name: &str,
     position: Position,
     warned: Warned,
-) -> io::Result<()> {
+) -> io::Result<()>
+    ensures { OnOk result
+        (Appends (W.contents writer.old) (W.contents writer.new) (spec.warning_at name.now position warned.warning)) }
+{
     let Position { line, column } = position;
     let warning = warned.warning;
     writeln!(writer, "{name}:{line}:{column}: warning: {warning}")
@@ -89,14 +109,15 @@ fn print_warnings<W: Write>(
     name: &str,
     text: &[u8],
     found: &[Warned],
-) -> io::Result<()> {
+) -> io::Result<()>
+    ensures { OnOk result
+        (Appends (W.contents writer.old) (W.contents writer.new) (spec.warning_lines name.now text.now found.now)) }
+{
     let mut position = Position::START;
-    let mut rest = text;
+    let mut at = 0;
     for warned in found {
-        let at = text.len() - rest.len();
-        let (between, after) = rest.split_at(warned.place.saturating_sub(at).min(rest.len()));
-        position = position.behind(between);
-        rest = after;
+        position = position_from(text, position, at, warned.place);
+        at = warned.place;
         print_warning(writer, name, position, *warned)?;
     }
     Ok(())
@@ -110,7 +131,9 @@ pub fn report<W: Write>(
     name: &str,
     text: &SharedBytes,
 ) -> Result<Told, ReportFault>
-    ensures { IfOk result (λ told. told ≡ told_of text.now) }
+    ensures told { IfOk result (λ told. told ≡ spec.told_of text.now) }
+    ensures written { OnOk result
+        (Appends (W.contents writer.old) (W.contents writer.new) (spec.reported name.now text.now)) }
 {
     let errors = report_fault(alloc, writer, name, text)?;
     let found = warnings(alloc, text.as_bytes())?;

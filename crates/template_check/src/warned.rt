@@ -5,7 +5,7 @@ ghost use Rattle.esi_vars.specs.Shown.{shown_reference};
 ghost use Rattle.template_check.specs.Warned as spec;
 
 use crate::warning::Warning;
-use edge_types::{NoMemory, PageUrl, is_ws};
+use edge_types::{NoMemory, PageUrl, after_ws};
 use esi_scanner::{ElementName, Kind, KnownAttribute, ScanFault, Span, Tag, Token, scan};
 use esi_vars::{Reference, Variable, reference_at};
 use std::alloc::Global;
@@ -57,28 +57,6 @@ fn reference_warning(
     } else {
         Ok(None)
     }
-}
-
-// How many bytes of white space are at the front.
-fn ws_len(text: &[u8]) -> usize
-    ensures value { result ≡ spec.ws_len text.now }
-    ensures within { result ≤ length text.now }
-{
-    for (i, byte) in text.iter().enumerate() {
-        if !is_ws(*byte) {
-            return i;
-        }
-    }
-    text.len()
-}
-
-// What follows the white space at the front.
-pub(crate) fn after_ws(text: &[u8]) -> &[u8]
-    ensures value { result.now ≡ spec.after_ws text.now }
-    ensures within { length result.now ≤ length text.now }
-{
-    let (_, rest) = text.split_at(ws_len(text));
-    rest
 }
 
 // Whether a text begins with `esi:`, in letters of any case.

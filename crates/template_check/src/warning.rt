@@ -1,12 +1,12 @@
 //! Likely mistakes that aren't faults of a template.
 
-ghost use Rattle.std.specs.Prelude.{◌≡◌, false};
+ghost use Rattle.std.specs.Prelude.{◌≡◌, false, Some};
 ghost use Rattle.std.specs.List.{list_any};
+ghost use Rattle.template_check.specs.Messages.{warning_words};
 ghost use Rattle.template_check.specs.Warnings as spec;
 
 use esi_scanner::{Attribute, AttributeName, Attributes, ElementName, KnownAttribute, Tag};
 use std::fmt;
-use std::fmt::Write;
 
 /// A likely mistake in a template that isn't a fault.
 #[derive(Clone, Copy, Debug, Drop, PartialEq, Eq)]
@@ -146,48 +146,36 @@ fn has_empty_text(attributes: &Attributes) -> bool
 }
 
 impl fmt::Display for Warning {
+    ghost output = { λ warning. Some (warning_words warning) };
+
     fn fmt<W: fmt::Write>(&self, f: &mut fmt::Formatter<W>) -> fmt::Result {
-        match self {
-            Warning::OnError => write!(
-                f,
+        f.write_str(match self {
+            Warning::OnError => {
                 "`onerror` says nothing here: its one value is `continue`, which leaves out an include that fails"
-            ),
+            }
             Warning::UnknownAttribute => {
-                write!(
-                    f,
-                    "an attribute here says nothing: the language doesn't name it"
-                )
+                "an attribute here says nothing: the language doesn't name it"
             }
-            Warning::EmptySource => write!(f, "an empty `src` asks for this page itself"),
-            Warning::SecureSource => write!(
-                f,
+            Warning::EmptySource => "an empty `src` asks for this page itself",
+            Warning::SecureSource => {
                 "this can only fail: origins are asked by `http:` alone, so write a path or an `http:` URL"
-            ),
-            Warning::EmptyText => write!(
-                f,
+            }
+            Warning::EmptyText => {
                 "a comparison with `''` is always false: a reference alone asks whether it is empty"
-            ),
-            Warning::IdleReference => write!(
-                f,
+            }
+            Warning::IdleReference => {
                 "this reference is printed as it stands: it isn't between <esi:vars> and </esi:vars>"
-            ),
-            Warning::UnknownVariable => write!(
-                f,
+            }
+            Warning::UnknownVariable => {
                 "no variable has this name: there are HTTP_ACCEPT_LANGUAGE, HTTP_COOKIE, HTTP_HOST, HTTP_REFERER, HTTP_USER_AGENT and QUERY_STRING"
-            ),
-            Warning::NoReference => {
-                write!(f, "this `$(` begins no reference: it stands as it is")
             }
+            Warning::NoReference => "this `$(` begins no reference: it stands as it is",
             Warning::TagInText => {
-                write!(
-                    f,
-                    "this is text and no tag: a tag begins with `<esi:`, in small letters and without spaces"
-                )
+                "this is text and no tag: a tag begins with `<esi:`, in small letters and without spaces"
             }
-            Warning::IdleName => write!(
-                f,
+            Warning::IdleName => {
                 "no include can ask for this inline: name it by a path, such as /box, or by an `http:` URL"
-            ),
-        }
+            }
+        })
     }
 }

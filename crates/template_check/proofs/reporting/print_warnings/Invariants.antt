@@ -1,9 +1,11 @@
-use Rattle.std.proofs.Common.{◌≤◌, ◌+◌, length}
+use Rattle.std.proofs.Common.{◌≡◌, take}
+use Rattle.std.specs.Io.KnownBytes.{Appends}
+use Rattle.template_check.specs.Positions.{position_of}
+use Rattle.template_check.specs.Report.{warning_lines}
 use Rattle.template_check.proofs.reporting.print_warnings.Given as goal
 
 abbrev pub invariant-loop-warned : goal.invariant-loop-warned
 invariant-loop-warned g l = record {
-  within : length l.rest ≤ length l.text;
-  line : l.position.line + length l.rest ≤ length l.text + 1;
-  column : l.position.column + length l.rest ≤ length l.text + 1;
+  counted : l.position ≡ position_of l.text l.at;
+  written : Appends (g.W.Write.contents l.initial.writer) (g.W.Write.contents l.writer) (warning_lines l.name l.text (take l.warned-index l.found));
 }
