@@ -12,7 +12,7 @@ use Rattle.edge_case.specs.Order.{events_of}
 use Rattle.edge_setup.specs.Case.{case_command}
 use Rattle.edge_setup.specs.Check.{check_command, SaysChecking}
 use Rattle.edge_setup.specs.Command.{serve_command}
-use Rattle.edge_setup.specs.Words.{IsWithin as IsWithinPages, IsWrong, SaysSetup, is_set}
+use Rattle.edge_setup.specs.Words.{IsFirstWrong, IsWithin as IsWithinPages, SaysSetup, is_set}
 use Rattle.edge_setup.specs.declared.check.Checking.{Checking}
 use Rattle.edge_setup.specs.declared.setup.Setup.{Setup}
 use Rattle.edge_main.specs.declared.asked.Asked.{Asked}
@@ -91,7 +91,7 @@ IsAsked met (Check checking) = AsksCheckOf met checking
 
 -- why the rows of `serve` are refused
 abbrev pub IsRefusedToServe : List Row → Refusal → Type 0
-IsRefusedToServe rows (refusal.Serve option) = IsWrong rows option
+IsRefusedToServe rows (refusal.Serve option) = IsFirstWrong rows option
 IsRefusedToServe rows refusal.NoMemory = Unit {0}
 IsRefusedToServe rows _ = ⊥
 
@@ -114,7 +114,7 @@ IsRefusedBy met (refusal.Words error) = ⊥
 IsRefusedBy met refusal.Order = IsOfCase (name_of met) × (order_of (word_of (codes "order") met) ≡ None)
 IsRefusedBy met refusal.Ahead = IsOfCase (name_of met) × (ahead_of (word_of (codes "ahead") met) ≡ None)
 IsRefusedBy met refusal.Levels = IsOfCase (name_of met) × (levels_of (word_of (codes "levels") met) ≡ None)
-IsRefusedBy met (refusal.Serve option) = (rows : List Row) × (met ≡ Some (codes "serve", rows)) × IsWrong rows option
+IsRefusedBy met (refusal.Serve option) = (rows : List Row) × (met ≡ Some (codes "serve", rows)) × IsFirstWrong rows option
 IsRefusedBy met refusal.NoMemory = Unit {0}
 
 -- ---- what the words ask for

@@ -1,5 +1,5 @@
 -- What the options of `serve` mean, by the rows of `clap`'s matches.
-use Rattle.std.specs.Prelude.{◌≡◌, ◌≤◌, ℕ, Bool, false, ◌||◌, bytes_eq, List, [], ◌∷◌, map, codes, Option, Some, None}
+use Rattle.std.specs.Prelude.{◌≡◌, ◌≤◌, ℕ, Bool, false, ◌||◌, bytes_eq, List, [], ◌∷◌, map, codes, Option, Some, None, IsSome}
 use Rattle.std.specs.Str.{byte}
 use Rattle.std.specs.List.{list_any}
 use Rattle.std.specs.Option.{option_map_or}
@@ -8,7 +8,7 @@ use Rattle.std.specs.declared.net.socket_addr.SocketAddr.{SocketAddr}
 use Rattle.clap.specs.Words.{Row, Text, all_of, first_of}
 use Rattle.edge_types.specs.Halves.{around}
 use Rattle.edge_setup.specs.Decimal.{decimal_of}
-use Rattle.edge_setup.specs.Numbers.{ahead, capacity, client_timeout, levels, said_of, threads, timeout, workers}
+use Rattle.edge_setup.specs.Numbers.{Numeric, ahead, capacity, client_timeout, levels, said_of, threads, timeout, workers}
 use Rattle.edge_setup.specs.declared.setup.Origin.{Origin}
 use Rattle.edge_setup.specs.declared.setup.Pages.{Pages}
 use Rattle.edge_setup.specs.declared.setup.Serving.{Serving}
@@ -108,6 +108,40 @@ IsWrong rows named.Timeout = said_of timeout rows ≡ None
 IsWrong rows named.ClientTimeout = said_of client_timeout rows ≡ None
 IsWrong rows named.Threads = said_of threads rows ≡ None
 
+-- the values of these options are valid
+abbrev pub HasAddress : List Row → Type 0
+HasAddress rows = (address : SocketAddr) × IsAddress (first_of (codes "listen") rows) address
+
+abbrev pub Has : Numeric → List Row → Type 0
+Has option rows = IsSome (said_of option rows)
+
+abbrev pub HasAccepts : List Row → Type 0
+HasAccepts rows = IsSome (accepts_of (first_of (codes "accept") rows))
+
+abbrev pub HasPages : List Row → Type 0
+HasPages rows = Has workers rows × Has ahead rows × Has levels rows × Has capacity rows
+
+abbrev pub HasServing : List Row → Type 0
+HasServing rows = HasAccepts rows × Has timeout rows × Has client_timeout rows × Has threads rows
+
+-- the values of the options that are read before this one are valid
+abbrev pub AreValidBefore : List Row → Named → Type 0
+AreValidBefore rows named.Listen = Unit {0}
+AreValidBefore rows named.Workers = HasAddress rows
+AreValidBefore rows named.Ahead = HasAddress rows × Has workers rows
+AreValidBefore rows named.Levels = HasAddress rows × Has workers rows × Has ahead rows
+AreValidBefore rows named.Capacity = HasAddress rows × Has workers rows × Has ahead rows × Has levels rows
+AreValidBefore rows named.Accept = HasAddress rows × HasPages rows
+AreValidBefore rows named.Timeout = HasAddress rows × HasPages rows × HasAccepts rows
+AreValidBefore rows named.ClientTimeout = HasAddress rows × HasPages rows × HasAccepts rows × Has timeout rows
+AreValidBefore rows named.Threads = HasAddress rows × HasPages rows × HasAccepts rows × Has timeout rows × Has client_timeout rows
+AreValidBefore rows named.Origin = HasAddress rows × HasPages rows × HasServing rows
+
+-- this is the first option, in the order of reading, whose value is invalid
+pub record IsFirstWrong (rows : List Row) (option : Named) : Type 0 where
+  pub wrong : IsWrong rows option
+  pub before : AreValidBefore rows option
+
 -- the line for an option whose words are no use
 abbrev pub refusal_of : Named → Text
 refusal_of named.Listen = codes "error: --listen takes an address with a port, as 127.0.0.1:8080"
@@ -123,7 +157,7 @@ refusal_of named.Threads = threads.refusal
 
 -- why the options are refused
 abbrev pub IsRefusedBy : List Row → SetupFault → Type 0
-IsRefusedBy rows (fault.Wrong option) = IsWrong rows option
+IsRefusedBy rows (fault.Wrong option) = IsFirstWrong rows option
 IsRefusedBy rows fault.NoMemory = Unit {0}
 
 -- the numbers are within their limits

@@ -2,7 +2,7 @@
 ghost use Rattle.std.specs.Prelude.{◌≡◌, option_map, IfOk, MatchOption, MatchResult};
 ghost use Rattle.std.specs.declared.net.socket_addr.SocketAddr.{SocketAddr};
 ghost use Rattle.clap.specs.Words.{first_of, found_of, rows_of};
-ghost use Rattle.edge_setup.specs.Words.{accepts_of, is_set, IsAddress, IsRefusedBy, IsWithin, IsWrong, SaysPages, SaysServing, SaysSetup};
+ghost use Rattle.edge_setup.specs.Words.{accepts_of, is_set, IsAddress, HasAddress, HasPages, IsFirstWrong, IsRefusedBy, IsWithin, SaysPages, SaysServing, SaysSetup};
 
 use crate::decimal::decimal_of;
 use crate::number::{AHEAD, CAPACITY, CLIENT_TIMEOUT, LEVELS, THREADS, TIMEOUT, WORKERS};
@@ -48,7 +48,8 @@ pub fn is_set(word: Option<&str>) -> bool
 
 // How pages are assembled and kept.
 fn pages_of(matches: &ArgMatches<'_>) -> Result<Pages, Named>
-    ensures says { MatchResult result (SaysPages (rows_of (found_of matches.now))) (IsWrong (rows_of (found_of matches.now))) }
+    ensures says { let rows = rows_of (found_of matches.now) in
+        MatchResult result (SaysPages rows) (λ option. HasAddress rows → IsFirstWrong rows option) }
     ensures within { IfOk result IsWithin }
 {
     Ok(Pages {
@@ -61,7 +62,8 @@ fn pages_of(matches: &ArgMatches<'_>) -> Result<Pages, Named>
 
 // How connections are served.
 fn serving_of(matches: &ArgMatches<'_>) -> Result<Serving, Named>
-    ensures { MatchResult result (SaysServing (rows_of (found_of matches.now))) (IsWrong (rows_of (found_of matches.now))) }
+    ensures { let rows = rows_of (found_of matches.now) in
+        MatchResult result (SaysServing rows) (λ option. HasAddress rows → HasPages rows → IsFirstWrong rows option) }
 {
     Ok(Serving {
         accept: accepts_of(word_of(matches, "accept")).ok_or(Named::Accept)?,
