@@ -1,5 +1,6 @@
 pub mod Status
 pub mod CommandLine
 pub mod Laws
+pub mod Server
 pub mod Program
 pub mod Checked

@@ -1,5 +1,5 @@
 -- What is true at each way in which the program ends, over any reader and writer.
-use Rattle.std.specs.Prelude.{◌≡◌, ◌⊎◌, ℕ, Bool, true, false, List, Option, Result, Ok, Err, Vec}
+use Rattle.std.specs.Prelude.{◌≡◌, ◌⊎◌, ℕ, true, false, List, Option, Result, Ok, Err, Vec}
 use Rattle.std.specs.Global.{Global}
 use Rattle.std.specs.Io.KnownBytes.{Keeps}
 use Rattle.clap.specs.Words.{Text}
@@ -13,21 +13,23 @@ use Rattle.edge_main.specs.Status.{status_of}
 use Rattle.edge_main.specs.declared.status.Status.{Status}
 use Rattle.edge_main.specs.declared.status.Status.TheVariants.{Page, PageFault, Served, Checked, FaultFound, Usage, BadOrder, BadOption, NotText, BadCase, NoMemory, InputOutput}
 use Rattle.plan_runner.specs.declared.events.Event.{Event}
-use Rattle.edge_setup.specs.Words.{IsWithin}
 use Rattle.edge_setup.specs.declared.check.Checking.{Checking}
 use Rattle.edge_setup.specs.declared.setup.Setup.{Setup}
+use Rattle.edge_main.specs.declared.server.Server.{Server}
 use Rattle.edge_main.specs.declared.program.Done.{Done}
 use Rattle.edge_main.specs.declared.program.Done.TheVariants.{Ran, Explains, Serves, Checks}
 use Rattle.edge_main.specs.CommandLine.{AsksCase, AsksCheck, AsksServe, AsksWhy}
+use Rattle.edge_main.specs.Server.{IsServerOf}
 
 -- the words ask for a case with this many levels, whatever its events and its slots ahead are
 abbrev pub AsksLevels : List Text → ℕ → Type 0
 AsksLevels words levels = (order : List Event) × (ahead : ℕ) × AsksCase words order ahead levels
 
--- nothing was written, and the words ask to serve with this setup
-pub record AsksToServe (words : List Text) (before after : Option (List ℕ)) (setup : Setup) : Type 0 where
+-- nothing was written, and the words ask for this server
+pub record AsksToServe (words : List Text) (before after : Option (List ℕ)) (server : Server) : Type 0 where
+  pub setup : Setup
   pub asks : AsksServe words setup
-  pub within : IsWithin setup.pages
+  pub serves : IsServerOf setup server
   pub untouched : after ≡ before
 
 -- nothing was written, and the words ask to check these files
@@ -74,12 +76,5 @@ explained_by (Err fault) = Ran (status_of (Err fault))
 abbrev pub Does : List Text → Option (List ℕ) → Option (List ℕ) → Option (List ℕ) → Done → Type 0
 Does words input before after (Ran status) = Ends words input before after status × IsUnasked words status
 Does words input before after (Explains text) = AsksWhyOf words input before after text.items
-Does words input before after (Serves setup) = AsksToServe words before after setup
+Does words input before after (Serves server) = AsksToServe words before after server
 Does words input before after (Checks checking) = AsksToCheck words before after checking
-
--- what is to be served is within its limits
-abbrev pub AreLimits : Done → Type 0
-AreLimits (Ran status) = Unit {0}
-AreLimits (Explains text) = Unit {0}
-AreLimits (Serves setup) = IsWithin setup.pages
-AreLimits (Checks checking) = Unit {0}

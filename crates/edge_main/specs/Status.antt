@@ -1,5 +1,7 @@
 -- How the program ends: exit statuses, and the lines on standard error.
 use Rattle.std.specs.Prelude.{◌≡◌, ◌⊎◌, ℕ, List, codes, Option, Some, None, Result, Ok, Err}
+use Rattle.std.specs.declared.io.ErrorKind.{ErrorKind as IoErrorKind}
+use Rattle.std.specs.declared.io.ErrorKind.TheVariants as io
 use Rattle.clap.specs.declared.error.kind.ErrorKind.{ErrorKind}
 use Rattle.clap.specs.declared.error.kind.ErrorKind.TheVariants.{DisplayHelp, DisplayVersion, OutOfMemory}
 use Rattle.edge_case.specs.declared.ending.CaseEnd.{CaseEnd}
@@ -9,6 +11,10 @@ use Rattle.edge_case.specs.declared.ending.CaseFault.TheVariants as fault
 use Rattle.clap.specs.Words.{kind_of}
 use Rattle.edge_setup.specs.declared.setup.Named.TheVariants as named
 use Rattle.edge_setup.specs.Words.{refusal_of}
+use Rattle.hyper_edge.specs.declared.roster.ServeEnd.{ServeEnd}
+use Rattle.hyper_edge.specs.declared.roster.ServeEnd.TheVariants as end
+use Rattle.template_check.specs.declared.reporting.ReportFault.{ReportFault}
+use Rattle.template_check.specs.declared.reporting.ReportFault.TheVariants as report
 use Rattle.edge_main.specs.declared.asked.Refusal.{Refusal}
 use Rattle.edge_main.specs.declared.asked.Refusal.TheVariants as refusal
 use Rattle.edge_main.specs.declared.status.Status.{Status}
@@ -52,6 +58,22 @@ status_of (Err fault.BadCase) = BadCase
 status_of (Err fault.NoMemory) = NoMemory
 status_of (Err fault.Read) = InputOutput
 status_of (Err fault.Write) = InputOutput
+
+-- how it ends after serving
+abbrev pub serving_status : Result ServeEnd Status → Status
+serving_status (Ok end.Served) = Served
+serving_status (Ok end.AcceptsFailed) = InputOutput
+serving_status (Err status) = status
+
+-- how it ends after a call of the system that failed
+abbrev pub failed_as : IoErrorKind → Status
+failed_as io.OutOfMemory = NoMemory
+failed_as _ = InputOutput
+
+-- how it ends where not everything could be reported of a template
+abbrev pub unreported_as : ReportFault → Status
+unreported_as report.NoMemory = NoMemory
+unreported_as report.Write = InputOutput
 
 -- how it ends if help was asked for, by whether that could be printed
 abbrev pub help_status : {T E : Type 0} → Result T E → Status

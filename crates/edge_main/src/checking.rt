@@ -1,6 +1,7 @@
 //! Checks templates, file by file.
-ghost use Rattle.std.specs.Prelude.{◌≡◌};
-ghost use Rattle.edge_main.specs.Checked.{checked_as};
+ghost use Rattle.std.specs.Prelude.{◌≡◌, ◌+◌, length, IfOk, OnOk};
+ghost use Rattle.template_check.specs.Report.{told_of};
+ghost use Rattle.edge_main.specs.Checked.{checked_as, with_text};
 
 use crate::status::Status;
 use edge_setup::Checking;
@@ -9,7 +10,7 @@ use std::alloc::AllocGlobal;
 use std::io::{BufWriter, Eprint, ErrorKind, Input, IsTerminal, Print, Read, Write};
 use std::rt::Files;
 use std::{fs, io};
-use template_check::{ReportFault, report};
+use template_check::report;
 
 /// The totals over all files.
 #[derive(Clone, Copy, Drop)]
@@ -66,10 +67,12 @@ fn told(rt: &impl Eprint, sum: Sum) {
     );
 }
 
+// Checks the files: each is counted, as checked or as unread.
 fn check_files<R>(rt: &R, files: &[&str]) -> Result<Sum, Status>
 where
     R: Files + AllocGlobal + Input + Print + Eprint,
     R::Reader: Drop,
+    ensures { IfOk result (λ sum. sum.files + sum.unread ≡ length files.now) }
 {
     let mut sum = Sum {
         files: 0,
@@ -105,27 +108,20 @@ where
     Ok(text)
 }
 
-// Checks one file, reports on it, and counts it.
+// Checks a file's text, reports on it, and adds what was reported to the totals.
 fn check_text<R: AllocGlobal, W: Write>(
     rt: &R,
     writer: &mut W,
     name: &str,
     text: Vec<u8>,
     sum: &mut Sum,
-) -> Result<(), Status> {
+) -> Result<(), Status>
+    ensures { OnOk result (sum.new ≡ with_text (told_of text.items) sum.old) }
+{
     let text = SharedBytes::of(text)?;
     let told = report(rt.alloc(), writer, name, &text)?;
     sum.files = sum.files.saturating_add(1);
     sum.errors = sum.errors.saturating_add(told.errors as u64);
     sum.warnings = sum.warnings.saturating_add(told.warnings as u64);
     Ok(())
-}
-
-impl From<ReportFault> for Status {
-    fn from(fault: ReportFault) -> Status {
-        match fault {
-            ReportFault::NoMemory => Status::NoMemory,
-            ReportFault::Write => Status::InputOutput,
-        }
-    }
 }

@@ -3,14 +3,15 @@
 #![tactic(auto)]
 
 ghost use Rattle.clap.specs.Words.{kind_of};
-ghost use Rattle.edge_main.specs.Program.{AreLimits};
 ghost use Rattle.edge_main.specs.Status.{IsEndOf, IsRefusedAs};
 
 mod asked;
 mod checking;
 mod command_line;
 pub mod laws;
+mod options;
 mod program;
+mod server;
 mod serving;
 mod status;
 mod why;
@@ -31,7 +32,7 @@ fn main(rt: HostRuntime) -> ExitCode {
         Ok(words) => match run(&rt, words.as_slice()) {
             Done::Ran(status) => status,
             Done::Explains(text) => explain(&rt, &text),
-            Done::Serves(setup) => Status::of_serving(serve(&rt, setup)),
+            Done::Serves(server) => Status::of_serving(serve(&rt, server)),
             Done::Checks(checking) => check(&rt, &checking),
         },
         Err(status) => status,
@@ -52,9 +53,7 @@ fn words(rt: &HostRuntime) -> Result<Vec<String>, Status> {
 }
 
 // Judges the words, and runs the case that they ask for over standard input and output.
-fn run<'a>(rt: &HostRuntime, words: &'a [String]) -> Done<'a>
-    ensures { AreLimits result }
-{
+fn run<'a>(rt: &HostRuntime, words: &'a [String]) -> Done<'a> {
     match run_words(rt.alloc(), words, &mut rt.reader(), &mut io::writer(rt)) {
         Ok(done) => done,
         Err(refusal) => Done::Ran(refused(rt, &refusal)),

@@ -5,9 +5,11 @@ ghost use Rattle.edge_main.specs.Program.{Does, explained_by};
 
 use crate::asked::{Asked, Refusal};
 use crate::command_line::asked;
+use crate::options::server_of;
+use crate::server::Server;
 use crate::status::Status;
 use edge_case::{CaseEnd, CaseFault, Ran, run_case, run_case_and_keep};
-use edge_setup::{Checking, Setup};
+use edge_setup::Checking;
 use std::alloc::Global;
 use std::io::{Read, Write};
 
@@ -18,15 +20,15 @@ pub(crate) enum Done<'a> {
     Ran(Status),
     /// A case was run whose page has a fault; its text is here to say why.
     Explains(Vec<u8>),
-    /// Pages are to be served with these options.
-    Serves(Setup),
+    /// This server is to run.
+    Serves(Server),
     /// These templates are to be checked.
     Checks(Checking<'a>),
 }
 
 /// Judges the words of the command line as a whole, then runs the case that they ask for, with the
 /// events, the slots ahead and the levels that they name. Its text is handed on if they ask why
-/// its page has a fault. If they ask to serve or to check instead, this is handed on
+/// its page has a fault. If they ask to serve or to check instead, the server or the files are handed on
 /// to the caller.
 ///
 /// If they don't ask for a case, nothing is read or written.
@@ -56,7 +58,7 @@ pub(crate) fn run_words<'a, R: Read, W: Write>(
                 Ok(Done::Ran(Status::of(ended)))
             }
         }
-        Asked::Serve(setup) => Ok(Done::Serves(setup)),
+        Asked::Serve(setup) => Ok(Done::Serves(server_of(setup))),
         Asked::Check(checking) => Ok(Done::Checks(checking)),
     }
 }

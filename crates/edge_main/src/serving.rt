@@ -1,9 +1,9 @@
 //! The server: pages over a cache that all clients share, what origins answer, and the machine's clock.
-ghost use Rattle.edge_setup.specs.Words.{IsWithin};
+ghost use Rattle.std.specs.Prelude.{◌≤◌};
 
+use crate::server::Server;
 use crate::status::Status;
-use edge_setup::{Origin, Pages, Serving, Setup};
-use edge_types::NoMemory;
+use edge_setup::Origin;
 use fetch_workers::{Assembling, Cache};
 use hyper_edge::{
     EdgeService, Journal, Limits, RequestRecord, ServeEnd, ServerRuntime, Sockets, serve_accepts,
@@ -18,73 +18,51 @@ use std::time::{Clock, Duration};
 use std::{io, str};
 
 // What pages are assembled from.
-type Kept = Cache<HyperSource, Seconds>;
+type Kept = Cache<HyperSource, MonotonicSeconds>;
 
-/// Serves with this setup, until the number of connections in it have been accepted and have ended.
-pub(crate) fn serve<R>(rt: &R, setup: Setup) -> Result<ServeEnd, Status>
+/// Runs the server, until its number of connections have been accepted and have ended.
+pub(crate) fn serve<R>(rt: &R, server: Server) -> Result<ServeEnd, Status>
 where
     R: ServerRuntime + Print + Eprint + Send + Sync,
     R: Net<Stream = TcpStream, Listener = TcpListener>,
-    requires { IsWithin setup.pages }
 {
-    let Setup {
+    let Server {
         listen,
         origins,
+        fetch,
+        clients,
         pages,
-        serving,
-    } = setup;
-    let service = service_of(rt, origins, pages, limit_of(serving.timeout))?;
-    let client = limit_of(serving.client_timeout);
-    let (sockets, address) = listening(rt, listen, client)?;
-    println!(rt; "listening on {address}")?;
-    let log = AccessLog {
-        is_kept: serving.logs,
-    };
-    let Serving {
+        capacity,
         threads,
         accept,
-        ..
-    } = serving;
+        logs,
+    } = server;
+    let source = source_of(rt, origins, fetch)?;
+    let service = service_of(rt, source, capacity, pages)?;
+    let (sockets, address) = listening(rt, listen, clients)?;
+    println!(rt; "listening on {address}")?;
+    let log = AccessLog { is_kept: logs };
     Ok(serve_accepts(rt, &sockets, &service, &log, threads, accept))
 }
 
-// A limit of this many milliseconds; 0 means no limit.
-fn limit_of(millis: u32) -> Option<Duration> {
-    if millis == 0 {
-        None
-    } else {
-        Some(Duration::from_millis(u64::from(millis)))
-    }
-}
-
 // What accepts connections, and where it listens.
-fn listening<R>(
-    rt: &R,
-    listen: SocketAddr,
-    client: Option<Duration>,
-) -> io::Result<(Sockets, SocketAddr)>
+fn listening<R>(rt: &R, listen: SocketAddr, clients: Limits) -> io::Result<(Sockets, SocketAddr)>
 where
     R: Net<Stream = TcpStream, Listener = TcpListener>,
 {
     let listener = TcpListener::bind(rt, listen)?;
     let address = listener.local_addr()?;
-    let limits = Limits {
-        request: client,
-        response: client,
-    };
-    Ok((Sockets::new(listener, limits)?, address))
+    Ok((Sockets::new(listener, clients)?, address))
 }
 
-// What answers requests.
-fn service_of<R>(
+// What fetches from the origins.
+fn source_of<R>(
     rt: &R,
     origins: Vec<Origin>,
-    pages: Pages,
-    limit: Option<Duration>,
-) -> Result<EdgeService<Kept, R>, Status>
+    fetch: Option<Duration>,
+) -> Result<HyperSource, Status>
 where
-    R: RandomSource + AllocGlobal + Clone + Drop,
-    requires { IsWithin pages }
+    R: RandomSource + AllocGlobal,
 {
     let alloc = rt.alloc();
     let mut asked = Vec::new(alloc);
@@ -98,46 +76,38 @@ where
             return Err(Status::NoMemory);
         }
     }
-    let source = HyperSource::new(rt, alloc, asked, limit)?;
-    let kept = Cache::new(alloc, source, Seconds, usize::from(pages.capacity))?;
-    let how = Assembling::new(pages.ahead, pages.workers, pages.levels);
+    Ok(HyperSource::new(rt, alloc, asked, fetch)?)
+}
+
+// What answers requests.
+fn service_of<R>(
+    rt: &R,
+    source: HyperSource,
+    capacity: usize,
+    pages: Assembling,
+) -> Result<EdgeService<Kept, R>, Status>
+where
+    R: RandomSource + AllocGlobal + Clone + Drop,
+    requires some { 1 ≤ capacity }
+    requires few { capacity ≤ 1024 }
+{
+    let alloc = rt.alloc();
+    let kept = Cache::new(alloc, source, MonotonicSeconds, capacity)?;
     let Ok(shared) = Arc::new(alloc, kept) else {
         return Err(Status::NoMemory);
     };
     let Ok(own) = rt.clone() else {
         return Err(Status::NoMemory);
     };
-    Ok(EdgeService::new(own, alloc, shared, how)?)
+    Ok(EdgeService::new(own, alloc, shared, pages)?)
 }
 
-impl Status {
-    /// The status of a server that ended so.
-    pub(crate) fn of_serving(ended: Result<ServeEnd, Status>) -> Status {
-        match ended {
-            Ok(ServeEnd::Served) => Status::Served,
-            Ok(ServeEnd::AcceptsFailed) => Status::InputOutput,
-            Err(status) => status,
-        }
-    }
-}
-
-impl From<io::Error> for Status {
-    fn from(_: io::Error) -> Status {
-        Status::InputOutput
-    }
-}
-
-impl From<NoMemory> for Status {
-    fn from(_: NoMemory) -> Status {
-        Status::NoMemory
-    }
-}
-
-/// The machine's clock, in whole seconds: one that is never set back. 0 where it can't be read.
+/// The machine's monotonic clock, in whole seconds: nobody sets it, as they may set that of the day. 0 where
+/// it can't be read.
 #[derive(Clone, Copy)]
-struct Seconds;
+struct MonotonicSeconds;
 
-impl<R: Clock> fetch_workers::Clock<R> for Seconds {
+impl<R: Clock> fetch_workers::Clock<R> for MonotonicSeconds {
     fn now(&self, rt: &R) -> u64 {
         match rt.monotonic() {
             Ok(time) => time.as_secs(),

@@ -1,12 +1,17 @@
 //! Exit statuses.
 ghost use Rattle.std.specs.Prelude.{◌≡◌, option_map};
+ghost use Rattle.std.specs.IoError.{error_kind};
 ghost use Rattle.std.specs.Process.{exit_status};
-ghost use Rattle.edge_main.specs.Status.{code_of, help_status, line_of, status_of};
+ghost use Rattle.edge_main.specs.Status.{code_of, failed_as, help_status, line_of, serving_status, status_of, unreported_as};
+ghost use Rattle.edge_main.specs.declared.status.Status.TheVariants as ends;
 
 use edge_case::{CaseEnd, CaseFault};
 use edge_setup::Named;
+use edge_types::NoMemory;
+use hyper_edge::ServeEnd;
 use std::io;
 use std::process::ExitCode;
+use template_check::ReportFault;
 
 /// How the program ends.
 #[derive(Clone, Copy, Drop, PartialEq, Eq)]
@@ -48,6 +53,17 @@ impl Status {
             Err(CaseFault::BadCase) => Status::BadCase,
             Err(CaseFault::NoMemory) => Status::NoMemory,
             Err(CaseFault::Read | CaseFault::Write) => Status::InputOutput,
+        }
+    }
+
+    /// The status of a server, by how it ended.
+    pub(crate) fn of_serving(ended: Result<ServeEnd, Status>) -> Status
+        ensures { result ≡ serving_status ended }
+    {
+        match ended {
+            Ok(ServeEnd::Served) => Status::Served,
+            Ok(ServeEnd::AcceptsFailed) => Status::InputOutput,
+            Err(status) => status,
         }
     }
 
@@ -94,6 +110,36 @@ impl Status {
             | Status::Checked
             | Status::FaultFound
             | Status::Usage => None,
+        }
+    }
+}
+
+impl From<NoMemory> for Status {
+    ghost from_gives = { λ _ status. status ≡ ends.NoMemory };
+
+    fn from(_: NoMemory) -> Status {
+        Status::NoMemory
+    }
+}
+
+impl From<io::Error> for Status {
+    ghost from_gives = { λ error status. status ≡ failed_as (error_kind error) };
+
+    fn from(error: io::Error) -> Status {
+        match error.kind() {
+            io::ErrorKind::OutOfMemory => Status::NoMemory,
+            _ => Status::InputOutput,
+        }
+    }
+}
+
+impl From<ReportFault> for Status {
+    ghost from_gives = { λ fault status. status ≡ unreported_as fault };
+
+    fn from(fault: ReportFault) -> Status {
+        match fault {
+            ReportFault::NoMemory => Status::NoMemory,
+            ReportFault::Write => Status::InputOutput,
         }
     }
 }

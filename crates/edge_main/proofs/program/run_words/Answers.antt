@@ -1,5 +1,5 @@
 use Rattle.std.proofs.Common.{◌≡◌, ◌∙◌, map, string_bytes, true, rules}
-use Rattle.edge_main.specs.declared.asked.Asked.TheVariants.{Case}
+use Rattle.edge_main.specs.declared.asked.Asked.TheVariants.{Case, Serve}
 use Rattle.edge_main.specs.CommandLine.{Asks}
 use Rattle.edge_main.proofs.ProgramLemmas.{does_explained}
 use Rattle.edge_main.proofs.program.run_words.Goals as goal
@@ -12,3 +12,9 @@ returns-then-is_why-clause-ran g c =
     let is : c.in-Case.is_why ≡ true = search rules in
     rw c.explained_by.ensures (does_explained words c.in-Case.levels _ _ _ c.run_case_and_keep-ended.result ran.printed ran.text ran.bad_case ran.nothing ran.part
     (c.in-Case.order.items, c.in-Case.ahead, asks.0) (asks.1 ∙ is))
+
+pub returns-in-Serve-clause-ran : goal.returns-in-Serve-clause-ran
+returns-in-Serve-clause-ran g c =
+    let words = map string_bytes c.args.words.now in
+    let asks : Asks words (Serve c.in-Serve.setup) = rw c.in-Serve.is at c.in_ok-order.ensures.judged in
+    record { setup = c.in-Serve.setup; asks = asks; serves = c.server_of.ensures; untouched = search rules }

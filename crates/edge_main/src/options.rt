@@ -1,0 +1,49 @@
+//! The server that the options of `serve` ask for.
+ghost use Rattle.std.specs.Prelude.{◌≡◌};
+ghost use Rattle.edge_setup.specs.Words.{IsWithin};
+ghost use Rattle.edge_main.specs.Server.{IsServerOf, limit_of, nanos_of};
+
+use crate::server::Server;
+use edge_setup::Setup;
+use fetch_workers::Assembling;
+use hyper_edge::Limits;
+use std::time::Duration;
+
+// A limit of this many milliseconds; 0 means no limit.
+fn limit_of(millis: u32) -> Option<Duration>
+    ensures { nanos_of result ≡ limit_of millis }
+{
+    if millis == 0 {
+        None
+    } else {
+        Some(Duration::from_millis(u64::from(millis)))
+    }
+}
+
+/// The server of a setup.
+pub(crate) fn server_of(setup: Setup) -> Server
+    requires { IsWithin setup.pages }
+    ensures { IsServerOf setup result }
+{
+    let Setup {
+        listen,
+        origins,
+        pages,
+        serving,
+    } = setup;
+    let client = limit_of(serving.client_timeout);
+    Server {
+        listen,
+        origins,
+        fetch: limit_of(serving.timeout),
+        clients: Limits {
+            request: client,
+            response: client,
+        },
+        pages: Assembling::new(pages.ahead, pages.workers, pages.levels),
+        capacity: usize::from(pages.capacity),
+        threads: serving.threads,
+        accept: serving.accept,
+        logs: serving.logs,
+    }
+}

@@ -1,0 +1,33 @@
+//! The server that is to run, as its parts take it.
+ghost use Rattle.std.specs.Prelude.{◌≤◌};
+
+use edge_setup::Origin;
+use fetch_workers::Assembling;
+use hyper_edge::Limits;
+use std::net::SocketAddr;
+use std::time::Duration;
+
+/// A server that is to run.
+#[derive(Drop)]
+pub(crate) struct Server {
+    /// Where it listens.
+    pub listen: SocketAddr,
+    /// Which origins it asks.
+    pub origins: Vec<Origin>,
+    /// How long a fetch may take.
+    pub fetch: Option<Duration>,
+    /// How long a client may take.
+    pub clients: Limits,
+    /// How pages are assembled.
+    pub pages: Assembling,
+    /// How many answers each shard of the cache keeps.
+    pub capacity: usize,
+    /// How many connections are served at once.
+    pub threads: u16,
+    /// After how many connections it ends.
+    pub accept: u64,
+    /// Whether each request is logged.
+    pub logs: bool,
+    ghost some_capacity: { 1 ≤ capacity },
+    ghost few_capacity: { capacity ≤ 1024 },
+}
