@@ -22,10 +22,10 @@ use Rattle.edge_main.specs.declared.asked.Refusal.TheVariants as refusal
 
 -- ---- the command
 
--- the program, which needs a subcommand: `case`, `serve` or `check`
+-- the program, which has a version and needs a subcommand: `case`, `serve` or `check`
 abbrev pub program : App
 program =
-    with_subcommand (with_subcommand (with_subcommand (on_top (λ s. record s { subcommand_required = true }) (new_app (codes "esi_edge"))) case_command.top) serve_command.top) check_command.top
+    with_subcommand (with_subcommand (with_subcommand (on_top (λ s. record s { has_version = true; subcommand_required = true }) (new_app (codes "esi_edge"))) case_command.top) serve_command.top) check_command.top
 
 -- ---- what the words mean
 

@@ -15,6 +15,9 @@ use esi_meaning::{MAX_LEVELS, are_levels};
 use plan_runner::{Event, MAX_AHEAD};
 use std::alloc::{AllocError, Global};
 
+// What `--version` prints after the program's name.
+const VERSION: &str = "0.1.0";
+
 // The program's command line, by `clap`.
 fn command<'a>(alloc: Global) -> Result<Command<'a>, AllocError>
     ensures { IfOk result (λ command. app_of command ≡ program) }
@@ -25,6 +28,7 @@ fn command<'a>(alloc: Global) -> Result<Command<'a>, AllocError>
     Command::new(alloc, "esi_edge")
         .bin_name("esi_edge")?
         .about("Assembles pages from templates of the ESI Language Specification 1.0")
+        .version(VERSION)
         .subcommand_required(true)
         .subcommand(case)?
         .subcommand(serve)?
