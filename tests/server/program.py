@@ -62,10 +62,11 @@ def usage_is_told():
 
 
 def limits_are_taken():
-    """The largest and the smallest of each number, and an address of IPv6."""
+    """The largest and the smallest of each number, an address of IPv6, and a thousand origins."""
     most = ["--workers", "16", "--ahead", "256", "--levels", "8", "--capacity", "1024", "--timeout", "86400000", "--client-timeout", "86400000", "--threads", "64"]
     least = ["--workers", "1", "--ahead", "0", "--levels", "1", "--capacity", "1", "--timeout", "0", "--client-timeout", "0", "--threads", "1"]
-    for words in (most, least, ["--accept", "18446744073709551615"], ["--origin", "a.test=[::1]:80", "--origin", "b.test=127.0.0.1:80"]):
+    many = [word for at in range(1000) for word in ("--origin", "%d.test=127.0.0.1:80" % at)]
+    for words in (most, least, many, ["--accept", "18446744073709551615"], ["--origin", "a.test=[::1]:80", "--origin", "b.test=127.0.0.1:80"]):
         with Origin(PLAIN) as origin, before(origin, *words) as edge:
             same(" ".join(words), b"[12345678]", get(edge, "/p", host="c.test").body)
 

@@ -15,7 +15,7 @@ pub fn case_command<'a>(alloc: Global) -> Result<Command<'a>, AllocError>
     ensures local { IfOk result (λ command. (fields_of command).has_globals ≡ false) }
 {
     let command = Command::new(alloc, "case").about(
-        "Reads a case text from standard input and prints what its page comes to",
+        "Reads a case text from standard input and prints its page, or the page's fault",
     );
     with_run(alloc, command)
 }
