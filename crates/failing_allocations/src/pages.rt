@@ -1,0 +1,159 @@
+//! Pages: their outcomes, plans, boards, and runs over a table.
+
+use crate::printing::{answers, bytes, calls, number, out_of_memory, word};
+use crate::texts::{TEMPLATE, shared};
+use crate::values::{answer, processed, request, url};
+use answer_board::Board;
+use edge_types::{Control, NoMemory, Outcome, Table};
+use plan_compiler::{Form, Plan, Prepared, compile};
+use std::alloc::Global;
+use std::sync::Arc;
+
+// The page, and its fragment.
+fn table(alloc: Global) -> Option<Table> {
+    let mut table = Table::new(alloc);
+    table
+        .insert(answer(alloc, "/p", processed(), TEMPLATE)?)
+        .ok()?;
+    table
+        .insert(answer(alloc, "/xq=1&", Control::default(), "X")?)
+        .ok()?;
+    Some(table)
+}
+
+pub fn plain_page(rt: &HostRuntime, name: &str) -> Option<()> {
+    let (url, request, table) = (
+        url(rt.alloc(), "/p")?,
+        request(rt.alloc())?,
+        table(rt.alloc())?,
+    );
+    calls(rt, name)?;
+    let made = esi_meaning::plain_page(rt.alloc(), &url, &request, &table, 4);
+    answers(rt)?;
+    match &made {
+        Ok(outcome) => print_outcome(rt, outcome),
+        Err(NoMemory) => out_of_memory(rt),
+    }
+}
+
+pub fn leg_url(rt: &HostRuntime, name: &str) -> Option<()> {
+    let (base, request) = (url(rt.alloc(), "/p")?, request(rt.alloc())?);
+    let source = esi_vars::parts(rt.alloc(), &shared(rt.alloc(), b"x?$(QUERY_STRING)")?).ok()?;
+    calls(rt, name)?;
+    let found = esi_meaning::leg_url(rt.alloc(), &request, &base, source.as_slice());
+    answers(rt)?;
+    match &found {
+        Ok(Some(url)) => bytes(rt, url.as_bytes()),
+        Ok(None) => word(rt, "no URL"),
+        Err(NoMemory) => out_of_memory(rt),
+    }
+}
+
+fn print_outcome(rt: &HostRuntime, outcome: &Outcome) -> Option<()> {
+    match outcome {
+        Outcome::Page { status, body, .. } => {
+            number(rt, usize::from(*status))?;
+            for at in 0..body.mark() {
+                bytes(rt, body.piece(at)?)?;
+            }
+            Some(())
+        }
+        Outcome::Fault(fault) => word(rt, fault.name()),
+    }
+}
+
+pub fn compile_template(rt: &HostRuntime, name: &str) -> Option<()> {
+    let text = shared(rt.alloc(), TEMPLATE.as_bytes())?;
+    let template = esi_tree::template(rt.alloc(), &text).ok()?;
+    calls(rt, name)?;
+    let compiled = compile(rt.alloc(), &template);
+    answers(rt)?;
+    match &compiled {
+        Ok(plan) => print_plan(rt, plan)?,
+        Err(NoMemory) => out_of_memory(rt)?,
+    }
+    word(rt, "left")?;
+    number(rt, template.nodes().len())
+}
+
+fn print_plan(rt: &HostRuntime, plan: &Plan) -> Option<()> {
+    number(rt, plan.len())?;
+    word(
+        rt,
+        if plan.inline(0).is_some() {
+            "an inline"
+        } else {
+            "no inline"
+        },
+    )
+}
+
+pub fn prepare(rt: &HostRuntime, name: &str) -> Option<()> {
+    let answer = answer(rt.alloc(), "/p", processed(), TEMPLATE)?;
+    let kept = Arc::try_clone(&answer).ok()?;
+    calls(rt, name)?;
+    let made = Prepared::of(rt.alloc(), answer);
+    answers(rt)?;
+    match &made {
+        Ok(prepared) => print_prepared(rt, prepared)?,
+        Err(NoMemory) => out_of_memory(rt)?,
+    }
+    word(rt, "left")?;
+    number(rt, kept.body().len())
+}
+
+pub fn share_prepared(rt: &HostRuntime, name: &str) -> Option<()> {
+    let answer = answer(rt.alloc(), "/p", processed(), TEMPLATE)?;
+    let prepared = Prepared::of(rt.alloc(), answer).ok()?;
+    calls(rt, name)?;
+    let shared = prepared.share();
+    answers(rt)?;
+    match &shared {
+        Ok(shared) => print_prepared(rt, shared)?,
+        Err(NoMemory) => out_of_memory(rt)?,
+    }
+    word(rt, "left")?;
+    print_prepared(rt, &prepared)
+}
+
+fn print_prepared(rt: &HostRuntime, prepared: &Prepared) -> Option<()> {
+    match prepared.form() {
+        Form::Planned(plan) => print_plan(rt, plan)?,
+        Form::Plain | Form::BadAt(_) => word(rt, "no plan")?,
+    }
+    match prepared.inline_url(0) {
+        Some(url) => bytes(rt, url.as_bytes()),
+        None => word(rt, "no URL"),
+    }
+}
+
+/// Opens a second slot on a board.
+pub fn open(rt: &HostRuntime, name: &str) -> Option<()> {
+    let (first, second) = (url(rt.alloc(), "/p")?, url(rt.alloc(), "/x")?);
+    let mut board = Board::new(rt.alloc());
+    board.open(&first, 0).ok()?;
+    calls(rt, name)?;
+    let opened = board.open(&second, 1);
+    answers(rt)?;
+    print_opened(rt, opened)?;
+    word(rt, "left")?;
+    number(rt, board.len())?;
+    print_number(rt, board.number(&first))?;
+    print_number(rt, board.number(&second))?;
+    word(rt, "again")?;
+    print_opened(rt, board.open(&second, 1))
+}
+
+fn print_opened(rt: &HostRuntime, opened: Result<usize, NoMemory>) -> Option<()> {
+    match opened {
+        Ok(at) => number(rt, at),
+        Err(NoMemory) => out_of_memory(rt),
+    }
+}
+
+fn print_number(rt: &HostRuntime, found: Option<usize>) -> Option<()> {
+    match found {
+        Some(at) => number(rt, at),
+        None => word(rt, "none"),
+    }
+}

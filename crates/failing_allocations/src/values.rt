@@ -1,0 +1,225 @@
+//! Values that all layers share: owners, copies, tables, and lists of events.
+
+use crate::printing::{answers, bytes, calls, number, out_of_memory, word};
+use edge_types::{
+    Answer, Control, NoMemory, Octets, PageBody, PageUrl, Request, SharedAnswer, SharedBytes, Table,
+};
+use std::alloc::Global;
+use std::sync::Arc;
+use surrogate_headers::{is_token, own_device};
+
+/// The URL of a path.
+pub fn url(alloc: Global, path: &str) -> Option<PageUrl> {
+    let text = format!(in alloc; "http://a.test{path}").ok()?;
+    PageUrl::parse(alloc, text.as_bytes()).ok()?
+}
+
+/// An answer of status 200.
+pub fn answer(alloc: Global, path: &str, control: Control, body: &str) -> Option<Arc<Answer>> {
+    let body = SharedBytes::copy_of(alloc, body.as_bytes()).ok()?;
+    let empty = Octets::empty(alloc);
+    let answer = Answer::got(url(alloc, path)?, 200, empty, control, body)?;
+    Arc::new(alloc, answer).ok()
+}
+
+/// What the origin says of an answer whose body is processed.
+pub fn processed() -> Control {
+    Control {
+        esi: true,
+        ..Control::default()
+    }
+}
+
+/// A request that has each field.
+pub fn request(alloc: Global) -> Option<Request> {
+    Some(Request {
+        host: Octets::copy_of(alloc, b"a.test").ok()?,
+        cookie: Octets::copy_of(alloc, b"c=1").ok()?,
+        referer: Octets::copy_of(alloc, b"r").ok()?,
+        user_agent: Octets::copy_of(alloc, b"u").ok()?,
+        accept_language: Octets::copy_of(alloc, b"l").ok()?,
+        query: Octets::copy_of(alloc, b"q=1").ok()?,
+    })
+}
+
+/// Prints the fields of a request.
+pub fn print_request(rt: &HostRuntime, request: &Request) -> Option<()> {
+    for field in [
+        &request.host,
+        &request.cookie,
+        &request.referer,
+        &request.user_agent,
+        &request.accept_language,
+        &request.query,
+    ] {
+        bytes(rt, field.as_bytes())?;
+    }
+    Some(())
+}
+
+pub fn copy_request(rt: &HostRuntime, name: &str) -> Option<()> {
+    let request = request(rt.alloc())?;
+    calls(rt, name)?;
+    let copied = request.copy(rt.alloc());
+    answers(rt)?;
+    match &copied {
+        Ok(copy) => print_request(rt, copy)?,
+        Err(NoMemory) => out_of_memory(rt)?,
+    }
+    word(rt, "left")?;
+    print_request(rt, &request)
+}
+
+pub fn parse_url(rt: &HostRuntime, name: &str) -> Option<()> {
+    calls(rt, name)?;
+    let parsed = PageUrl::parse(rt.alloc(), b"http://a.test/p?q#f");
+    answers(rt)?;
+    print_url(rt, &parsed)
+}
+
+pub fn resolve_url(rt: &HostRuntime, name: &str) -> Option<()> {
+    let base = url(rt.alloc(), "/a/b")?;
+    calls(rt, name)?;
+    let resolved = base.resolve(rt.alloc(), b"../c d");
+    answers(rt)?;
+    print_url(rt, &resolved)?;
+    word(rt, "left")?;
+    bytes(rt, base.as_bytes())
+}
+
+fn print_url(rt: &HostRuntime, found: &Result<Option<PageUrl>, NoMemory>) -> Option<()> {
+    match found {
+        Ok(Some(url)) => bytes(rt, url.as_bytes()),
+        Ok(None) => word(rt, "no URL"),
+        Err(NoMemory) => out_of_memory(rt),
+    }
+}
+
+pub fn share_url(rt: &HostRuntime, name: &str) -> Option<()> {
+    let url = url(rt.alloc(), "/p")?;
+    calls(rt, name)?;
+    let shared = url.share();
+    answers(rt)?;
+    match &shared {
+        Ok(shared) => bytes(rt, shared.as_bytes())?,
+        Err(NoMemory) => out_of_memory(rt)?,
+    }
+    word(rt, "left")?;
+    bytes(rt, url.as_bytes())
+}
+
+pub fn share_answer(rt: &HostRuntime, name: &str) -> Option<()> {
+    let answer = SharedAnswer::of(answer(rt.alloc(), "/p", processed(), "A")?);
+    calls(rt, name)?;
+    let shared = answer.share();
+    answers(rt)?;
+    match &shared {
+        Ok(shared) => bytes(rt, shared.get().body())?,
+        Err(NoMemory) => out_of_memory(rt)?,
+    }
+    word(rt, "left")?;
+    bytes(rt, answer.get().body())
+}
+
+pub fn share_body(rt: &HostRuntime, name: &str) -> Option<()> {
+    let answer = answer(rt.alloc(), "/p", processed(), "AB")?;
+    calls(rt, name)?;
+    let shared = answer.share_body();
+    answers(rt)?;
+    print_bytes(rt, &shared)?;
+    word(rt, "left")?;
+    bytes(rt, answer.body())
+}
+
+pub fn part(rt: &HostRuntime, name: &str) -> Option<()> {
+    let whole = SharedBytes::copy_of(rt.alloc(), b"ABC").ok()?;
+    if whole.len() < 2 {
+        return None;
+    }
+    calls(rt, name)?;
+    let part = whole.part(1, 2);
+    answers(rt)?;
+    print_bytes(rt, &part)?;
+    word(rt, "left")?;
+    bytes(rt, whole.as_bytes())
+}
+
+fn print_bytes(rt: &HostRuntime, shared: &Result<SharedBytes, NoMemory>) -> Option<()> {
+    match shared {
+        Ok(shared) => bytes(rt, shared.as_bytes()),
+        Err(NoMemory) => out_of_memory(rt),
+    }
+}
+
+pub fn push_piece(rt: &HostRuntime, name: &str) -> Option<()> {
+    let mut body = PageBody::new(rt.alloc());
+    let piece = SharedBytes::copy_of(rt.alloc(), b"A").ok()?;
+    calls(rt, name)?;
+    let pushed = body.push(piece);
+    answers(rt)?;
+    match pushed {
+        Ok(()) => word(rt, "pushed")?,
+        Err(NoMemory) => out_of_memory(rt)?,
+    }
+    word(rt, "left")?;
+    number(rt, body.len())?;
+    for at in 0..body.mark() {
+        bytes(rt, body.piece(at)?)?;
+    }
+    Some(())
+}
+
+/// Inserts an answer into a table that has one, and then once more.
+pub fn insert(rt: &HostRuntime, name: &str) -> Option<()> {
+    let mut table = Table::new(rt.alloc());
+    table
+        .insert(answer(rt.alloc(), "/p", processed(), "P")?)
+        .ok()?;
+    let answer = answer(rt.alloc(), "/x", Control::default(), "1")?;
+    calls(rt, name)?;
+    let inserted = table.insert(answer);
+    answers(rt)?;
+    print_inserted(rt, inserted, &mut table)?;
+    word(rt, "left")?;
+    print_answer(rt, &table, "/p")?;
+    print_answer(rt, &table, "/x")
+}
+
+// Inserts what was handed back once more.
+fn print_inserted(
+    rt: &HostRuntime,
+    inserted: Result<(), (edge_types::InsertFault, Arc<Answer>)>,
+    table: &mut Table,
+) -> Option<()> {
+    match inserted {
+        Ok(()) => word(rt, "inserted"),
+        Err((fault, back)) => {
+            print!(rt; " {fault:?}").ok()?;
+            print_answer(rt, table, "/p")?;
+            print_answer(rt, table, "/x")?;
+            word(rt, "again")?;
+            table.insert(back).ok()
+        }
+    }
+}
+
+fn print_answer(rt: &HostRuntime, table: &Table, path: &str) -> Option<()> {
+    match table.get(&url(rt.alloc(), path)?) {
+        Some(answer) => bytes(rt, answer.body()),
+        None => word(rt, "none"),
+    }
+}
+
+pub fn capability(rt: &HostRuntime, name: &str) -> Option<()> {
+    let device = own_device();
+    if !is_token(device) {
+        return None;
+    }
+    calls(rt, name)?;
+    let made = surrogate_headers::capability(rt.alloc(), device);
+    answers(rt)?;
+    match &made {
+        Ok(text) => bytes(rt, text.as_slice()),
+        Err(NoMemory) => out_of_memory(rt),
+    }
+}
