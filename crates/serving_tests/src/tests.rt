@@ -1,16 +1,19 @@
 // A case has answers with a `;` between two: a path, `failed` or a status with what its control says, and
 // the body. A control is `plain`, or `esi` if the body is processed; a number in its place is the
 // max-age, and a second one after a `+` the extension.
-use edge_types::{Answer, Control, NoMemory, Octets, PageUrl, SharedBytes, Table};
+use edge_types::{Answer, Control, NoMemory, Octets, Outcome, PageUrl, SharedBytes, Table};
 use fetch_workers::{Source, TableSource};
 use std::alloc::Global;
 use std::process::Abort;
+use std::str;
 use std::sync::Arc;
 use std::sync::atomic::{AtomicU64, Ordering};
 
+mod assembling;
 mod caching;
 mod failing;
 mod fetching;
+mod meeting;
 
 fn url(rt: &impl Abort, alloc: Global, path: &str) -> Result<PageUrl, NoMemory> {
     let mut text = String::new(alloc);
@@ -46,6 +49,19 @@ fn source_of(rt: &impl Abort, alloc: Global, case: &str) -> Result<TableSource, 
         insert(rt, alloc, &mut table, text)?;
     }
     Ok(TableSource::new(table))
+}
+
+// The body of a page, or that there is none.
+fn push_outcome(out: &mut String, outcome: &Outcome) -> Result<(), NoMemory> {
+    match outcome {
+        Outcome::Page { body, .. } => {
+            for i in 0..body.mark() {
+                out.push_str(str::from_utf8(body.piece(i).unwrap_or(&[])).unwrap_or("?"))?;
+            }
+        }
+        Outcome::Fault(_) => out.push_str("a fault")?,
+    }
+    Ok(())
 }
 
 // A table whose answers have to be waited for. It counts the fetches; runs out of memory at the one with a number

@@ -1,7 +1,7 @@
 //! A source under a cache whose clock is set by hand.
 
 use super::{Origin, source_of, url};
-use edge_types::NoMemory;
+use edge_types::{Answer, NoMemory};
 use fetch_workers::{Cache, Clock, Source};
 use std::alloc::Global;
 use std::fmt::Write;
@@ -28,13 +28,29 @@ fn ask<R: Abort, S: Source<R>>(rt: &R, alloc: Global, source: &S, path: &str) ->
         return b'?';
     };
     match source.fetch(rt, alloc, &url) {
-        Ok(answer) => answer.body().first().copied().unwrap_or(b'-'),
+        Ok(answer) => first_byte(&answer),
         Err(NoMemory) => b'?',
     }
 }
 
-// Takes steps one after another: `+2` sets the clock two seconds on, a path is asked for. Returns what was
-// given.
+// What it has ready for a path, in the same way; `.` for nothing.
+fn look<R: Abort, S: Source<R>>(rt: &R, alloc: Global, source: &S, path: &str) -> u8 {
+    let Ok(url) = url(rt, alloc, path) else {
+        return b'?';
+    };
+    match source.ready(rt, alloc, &url) {
+        Ok(Some(answer)) => first_byte(&answer),
+        Ok(None) => b'.',
+        Err(NoMemory) => b'?',
+    }
+}
+
+fn first_byte(answer: &Answer) -> u8 {
+    answer.body().first().copied().unwrap_or(b'-')
+}
+
+// Takes steps one after another: `+2` sets the clock two seconds on, a path is asked for, or with a `?` before it
+// looked for. Returns what was given.
 fn given<R: Abort, S: Source<R>>(
     rt: &R,
     alloc: Global,
@@ -48,10 +64,17 @@ fn given<R: Abort, S: Source<R>>(
             Some(number) => {
                 seconds.fetch_add(number.parse::<u64>().unwrap_or(0), Ordering::SeqCst);
             }
-            None => out.push(char::from(ask(rt, alloc, source, step)))?,
+            None => out.push(char::from(given_for(rt, alloc, source, step)))?,
         }
     }
     Ok(out)
+}
+
+fn given_for<R: Abort, S: Source<R>>(rt: &R, alloc: Global, source: &S, step: &str) -> u8 {
+    match step.strip_prefix("?") {
+        Some(path) => look(rt, alloc, source, path),
+        None => ask(rt, alloc, source, step),
+    }
 }
 
 // How many answers each of the eight shards keeps; which fetch runs out of memory; from which on the origin has
@@ -59,6 +82,7 @@ fn given<R: Abort, S: Source<R>>(
 // `/0` and `/8` put these into one shard.
 const ROWS: &str = "8|99|99|/x 200 60 1|/x /x|11 1
 8|99|99|/x 200 60 1|/x +59 /x +1 /x|111 2
+8|99|99|/x 200 60 1|?/x /x ?/x +59 ?/x +1 ?/x|.111. 1
 1|99|99|/0 200 60 0;/1 200 60 1;/8 200 60 8|/0 /8 /0|080 3
 1|99|99|/0 200 60 0;/1 200 60 1;/8 200 60 8|/0 /1 /0|010 2
 8|99|99|/x 404 60 1|/x /x|11 2
@@ -97,6 +121,31 @@ fn answers_are_kept_and_bridged(rt: HostRuntime) -> Result<(), Fail> {
     for row in ROWS.lines() {
         row_holds(&rt, rt.alloc(), row)?;
     }
+    Ok(())
+}
+
+// A thousand answers in eight shards, each of which may keep all of them: the second time none is fetched.
+#[test]
+fn as_many_answers_are_kept_as_may_be(rt: HostRuntime) -> Result<(), Fail> {
+    let mut case = String::new(rt.alloc());
+    for i in 0..1000u32 {
+        write!(case, "/{i} 200 60 {i};")?;
+    }
+    let (fetches, seconds) = (AtomicU64::new(0), AtomicU64::new(100));
+    let origin = Origin {
+        table: source_of(&rt, rt.alloc(), case.as_str().trim_end_matches(';'))?,
+        fetches: &fetches,
+        refused: u64::MAX,
+        round: u64::MAX,
+        ends: u64::MAX,
+    };
+    let cache = Cache::new(rt.alloc(), origin, Hands(&seconds), 1024)?;
+    for i in 0..2000u32 {
+        let path = format!(in rt.alloc(); "/{}", i % 1000)?;
+        let first = ask(&rt, rt.alloc(), &cache, path.as_str());
+        assert!(rt; path.as_bytes().get(1) == Some(&first), "{i}");
+    }
+    assert!(rt; fetches.load(Ordering::SeqCst) == 1000);
     Ok(())
 }
 

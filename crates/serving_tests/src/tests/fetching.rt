@@ -1,51 +1,16 @@
 //! Threads that fetch for one page: a gate, and running out of memory.
 
-use super::{Origin, source_of, url};
-use edge_types::{NoMemory, Outcome, PageUrl, Request};
-use fetch_workers::{AssembleFault, Gate, MAX_WORKERS, assemble_gated};
+use super::meeting::Meeting;
+use super::{Origin, push_outcome, source_of, url};
+use edge_types::{NoMemory, Request};
+use fetch_workers::{AssembleFault, MAX_WORKERS, assemble_gated};
 use std::alloc::Global;
 use std::process::Abort;
 use std::sync::Wait;
 use std::sync::atomic::{AtomicU64, Ordering};
 use std::test::Fail;
 use std::thread::Threads;
-use std::time::{Clock, Duration};
-use std::{str, thread};
-
-// Where two fetches of fragments meet: each waits for another, for at least this many milliseconds. A turn
-// that is only yielded may take milliseconds on a busy machine, so turns can't be counted instead.
-#[derive(Drop)]
-struct Meeting {
-    came: AtomicU64,
-    gave_up: AtomicU64,
-    millis: u64,
-}
-
-impl Meeting {
-    fn of(millis: u64) -> Meeting {
-        Meeting {
-            came: AtomicU64::new(0),
-            gave_up: AtomicU64::new(0),
-            millis,
-        }
-    }
-}
-
-impl<R: Clock> Gate<R> for Meeting {
-    fn before_fetch(&self, rt: &R, url: &PageUrl) {
-        if url.as_bytes().ends_with(b"/p") {
-            return;
-        }
-        self.came.fetch_add(1, Ordering::SeqCst);
-        for _ in 0..self.millis {
-            if self.came.load(Ordering::SeqCst) >= 2 {
-                return;
-            }
-            thread::sleep(rt, Duration::from_millis(1));
-        }
-        self.gave_up.fetch_add(1, Ordering::SeqCst);
-    }
-}
+use std::time::Clock;
 
 // The output of the page at `/p` with this many threads, or the fault.
 fn made<R: Wait + Threads + Clock + Abort + Sync>(
@@ -62,14 +27,7 @@ fn made<R: Wait + Threads + Clock + Abort + Sync>(
     let request = Request::empty(alloc);
     let mut out = String::new(alloc);
     match assemble_gated(rt, alloc, origin, gate, url, request, 16, workers, 4) {
-        Ok(page) => match &*page.outcome {
-            Outcome::Page { body, .. } => {
-                for i in 0..body.mark() {
-                    out.push_str(str::from_utf8(body.piece(i).unwrap_or(&[])).unwrap_or("?"))?;
-                }
-            }
-            Outcome::Fault(_) => out.push_str("a fault")?,
-        },
+        Ok(page) => push_outcome(&mut out, &page.outcome)?,
         Err(AssembleFault::NoMemory) => out.push_str("no memory")?,
         Err(_) => out.push_str("torn")?,
     }
@@ -88,7 +46,7 @@ fn ended<R: Wait + Threads + Clock + Abort + Sync>(
     wanted: &str,
 ) -> Result<u64, NoMemory> {
     let fetches = AtomicU64::new(0);
-    let gate = Meeting::of(millis);
+    let gate = Meeting::of("", 3, millis);
     let origin = Origin {
         table: source_of(rt, alloc, CASE)?,
         fetches: &fetches,
@@ -98,7 +56,13 @@ fn ended<R: Wait + Threads + Clock + Abort + Sync>(
     };
     let out = made(rt, alloc, &origin, &gate, workers)?;
     assert!(rt; out.as_str() == wanted, "{refused} {workers}: {out}");
-    Ok(gate.gave_up.load(Ordering::SeqCst))
+    let (came, gave_up) = gate.counts();
+    assert!(rt;
+        came == fetches.load(Ordering::SeqCst),
+        "{refused} {workers}: {came}"
+    );
+    assert!(rt; refused < 8 || came == 8, "{refused} {workers}: {came}");
+    Ok(gave_up)
 }
 
 // Nobody waits for ever. The page is there if this many fetches aren't made.
