@@ -1,6 +1,6 @@
 //! A page for which an allocation fails. Here memory is ample, so the page reaches its end; outside the
 //! gate, `tools/refuse_page_growths` makes each allocation of this test fail in turn, and looks at what the
-//! test then reports.
+//! test then reports. And what the faults of posts say.
 
 use super::answer;
 use answer_board::Receipt;
@@ -142,4 +142,43 @@ fn a_page_that_is_refused_a_growth_is_broken(rt: HostRuntime) -> Result<(), Fail
     let mut one = page(alloc)?;
     let mut other = page(alloc)?;
     finishes(alloc, &mut one, &mut other)
+}
+
+// The receipt of a page that is given up.
+fn receipt(alloc: Global) -> Result<Receipt, Fail> {
+    let mut page = page(alloc)?;
+    next_receipt(alloc, &mut page)
+}
+
+fn words_of(alloc: Global, fault: &PostFault) -> Result<String, NoMemory> {
+    Ok(format!(in alloc; "{fault}")?)
+}
+
+// Whether the fault says this; its receipt is given up.
+fn says(alloc: Global, fault: PostFault, wanted: &str) -> Result<bool, NoMemory> {
+    let words = words_of(alloc, &fault);
+    match fault {
+        PostFault::Stranger(receipt)
+        | PostFault::NotClaimed(receipt)
+        | PostFault::Filled(receipt)
+        | PostFault::Broken(receipt) => receipt.give_up(),
+        PostFault::NoMemory => {}
+    }
+    Ok(words?.as_str() == wanted)
+}
+
+#[test]
+fn each_fault_of_a_post_says_what_to_do(rt: HostRuntime) -> Result<(), Fail> {
+    let alloc = rt.alloc();
+    let stranger = "no slot has this number and URL: post to the page that gave the ticket";
+    assert!(rt; says(alloc, PostFault::Stranger(receipt(alloc)?), stranger)?);
+    let unclaimed = "nobody has claimed the slot: claim it first";
+    assert!(rt; says(alloc, PostFault::NotClaimed(receipt(alloc)?), unclaimed)?);
+    let filled = "the slot has its answer: give the receipt up";
+    assert!(rt; says(alloc, PostFault::Filled(receipt(alloc)?), filled)?);
+    let broken = "the page ran out of memory before: give the receipt up, and accept the page anew";
+    assert!(rt; says(alloc, PostFault::Broken(receipt(alloc)?), broken)?);
+    let no_memory = "out of memory: accept the page anew with more of it";
+    assert!(rt; says(alloc, PostFault::NoMemory, no_memory)?);
+    Ok(())
 }

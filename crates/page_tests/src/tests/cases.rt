@@ -58,15 +58,15 @@ const LISTED: [Event; 5] = [
     Event::Post(9_999),
 ];
 
-// The command line can't have a list of a hundred thousand items; a caller can.
+// The command line can't have a list of more than a hundred thousand items; a caller can.
 #[test]
 fn lists_of_events_are_read_and_run(rt: HostRuntime) -> Result<(), Fail> {
     let mut text = b"c,p0,a,p0012,p9999".to_vec(rt.alloc())?;
-    for _ in 0..33_333 {
+    for _ in 0..60_000 {
         text.extend_from_slice(b",c,p0,a")?;
     }
     let events = read_events(rt.alloc(), &text)?.ok_or("a list")?;
-    assert!(rt; events.len() == 100_004 && events.as_slice().starts_with(&LISTED));
+    assert!(rt; events.len() == 180_005 && events.as_slice().starts_with(&LISTED));
     let mut reader = CASE;
     let mut written = Vec::new(rt.alloc());
     match run_case(rt.alloc(), &mut reader, &mut written, 0, &events, 4) {

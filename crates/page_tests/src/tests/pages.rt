@@ -1,11 +1,13 @@
-//! Pages that are run by lists of events over tables: how many slots, pieces and steps they have, which
-//! no case shows. A row has a line with how many slots there may be ahead (several numbers: each of them),
-//! how many levels, how many times each event happens, and a name; a line for each answer: its path, `failed` or
-//! a status, `esi` or `plain`, and the body; and after `=> ` how the text about the page begins. The page
-//! is at `/p`. `{/x}` means an include of `/x`, and `{/x!}` one with onerror="continue"; between
-//! two `~` is what comes several times, as `3*{/x^}`, with `^` for which time it is.
+//! Pages that are run by lists of events over tables: how many slots, pieces and steps they have, and what
+//! is logged, which no case shows. A row has a line with how many slots there may be ahead (several numbers:
+//! each of them), how many levels, how many times each event happens or a list of events, and a name; a line
+//! for each answer: its path, `failed` or a status, `esi` or `plain`, and the body; and after `=> ` how the
+//! text about the page begins, or after a list of events the whole of it. The page is at `/p`. `{/x}` means
+//! an include of `/x`, and `{/x!}` one with onerror="continue"; between two `~` is what comes several times,
+//! as `3*{/x^}`, with `^` for which time it is.
 
 use super::{answer, url_of};
+use edge_case::read_events;
 use edge_types::{NoMemory, Outcome, PageFault, Request, Table};
 use esi_meaning::are_levels;
 use plan_runner::{Event, MAX_AHEAD, Page, State, run_events};
@@ -58,7 +60,7 @@ fn text_of<'a>(bytes: &'a [u8]) -> &'a str {
 }
 
 // Adds to the line where a page is: `waits` and a URL; or the first bytes of the first pieces, a
-// bar after each, or the fault; and how much there is of everything.
+// bar after each, or the fault; how much there is of everything, and the paths of the logged answers.
 fn push_state(line: &mut String, page: &Page, state: &State) -> Result<(), NoMemory> {
     match state {
         State::Waiting(url) => write!(line, "waits {};", text_of(url.as_bytes()))?,
@@ -69,30 +71,41 @@ fn push_state(line: &mut String, page: &Page, state: &State) -> Result<(), NoMem
                     line.push_str(text_of(&piece[..piece.len().min(8)]))?;
                     line.push_str("|")?;
                 }
+                if body.piece(body.mark()).is_some() {
+                    line.push_str("a piece past the end")?;
+                }
                 write!(line, "; bytes {}; pieces {};", body.len(), body.mark())?;
             }
             Outcome::Fault(PageFault::BadTemplate(at)) => write!(line, "fault 2 at {at};")?,
             Outcome::Fault(fault) => write!(line, "fault {};", fault.number())?,
         },
     }
-    write!(line, " slots {}; steps {};", page.slots(), page.steps())?;
+    write!(line, " slots {}; steps {}; log", page.slots(), page.steps())?;
+    for number in 0..page.posted() {
+        if let Some(answer) = page.logged(number) {
+            let url = text_of(answer.url().as_bytes());
+            write!(
+                line,
+                " {}",
+                url.strip_prefix("http://a.test").unwrap_or(url)
+            )?;
+        }
+    }
+    if page.logged(page.posted()).is_some() {
+        line.push_str(" an answer past the end")?;
+    }
     Ok(())
 }
 
-// The state of a page over this table after these events, each list this many times.
+// The state of a page over this table after these events.
 fn told(
     rt: &impl Abort,
     alloc: Global,
     table: &Table,
     (ahead, levels): (u16, u8),
-    times: usize,
-    listed: &[Event],
+    events: &[Event],
 ) -> Result<String, NoMemory> {
     let mut line = String::new(alloc);
-    let mut events = Vec::new(alloc);
-    for _ in 0..times {
-        events.extend_from_slice(listed)?;
-    }
     assert!(rt; ahead <= MAX_AHEAD && are_levels(levels));
     let url = url_of(rt, alloc, "http://a.test/p")?;
     match run_events(
@@ -102,12 +115,24 @@ fn told(
         table,
         ahead,
         levels,
-        &events,
+        events,
     ) {
-        Ok((page, state)) => push_state(&mut line, &page, &state)?,
+        Ok((page, state)) => {
+            assert!(rt; page.ahead() == ahead && page.levels() == levels);
+            push_state(&mut line, &page, &state)?;
+        }
         Err(_) => return Err(NoMemory),
     }
     Ok(line)
+}
+
+// These events, this many times.
+fn repeated(alloc: Global, times: usize, listed: &[Event]) -> Result<Vec<Event>, NoMemory> {
+    let mut events = Vec::new(alloc);
+    for _ in 0..times {
+        events.extend_from_slice(listed)?;
+    }
+    Ok(events)
 }
 
 // Each answer as it comes, and three at a time, the newest first.
@@ -123,19 +148,39 @@ const NEWEST_FIRST: [Event; 7] = [
     Event::Advance,
 ];
 
-// Checks a row, which has these answers, in one order, or in both if there are many events.
+// Checks a row, which has these answers: by its list of events; or in one order, and in both if there are
+// many events.
 fn row_holds(rt: &impl Abort, alloc: Global, table: &Table, row: &str) -> Result<(), NoMemory> {
     let (head, wanted) = row.split_once("\n=> ").expect(rt, "what is wanted");
     let mut words = head.split(' ');
     let aheads = words.next().unwrap_or("");
     let levels = words.next().unwrap_or("").parse::<u8>().unwrap_or(0);
-    let times = words.next().unwrap_or("").parse::<usize>().unwrap_or(0);
+    let times = words.next().unwrap_or("");
+    let listed = read_events(alloc, times.as_bytes())?;
+    let times = times.parse::<usize>().unwrap_or(0);
     for ahead in aheads.split(',') {
         let limits = (ahead.parse::<u16>().unwrap_or(u16::MAX), levels);
-        let line = told(rt, alloc, table, limits, times, &ONE_BY_ONE)?;
+        if let Some(events) = &listed {
+            let line = told(rt, alloc, table, limits, events)?;
+            assert!(rt; line.as_str() == wanted, "{row} {line}");
+            continue;
+        }
+        let line = told(
+            rt,
+            alloc,
+            table,
+            limits,
+            &repeated(alloc, times, &ONE_BY_ONE)?,
+        )?;
         assert!(rt; line.as_str().starts_with(wanted), "{row} {line}");
         if times > 10 {
-            let line = told(rt, alloc, table, limits, times, &NEWEST_FIRST)?;
+            let line = told(
+                rt,
+                alloc,
+                table,
+                limits,
+                &repeated(alloc, times, &NEWEST_FIRST)?,
+            )?;
             assert!(rt; line.as_str().starts_with(wanted), "{row} {line}");
         }
     }
@@ -291,7 +336,7 @@ const ROWS: &str = r#"0,16 4 300 one include
 0,1,256 4 300 a fragment that includes itself ten times
 /p 200 esi ~10*{/b}~
 /b 200 esi ~10*{/b}~
-=> fault 3; slots 2;
+=> fault 3; slots 2; steps 5;
 
 0,1,256 4 300 the same, and the page goes on without it
 /p 200 esi ~10*{/b}~
@@ -349,7 +394,113 @@ const ROWS: &str = r#"0,16 4 300 one include
 /x 200 plain 1
 /y 200 plain 2
 /z 200 plain 3
-=> 1|2|3|;"#;
+=> 1|2|3|;
+
+2 4 c,p0 two of three slots ahead
+/p 200 esi {/x}{/y}{/z}
+/x 200 plain 1
+/y 200 plain 2
+/z 200 plain 3
+=> waits http://a.test/x; slots 3; steps 0; log /p
+
+0 4 c,p0 no slot ahead, and one for what it waits for
+/p 200 esi {/x}{/y}{/z}
+/x 200 plain 1
+/y 200 plain 2
+/z 200 plain 3
+=> waits http://a.test/x; slots 2; steps 0; log /p
+
+16 4 c,p0,c,c,p1,a the alternate before the source
+/p 200 esi A<esi:include src='/x' alt='/y'/>B
+/x 404 plain 1
+/y 200 plain 2
+=> waits http://a.test/x; slots 3; steps 2; log /p /y
+
+16 4 c,p0,c,c,p1,a,p0 the alternate before a source that fails
+/p 200 esi A<esi:include src='/x' alt='/y'/>B
+/x 404 plain 1
+/y 200 plain 2
+=> A|2|B|; bytes 3; pieces 3; slots 3; steps 5; log /p /y /x
+
+16 4 c,p0,c,c,p1,a,p0 the alternate before its source
+/p 200 esi A<esi:include src='/x' alt='/y'/>B
+/x 200 plain 1
+/y 200 plain 2
+=> A|1|B|; bytes 3; pieces 3; slots 3; steps 5; log /p /y /x
+
+2 4 c,p0,c,c,p0 an except that is claimed and not posted
+/p 200 esi <esi:try><esi:attempt>{/x}</esi:attempt><esi:except>{/z}</esi:except></esi:try>
+/x 200 plain 1
+/z 200 plain 9
+=> 1|; bytes 1; pieces 1; slots 3; steps 3; log /p /x
+
+2 4 c,p0,c,c,p1,p0 an except that is posted first
+/p 200 esi <esi:try><esi:attempt>{/x}</esi:attempt><esi:except>{/z}</esi:except></esi:try>
+/x 200 plain 1
+/z 200 plain 9
+=> 1|; bytes 1; pieces 1; slots 3; steps 3; log /p /z /x
+
+16 4 c,p0,c,p0 two answers for three names of one fragment
+/p 200 esi {/x}{/x#f}{http://a.test/x}
+/x 200 plain 1
+=> 1|1|1|; bytes 3; pieces 3; slots 2; steps 3; log /p /x
+
+256 4 c,p0,c,p0 a thousand includes are done once the page and their fragment are posted
+/p 200 esi <esi:try><esi:attempt>~1000*{/x}~</esi:attempt><esi:except>~300*{/z^}~</esi:except></esi:try>
+/x 200 plain 1
+=> 1|1|1|1|1|1|1|1|1|1|; bytes 1000; pieces 1000; slots 257; steps 1002; log /p /x
+
+0 4 p0,c,c,p5,p0,p0,c nothing is in hand, and nothing unclaimed
+/p 200 esi A{/x}B
+/x 200 plain 1
+=> waits http://a.test/x; slots 2; steps 1; log /p
+
+0 4 a,c,a,p0,a,c,p0,a,c,p0,a an advance at each turn
+/p 200 esi A{/x}B
+/x 200 plain 1
+=> A|1|B|; bytes 3; pieces 3; slots 2; steps 3; log /p /x
+
+3 4 c,p0,c,c,c,p0,p0,p0 three answers in this order
+/p 200 esi {/x}{/y}{/z}
+/x 200 plain 1
+/y 200 plain 2
+/z 200 plain 3
+=> 1|2|3|; bytes 3; pieces 3; slots 4; steps 3; log /p /x /y /z
+
+3 4 c,p0,c,c,c,p0,p1,p0 three answers in this order
+/p 200 esi {/x}{/y}{/z}
+/x 200 plain 1
+/y 200 plain 2
+/z 200 plain 3
+=> 1|2|3|; bytes 3; pieces 3; slots 4; steps 3; log /p /x /z /y
+
+3 4 c,p0,c,c,c,p1,p0,p0 three answers in this order
+/p 200 esi {/x}{/y}{/z}
+/x 200 plain 1
+/y 200 plain 2
+/z 200 plain 3
+=> 1|2|3|; bytes 3; pieces 3; slots 4; steps 3; log /p /y /x /z
+
+3 4 c,p0,c,c,c,p1,p1,p0 three answers in this order
+/p 200 esi {/x}{/y}{/z}
+/x 200 plain 1
+/y 200 plain 2
+/z 200 plain 3
+=> 1|2|3|; bytes 3; pieces 3; slots 4; steps 3; log /p /y /z /x
+
+3 4 c,p0,c,c,c,p2,p0,p0 three answers in this order
+/p 200 esi {/x}{/y}{/z}
+/x 200 plain 1
+/y 200 plain 2
+/z 200 plain 3
+=> 1|2|3|; bytes 3; pieces 3; slots 4; steps 3; log /p /z /x /y
+
+3 4 c,p0,c,c,c,p2,p1,p0 three answers in this order
+/p 200 esi {/x}{/y}{/z}
+/x 200 plain 1
+/y 200 plain 2
+/z 200 plain 3
+=> 1|2|3|; bytes 3; pieces 3; slots 4; steps 3; log /p /z /y /x"#;
 
 #[test]
 fn pages_come_to_so_many_slots_pieces_and_steps(rt: HostRuntime) -> Result<(), Fail> {
