@@ -1,6 +1,7 @@
 //! A source that fetches from origins.
 
-ghost use Rattle.std.specs.Prelude.{◌≡◌, IfOk};
+ghost use Rattle.std.specs.Prelude.{◌≡◌, IfOk, IfErr};
+ghost use Rattle.hyper_source.specs.Fetches.{AnswersLost};
 
 use crate::executors::IdleExecutors;
 use crate::fields::{content_type_of, control_of};
@@ -96,12 +97,24 @@ where
     ghost names_url = { λ _ _ _ named. named };
 
     fn fetch(&self, rt: &R, alloc: Global, url: &PageUrl) -> Result<Arc<Answer>, NoMemory> {
-        let answer = match self.asked(rt, alloc, url) {
-            Ok((head, body)) => answer_of(alloc, url, &head, body)?,
-            Err(Lost::Fault) => Answer::failed(url.share()?),
-            Err(Lost::NoMemory) => return Err(NoMemory),
-        };
+        let answer = answered(alloc, url, self.asked(rt, alloc, url))?;
         Ok(Arc::new(alloc, answer)?)
+    }
+}
+
+// The answer that a fetch results in: a failed one if it got no response.
+fn answered(
+    alloc: Global,
+    url: &PageUrl,
+    came: Result<(Parts, Vec<u8>), Lost>,
+) -> Result<Answer, NoMemory>
+    ensures url { IfOk result (λ answer. answer.url ≡ url.now) }
+    ensures lost { IfErr came (λ lost. AnswersLost lost url.now result) }
+{
+    match came {
+        Ok((head, body)) => answer_of(alloc, url, &head, body),
+        Err(Lost::Fault) => Ok(Answer::failed(url.share()?)),
+        Err(Lost::NoMemory) => Err(NoMemory),
     }
 }
 
