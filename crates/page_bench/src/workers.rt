@@ -22,7 +22,29 @@ const TURNS: u32 = 15;
 // How many pages whose answers are ready are assembled in a turn.
 const PAGES: u32 = 200;
 
-// A source that has the page at once, and each fragment after a while.
+// A table all of whose answers are ready.
+#[derive(Drop)]
+struct Ready {
+    table: TableSource,
+}
+
+impl<R> Source<R> for Ready {
+    ghost use Rattle.std.specs.Prelude.{◌≡◌};
+
+    ghost gives = { λ ready url answer. answer.url ≡ url };
+
+    ghost names_url = { λ ready url answer given. given };
+
+    fn fetch(&self, rt: &R, alloc: Global, url: &PageUrl) -> Result<Arc<Answer>, NoMemory> {
+        self.table.fetch(rt, alloc, url)
+    }
+
+    fn ready(&self, rt: &R, alloc: Global, url: &PageUrl) -> Result<Option<Arc<Answer>>, NoMemory> {
+        Ok(Some(self.table.fetch(rt, alloc, url)?))
+    }
+}
+
+// A source that has the page ready, and each fragment after a while.
 #[derive(Drop)]
 struct Slow {
     page: PageUrl,
@@ -43,7 +65,7 @@ impl<R: Clock> Source<R> for Slow {
 
     fn ready(&self, rt: &R, alloc: Global, url: &PageUrl) -> Result<Option<Arc<Answer>>, NoMemory> {
         if *url == self.page {
-            self.table.ready(rt, alloc, url)
+            Ok(Some(self.table.fetch(rt, alloc, url)?))
         } else {
             Ok(None)
         }
@@ -117,7 +139,9 @@ fn ready_told<R: Wait + Threads + Clock + Print + Sync>(
     site: Site<'_>,
 ) -> io::Result<()> {
     let answers = table(alloc, site)?;
-    let source = TableSource::new(table(alloc, site)?);
+    let source = Ready {
+        table: TableSource::new(table(alloc, site)?),
+    };
     let mut alone = Least::new();
     let mut by_workers = Least::new();
     for _ in 0..TURNS {
@@ -141,7 +165,7 @@ fn ran_many(alloc: Global, table: &Table) -> io::Result<()> {
 fn assembled_many<R: Wait + Threads + Sync>(
     rt: &R,
     alloc: Global,
-    source: &TableSource,
+    source: &Ready,
 ) -> io::Result<()> {
     for _ in 0..PAGES {
         assembled(rt, alloc, source, 4)?;
