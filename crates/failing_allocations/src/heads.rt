@@ -1,7 +1,7 @@
 //! The heads of requests, and responses with their frames.
 
-use crate::printing::{answers, bytes, calls, number, out_of_memory, word};
 use crate::values::print_request;
+use allocation_tools::printing::{answers, bytes, calls, number, out_of_memory, word};
 use bytes::Bytes;
 use edge_types::{NoMemory, Octets, Outcome, PageBody, PageFault, SharedBytes};
 use futures::task::{Context, Poll};

@@ -6,20 +6,17 @@
 
 mod heads;
 mod pages;
-mod printing;
 mod shards;
 mod texts;
 mod values;
 
+use allocation_tools::printing::ends;
 use std::{env, io};
 
 fn main(rt: HostRuntime) -> io::Result<()> {
     for name in env::args(&rt)?.skip(1) {
-        if call(&rt, name.as_str()).is_none() {
-            eprintln!(rt; "{name}: no such call, or out of memory before it")?;
-            return Err(io::Error::from(io::ErrorKind::InvalidData));
-        }
-        println!(rt)?;
+        let told = call(&rt, name.as_str());
+        ends(&rt, name.as_str(), told)?;
     }
     Ok(())
 }

@@ -1,10 +1,12 @@
 //! Pages: their outcomes, plans, boards, and runs over a table.
 
-use crate::printing::{answers, bytes, calls, number, out_of_memory, word};
 use crate::texts::{TEMPLATE, shared};
-use crate::values::{answer, processed, request, url};
+use allocation_tools::printing::{
+    answers, bytes, calls, number, out_of_memory, print_outcome, word,
+};
+use allocation_tools::values::{answer, processed, request, url};
 use answer_board::Board;
-use edge_types::{Control, NoMemory, Outcome, Table};
+use edge_types::{Control, NoMemory, Table};
 use plan_compiler::{Form, Plan, Prepared, compile};
 use std::alloc::Global;
 use std::sync::Arc;
@@ -46,19 +48,6 @@ pub fn leg_url(rt: &HostRuntime, name: &str) -> Option<()> {
         Ok(Some(url)) => bytes(rt, url.as_bytes()),
         Ok(None) => word(rt, "no URL"),
         Err(NoMemory) => out_of_memory(rt),
-    }
-}
-
-fn print_outcome(rt: &HostRuntime, outcome: &Outcome) -> Option<()> {
-    match outcome {
-        Outcome::Page { status, body, .. } => {
-            number(rt, usize::from(*status))?;
-            for at in 0..body.mark() {
-                bytes(rt, body.piece(at)?)?;
-            }
-            Some(())
-        }
-        Outcome::Fault(fault) => word(rt, fault.name()),
     }
 }
 
@@ -127,21 +116,22 @@ fn print_prepared(rt: &HostRuntime, prepared: &Prepared) -> Option<()> {
     }
 }
 
-/// Opens a second slot on a board.
+/// Opens the first slot of a board, which makes room for further ones.
 pub fn open(rt: &HostRuntime, name: &str) -> Option<()> {
-    let (first, second) = (url(rt.alloc(), "/p")?, url(rt.alloc(), "/x")?);
-    let mut board = Board::new(rt.alloc());
-    board.open(&first, 0).ok()?;
+    open_on(rt, name, &mut Board::new(rt.alloc()))
+}
+
+fn open_on(rt: &HostRuntime, name: &str, board: &mut Board) -> Option<()> {
+    let url = url(rt.alloc(), "/p")?;
     calls(rt, name)?;
-    let opened = board.open(&second, 1);
+    let opened = board.open(&url, 0);
     answers(rt)?;
     print_opened(rt, opened)?;
     word(rt, "left")?;
     number(rt, board.len())?;
-    print_number(rt, board.number(&first))?;
-    print_number(rt, board.number(&second))?;
+    print_number(rt, board.number(&url))?;
     word(rt, "again")?;
-    print_opened(rt, board.open(&second, 1))
+    print_opened(rt, board.open(&url, 0))
 }
 
 fn print_opened(rt: &HostRuntime, opened: Result<usize, NoMemory>) -> Option<()> {

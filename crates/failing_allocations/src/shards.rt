@@ -5,22 +5,12 @@ ghost use Rattle.std.specs.Arc.{arc_value};
 ghost use Rattle.fragment_cache.specs.Shown.{begun_answer};
 ghost use Rattle.fragment_cache.specs.Sound.{NamesUrl};
 
-use crate::printing::{answers, bytes, calls, out_of_memory, word};
-use crate::values::{answer, url};
-use edge_types::{Answer, Control, NoMemory, PageUrl};
+use allocation_tools::printing::{answers, bytes, calls, out_of_memory, word};
+use allocation_tools::values::{answer, stored, url};
+use edge_types::{Answer, NoMemory, PageUrl};
 use fragment_cache::{Begun, Flight, Picked, Shard};
 use std::alloc::Global;
 use std::sync::Arc;
-
-// An answer of a path that may be kept for a minute, and be used for another one if the origin fails.
-fn stored(alloc: Global, path: &str, body: &str) -> Option<Arc<Answer>> {
-    let control = Control {
-        max_age: Some(60),
-        extension: 60,
-        ..Control::default()
-    };
-    answer(alloc, path, control, body)
-}
 
 // A shard for two answers.
 fn shard(alloc: Global) -> Option<Shard> {
@@ -127,14 +117,14 @@ pub fn lead(rt: &HostRuntime, name: &str) -> Option<()> {
 /// Begins where the answer is stored.
 pub fn hit(rt: &HostRuntime, name: &str) -> Option<()> {
     let mut shard = shard(rt.alloc())?;
-    store(&mut shard, stored(rt.alloc(), "/x", "1")?);
+    store(&mut shard, answer(rt.alloc(), "/x", stored(), "1")?);
     begin_at(rt, name, &mut shard, &url(rt.alloc(), "/x")?)
 }
 
 pub fn look(rt: &HostRuntime, name: &str) -> Option<()> {
     let url = url(rt.alloc(), "/x")?;
     let mut shard = shard(rt.alloc())?;
-    store(&mut shard, stored(rt.alloc(), "/x", "1")?);
+    store(&mut shard, answer(rt.alloc(), "/x", stored(), "1")?);
     calls(rt, name)?;
     let found = shard.look(&url, 0);
     answers(rt)?;
@@ -183,8 +173,8 @@ fn land_at(
 /// Lands an answer that is to be stored, beside another one.
 pub fn land(rt: &HostRuntime, name: &str) -> Option<()> {
     let mut shard = shard(rt.alloc())?;
-    store(&mut shard, stored(rt.alloc(), "/y", "2")?);
-    let told = stored(rt.alloc(), "/x", "1")?;
+    store(&mut shard, answer(rt.alloc(), "/y", stored(), "2")?);
+    let told = answer(rt.alloc(), "/x", stored(), "1")?;
     land_at(rt, name, &mut shard, told, 0)?;
     word(rt, "left")?;
     print_look(rt, &mut shard, "/x")?;
@@ -195,7 +185,7 @@ pub fn land(rt: &HostRuntime, name: &str) -> Option<()> {
 /// Lands a failed answer where one that has expired can stand in.
 pub fn bridge(rt: &HostRuntime, name: &str) -> Option<()> {
     let mut shard = shard(rt.alloc())?;
-    store(&mut shard, stored(rt.alloc(), "/x", "1")?);
+    store(&mut shard, answer(rt.alloc(), "/x", stored(), "1")?);
     let failed = Arc::new(rt.alloc(), Answer::failed(url(rt.alloc(), "/x")?)).ok()?;
     land_at(rt, name, &mut shard, failed, 100)?;
     word(rt, "left")?;
@@ -232,7 +222,7 @@ fn land_joined(shard: &mut Shard, told: Arc<Answer>) {
 /// Picks up the answer of a flight that has landed, which uses the only pick-up up.
 pub fn pick(rt: &HostRuntime, name: &str) -> Option<()> {
     let mut shard = shard(rt.alloc())?;
-    land_joined(&mut shard, stored(rt.alloc(), "/x", "1")?);
+    land_joined(&mut shard, answer(rt.alloc(), "/x", stored(), "1")?);
     calls(rt, name)?;
     let picked = shard.pick(0);
     answers(rt)?;

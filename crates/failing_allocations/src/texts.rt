@@ -1,7 +1,7 @@
 //! Texts: their tokens, references, tests and trees, what is wrong with them, and lists of events.
 
-use crate::printing::{answers, bytes, calls, number, out_of_memory, word};
-use crate::values::request;
+use allocation_tools::printing::{answers, bytes, calls, number, out_of_memory, word};
+use allocation_tools::values::request;
 use edge_types::{NoMemory, SharedBytes};
 use esi_scanner::{Kind, ScanFault, Token};
 use esi_tree::{Node, TreeFault};

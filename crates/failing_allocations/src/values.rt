@@ -1,46 +1,13 @@
 //! Values that all layers share: owners, copies, tables, and lists of events.
 
-use crate::printing::{answers, bytes, calls, number, out_of_memory, word};
+use allocation_tools::printing::{answers, bytes, calls, number, out_of_memory, word};
+use allocation_tools::values::{answer, processed, request, url};
 use edge_types::{
-    Answer, Control, NoMemory, Octets, PageBody, PageUrl, Request, SharedAnswer, SharedBytes, Table,
+    Answer, Control, InsertFault, NoMemory, PageBody, PageUrl, Request, SharedAnswer, SharedBytes,
+    Table,
 };
-use std::alloc::Global;
 use std::sync::Arc;
 use surrogate_headers::{is_token, own_device};
-
-/// The URL of a path.
-pub fn url(alloc: Global, path: &str) -> Option<PageUrl> {
-    let text = format!(in alloc; "http://a.test{path}").ok()?;
-    PageUrl::parse(alloc, text.as_bytes()).ok()?
-}
-
-/// An answer of status 200.
-pub fn answer(alloc: Global, path: &str, control: Control, body: &str) -> Option<Arc<Answer>> {
-    let body = SharedBytes::copy_of(alloc, body.as_bytes()).ok()?;
-    let empty = Octets::empty(alloc);
-    let answer = Answer::got(url(alloc, path)?, 200, empty, control, body)?;
-    Arc::new(alloc, answer).ok()
-}
-
-/// What the origin says of an answer whose body is processed.
-pub fn processed() -> Control {
-    Control {
-        esi: true,
-        ..Control::default()
-    }
-}
-
-/// A request that has each field.
-pub fn request(alloc: Global) -> Option<Request> {
-    Some(Request {
-        host: Octets::copy_of(alloc, b"a.test").ok()?,
-        cookie: Octets::copy_of(alloc, b"c=1").ok()?,
-        referer: Octets::copy_of(alloc, b"r").ok()?,
-        user_agent: Octets::copy_of(alloc, b"u").ok()?,
-        accept_language: Octets::copy_of(alloc, b"l").ok()?,
-        query: Octets::copy_of(alloc, b"q=1").ok()?,
-    })
-}
 
 /// Prints the fields of a request.
 pub fn print_request(rt: &HostRuntime, request: &Request) -> Option<()> {
@@ -169,33 +136,31 @@ pub fn push_piece(rt: &HostRuntime, name: &str) -> Option<()> {
     Some(())
 }
 
-/// Inserts an answer into a table that has one, and then once more.
+/// Inserts the first answer of a table, which makes room for further ones, and then once more.
 pub fn insert(rt: &HostRuntime, name: &str) -> Option<()> {
-    let mut table = Table::new(rt.alloc());
-    table
-        .insert(answer(rt.alloc(), "/p", processed(), "P")?)
-        .ok()?;
+    insert_into(rt, name, &mut Table::new(rt.alloc()))
+}
+
+fn insert_into(rt: &HostRuntime, name: &str, table: &mut Table) -> Option<()> {
     let answer = answer(rt.alloc(), "/x", Control::default(), "1")?;
     calls(rt, name)?;
     let inserted = table.insert(answer);
     answers(rt)?;
-    print_inserted(rt, inserted, &mut table)?;
+    print_inserted(rt, inserted, table)?;
     word(rt, "left")?;
-    print_answer(rt, &table, "/p")?;
-    print_answer(rt, &table, "/x")
+    print_answer(rt, table, "/x")
 }
 
 // Inserts what was handed back once more.
 fn print_inserted(
     rt: &HostRuntime,
-    inserted: Result<(), (edge_types::InsertFault, Arc<Answer>)>,
+    inserted: Result<(), (InsertFault, Arc<Answer>)>,
     table: &mut Table,
 ) -> Option<()> {
     match inserted {
         Ok(()) => word(rt, "inserted"),
         Err((fault, back)) => {
             print!(rt; " {fault:?}").ok()?;
-            print_answer(rt, table, "/p")?;
             print_answer(rt, table, "/x")?;
             word(rt, "again")?;
             table.insert(back).ok()
