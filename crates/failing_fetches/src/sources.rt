@@ -1,0 +1,185 @@
+//! Fetches from each source.
+
+use allocation_tools::printing::{answers, bytes, calls, out_of_memory, word};
+use allocation_tools::values::{answer, processed, stored, url};
+use edge_types::{Answer, NoMemory, PageUrl, Table};
+use fetch_workers::{Cache, Clock as Seconds, Source, TableSource};
+use hyper_edge::ServerRuntime;
+use hyper_source::{HyperSource, Origin};
+use std::alloc::{AllocGlobal, Global};
+use std::io::Print;
+use std::net::{Net, SocketAddr, TcpStream};
+use std::sync::atomic::{AtomicBool, Ordering};
+use std::sync::{Arc, Wait};
+use std::time::Duration;
+
+// How many answers a shard of a cache may keep.
+const CAPACITY: usize = 2;
+
+// How many seconds a fetch by HTTP may take.
+const LIMIT: u64 = 10;
+
+// It is always the same second.
+#[derive(Drop)]
+pub struct Still;
+
+impl<R> Seconds<R> for Still {
+    fn now(&self, _rt: &R) -> u64 {
+        0
+    }
+}
+
+// A source that is out of memory when it is asked first.
+#[derive(Drop)]
+struct Forgetful {
+    table: TableSource,
+    is_asked: AtomicBool,
+}
+
+impl<R> Source<R> for Forgetful {
+    ghost use Rattle.std.specs.Prelude.{◌≡◌};
+
+    ghost gives = { λ forgetful url answer. answer.url ≡ url };
+
+    ghost names_url = { λ forgetful url answer given. given };
+
+    fn fetch(&self, rt: &R, alloc: Global, url: &PageUrl) -> Result<Arc<Answer>, NoMemory> {
+        if self.is_asked.swap(true, Ordering::SeqCst) {
+            self.table.fetch(rt, alloc, url)
+        } else {
+            Err(NoMemory)
+        }
+    }
+}
+
+// A page of three includes, and its two fragments, which may be stored.
+const PAGE: &str = "A<esi:include src='/x'/><esi:include src='/y'/><esi:include src='/x'/>";
+
+pub fn table(alloc: Global) -> Option<Table> {
+    let mut table = Table::new(alloc);
+    fill(alloc, &mut table)?;
+    Some(table)
+}
+
+fn fill(alloc: Global, table: &mut Table) -> Option<()> {
+    table.insert(answer(alloc, "/p", processed(), PAGE)?).ok()?;
+    table.insert(answer(alloc, "/x", stored(), "1")?).ok()?;
+    table.insert(answer(alloc, "/y", stored(), "2")?).ok()
+}
+
+/// A cache over these answers.
+pub fn cache(alloc: Global) -> Option<Cache<TableSource, Still>> {
+    let source = TableSource::new(table(alloc)?);
+    Cache::new(alloc, source, Still, CAPACITY).ok()
+}
+
+pub fn fetch_from_table<R: AllocGlobal + Print>(rt: &R, name: &str, path: &str) -> Option<()> {
+    let source = TableSource::new(table(rt.alloc())?);
+    fetch(rt, name, &source, path)
+}
+
+fn fetch<R, S>(rt: &R, name: &str, source: &S, path: &str) -> Option<()>
+where
+    R: AllocGlobal + Print,
+    S: Source<R>,
+{
+    let url = url(rt.alloc(), path)?;
+    calls(rt, name)?;
+    let fetched = source.fetch(rt, rt.alloc(), &url);
+    answers(rt)?;
+    print_fetched(rt, &fetched)
+}
+
+fn print_fetched(rt: &impl Print, fetched: &Result<Arc<Answer>, NoMemory>) -> Option<()> {
+    match fetched {
+        Ok(answer) if !answer.succeeded() => word(rt, "failed"),
+        Ok(answer) => bytes(rt, answer.body()),
+        Err(NoMemory) => out_of_memory(rt),
+    }
+}
+
+/// Prints what a source answers for a path now.
+pub fn print_again<R, S>(rt: &R, source: &S, path: &str) -> Option<()>
+where
+    R: AllocGlobal + Print,
+    S: Source<R>,
+{
+    let url = url(rt.alloc(), path)?;
+    word(rt, "again")?;
+    print_fetched(rt, &source.fetch(rt, rt.alloc(), &url))
+}
+
+pub fn new_cache<R: Wait + AllocGlobal + Print>(rt: &R, name: &str) -> Option<()> {
+    let source = TableSource::new(table(rt.alloc())?);
+    calls(rt, name)?;
+    let made = Cache::new(rt.alloc(), source, Still, CAPACITY);
+    answers(rt)?;
+    match &made {
+        Ok(cache) => print_again(rt, cache, "/x"),
+        Err(NoMemory) => out_of_memory(rt),
+    }
+}
+
+// Fetches through a cache, and then once more with memory.
+fn fetch_twice<R, S>(rt: &R, name: &str, source: &S, path: &str) -> Option<()>
+where
+    R: AllocGlobal + Print,
+    S: Source<R>,
+{
+    fetch(rt, name, source, path)?;
+    print_again(rt, source, path)
+}
+
+/// Fetches what isn't stored yet, or, where the table has no answer, never is.
+pub fn fetch_through_cache<R>(rt: &R, name: &str, path: &str) -> Option<()>
+where
+    R: Wait + AllocGlobal + Print,
+{
+    fetch_twice(rt, name, &cache(rt.alloc())?, path)
+}
+
+/// Fetches what is stored.
+pub fn fetch_from_cache<R: Wait + AllocGlobal + Print>(rt: &R, name: &str) -> Option<()> {
+    fetch_stored(rt, name, &cache(rt.alloc())?)
+}
+
+fn fetch_stored<R, S>(rt: &R, name: &str, source: &S) -> Option<()>
+where
+    R: AllocGlobal + Print,
+    S: Source<R>,
+{
+    source.fetch(rt, rt.alloc(), &url(rt.alloc(), "/x")?).ok()?;
+    fetch_twice(rt, name, source, "/x")
+}
+
+/// Fetches where the source runs out of memory whether or not an allocation fails.
+pub fn fetch_from_forgetful<R: Wait + AllocGlobal + Print>(rt: &R, name: &str) -> Option<()> {
+    let source = Forgetful {
+        table: TableSource::new(table(rt.alloc())?),
+        is_asked: AtomicBool::new(false),
+    };
+    let cache = Cache::new(rt.alloc(), source, Still, CAPACITY).ok()?;
+    fetch_twice(rt, name, &cache, "/x")
+}
+
+/// Fetches from the origin at an address; if that is none, no origin has the URL's authority.
+pub fn fetch_by_http<R>(rt: &R, name: &str, address: &str) -> Option<()>
+where
+    R: ServerRuntime + Net<Stream = TcpStream> + Print,
+{
+    let mut origins = Vec::new(rt.alloc());
+    if let Ok(address) = SocketAddr::parse_ascii(address.as_bytes()) {
+        let authority = b"a.test".to_vec(rt.alloc()).ok()?;
+        origins.push(Origin { authority, address }).ok()?;
+    }
+    fetch_from_origins(rt, name, origins)
+}
+
+fn fetch_from_origins<R>(rt: &R, name: &str, origins: Vec<Origin>) -> Option<()>
+where
+    R: ServerRuntime + Net<Stream = TcpStream> + Print,
+{
+    let limit = Duration::from_secs(LIMIT);
+    let source = HyperSource::new(rt, rt.alloc(), origins, Some(limit)).ok()?;
+    fetch(rt, name, &source, "/x")
+}
