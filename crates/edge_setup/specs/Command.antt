@@ -1,7 +1,7 @@
 -- The subcommand `serve`, by `clap`'s definitions of commands.
 use Rattle.std.specs.Prelude.{codes}
 use Rattle.clap.specs.Words.{App, new_app, with_rule}
-use Rattle.edge_setup.specs.Numbers.{ahead, capacity, client_timeout, levels, numeric_option, threads, timeout, workers}
+use Rattle.edge_setup.specs.Numbers.{ahead, capacity, client_timeout, keep_alive, levels, numeric_option, threads, timeout, workers}
 use Rattle.edge_setup.specs.Rules.{named_flag, named_option, repeated, wanted}
 
 -- where the server listens, and which origins it asks
@@ -20,12 +20,17 @@ with_pages command = with_rule (with_rule (with_rule (with_rule command
 
 -- how connections are served
 abbrev pub with_serving : App → App
-with_serving command = with_rule (with_rule (with_rule (with_rule command
+with_serving command = with_rule (with_rule (with_rule (with_rule (with_rule command
     (named_option (codes "accept")))
     (numeric_option timeout))
     (numeric_option client_timeout))
+    (numeric_option keep_alive))
     (numeric_option threads)
+
+-- whether HEAD is answered, and whether each request is reported
+abbrev pub with_flags : App → App
+with_flags command = with_rule (with_rule command (named_flag (codes "head"))) (named_flag (codes "log"))
 
 -- the subcommand `serve`
 abbrev pub serve_command : App
-serve_command = with_rule (with_serving (with_pages (with_addresses (new_app (codes "serve"))))) (named_flag (codes "log"))
+serve_command = with_flags (with_serving (with_pages (with_addresses (new_app (codes "serve")))))

@@ -43,6 +43,10 @@ timeout = record { name = codes "timeout"; least = 0; most = 86400000; default =
 abbrev pub client_timeout : Numeric
 client_timeout = record { name = codes "client-timeout"; least = 0; most = 86400000; default = codes "60000"; refusal = codes "error: --client-timeout takes milliseconds, from 0 to 86400000" }
 
+-- the seconds that a client's connection is kept for its next request, at most a day
+abbrev pub keep_alive : Numeric
+keep_alive = record { name = codes "keep-alive"; least = 0; most = 86400; default = codes "0"; refusal = codes "error: --keep-alive takes seconds, from 0 to 86400" }
+
 -- the connections that are served at once
 abbrev pub threads : Numeric
 threads = record { name = codes "threads"; least = 1; most = 64; default = codes "64"; refusal = codes "error: --threads takes a number from 1 to 64" }

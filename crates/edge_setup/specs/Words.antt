@@ -8,7 +8,7 @@ use Rattle.std.specs.declared.net.socket_addr.SocketAddr.{SocketAddr}
 use Rattle.clap.specs.Words.{Row, Text, all_of, first_of}
 use Rattle.edge_types.specs.Halves.{around}
 use Rattle.edge_setup.specs.Decimal.{decimal_of}
-use Rattle.edge_setup.specs.Numbers.{Numeric, ahead, capacity, client_timeout, levels, said_of, threads, timeout, workers}
+use Rattle.edge_setup.specs.Numbers.{Numeric, ahead, capacity, client_timeout, keep_alive, levels, said_of, threads, timeout, workers}
 use Rattle.edge_setup.specs.declared.setup.Origin.{Origin}
 use Rattle.edge_setup.specs.declared.setup.Pages.{Pages}
 use Rattle.edge_setup.specs.declared.setup.Serving.{Serving}
@@ -85,7 +85,9 @@ pub record SaysServing (rows : List Row) (serving : Serving) : Type 0 where
   pub accepts_are : accepts_of (first_of (codes "accept") rows) ≡ Some serving.accept
   pub timeout_is : said_of timeout rows ≡ Some serving.timeout
   pub client_timeout_is : said_of client_timeout rows ≡ Some serving.client_timeout
+  pub keep_alive_is : said_of keep_alive rows ≡ Some serving.keep_alive
   pub threads_are : said_of threads rows ≡ Some serving.threads
+  pub head_is : is_set (first_of (codes "head") rows) ≡ serving.answers_head
   pub logs_is : is_set (first_of (codes "log") rows) ≡ serving.logs
 
 -- what the options ask for
@@ -106,6 +108,7 @@ IsWrong rows named.Capacity = said_of capacity rows ≡ None
 IsWrong rows named.Accept = accepts_of (first_of (codes "accept") rows) ≡ None
 IsWrong rows named.Timeout = said_of timeout rows ≡ None
 IsWrong rows named.ClientTimeout = said_of client_timeout rows ≡ None
+IsWrong rows named.KeepAlive = said_of keep_alive rows ≡ None
 IsWrong rows named.Threads = said_of threads rows ≡ None
 
 -- the values of these options are valid
@@ -122,7 +125,7 @@ abbrev pub HasPages : List Row → Type 0
 HasPages rows = Has workers rows × Has ahead rows × Has levels rows × Has capacity rows
 
 abbrev pub HasServing : List Row → Type 0
-HasServing rows = HasAccepts rows × Has timeout rows × Has client_timeout rows × Has threads rows
+HasServing rows = HasAccepts rows × Has timeout rows × Has client_timeout rows × Has keep_alive rows × Has threads rows
 
 -- the values of the options that are read before this one are valid
 abbrev pub AreValidBefore : List Row → Named → Type 0
@@ -134,7 +137,8 @@ AreValidBefore rows named.Capacity = HasAddress rows × Has workers rows × Has 
 AreValidBefore rows named.Accept = HasAddress rows × HasPages rows
 AreValidBefore rows named.Timeout = HasAddress rows × HasPages rows × HasAccepts rows
 AreValidBefore rows named.ClientTimeout = HasAddress rows × HasPages rows × HasAccepts rows × Has timeout rows
-AreValidBefore rows named.Threads = HasAddress rows × HasPages rows × HasAccepts rows × Has timeout rows × Has client_timeout rows
+AreValidBefore rows named.KeepAlive = HasAddress rows × HasPages rows × HasAccepts rows × Has timeout rows × Has client_timeout rows
+AreValidBefore rows named.Threads = HasAddress rows × HasPages rows × HasAccepts rows × Has timeout rows × Has client_timeout rows × Has keep_alive rows
 AreValidBefore rows named.Origin = HasAddress rows × HasPages rows × HasServing rows
 
 -- this is the first option, in the order of reading, whose value is invalid
@@ -153,6 +157,7 @@ refusal_of named.Capacity = capacity.refusal
 refusal_of named.Accept = codes "error: --accept takes a number below 2 to the power of 64"
 refusal_of named.Timeout = timeout.refusal
 refusal_of named.ClientTimeout = client_timeout.refusal
+refusal_of named.KeepAlive = keep_alive.refusal
 refusal_of named.Threads = threads.refusal
 
 -- why the options are refused

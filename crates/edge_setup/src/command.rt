@@ -2,9 +2,11 @@
 ghost use Rattle.std.specs.Prelude.{◌≡◌, false, IfOk};
 ghost use Rattle.clap.specs.Words.{app_of};
 ghost use Rattle.clap.specs.declared.builder.command.Command.TheViews.{out-Command as fields_of};
-ghost use Rattle.edge_setup.specs.Command.{serve_command, with_addresses, with_pages, with_serving};
+ghost use Rattle.edge_setup.specs.Command.{serve_command, with_addresses, with_flags, with_pages, with_serving};
 
-use crate::number::{AHEAD, CAPACITY, CLIENT_TIMEOUT, LEVELS, THREADS, TIMEOUT, WORKERS};
+use crate::number::{
+    AHEAD, CAPACITY, CLIENT_TIMEOUT, KEEP_ALIVE, LEVELS, THREADS, TIMEOUT, WORKERS,
+};
 use crate::options::{flag, option, with_option};
 use clap::{ArgAction, Command};
 use std::alloc::{AllocError, Global};
@@ -20,10 +22,7 @@ pub fn serve_command<'a>(alloc: Global) -> Result<Command<'a>, AllocError>
     let command = with_addresses(alloc, command)?;
     let command = with_pages(alloc, command)?;
     let command = with_serving(alloc, command)?;
-    with_option(
-        command,
-        flag(alloc, "log", "Reports each request on standard error"),
-    )
+    with_flags(alloc, command)
 }
 
 // Where the server listens, and which origins it asks.
@@ -72,9 +71,22 @@ fn with_serving<'a>(alloc: Global, command: Command<'a>) -> Result<Command<'a>, 
     let accept = option(alloc, "accept", "N", "Ends after this many connections");
     let timeout = TIMEOUT.arg(alloc);
     let client_timeout = CLIENT_TIMEOUT.arg(alloc);
+    let keep_alive = KEEP_ALIVE.arg(alloc);
     let threads = THREADS.arg(alloc);
     let command = with_option(command, accept)?;
     let command = with_option(command, timeout)?;
     let command = with_option(command, client_timeout)?;
+    let command = with_option(command, keep_alive)?;
     with_option(command, threads)
+}
+
+// Whether HEAD is answered, and whether each request is reported.
+fn with_flags<'a>(alloc: Global, command: Command<'a>) -> Result<Command<'a>, AllocError>
+    ensures app { IfOk result (λ more. app_of more ≡ with_flags (app_of command.entry)) }
+    ensures local { IfOk result (λ more. (fields_of more).has_globals ≡ (fields_of command.entry).has_globals) }
+{
+    let head = flag(alloc, "head", "Answers HEAD like GET, without the body");
+    let log = flag(alloc, "log", "Reports each request on standard error");
+    let command = with_option(command, head)?;
+    with_option(command, log)
 }

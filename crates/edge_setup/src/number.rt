@@ -86,6 +86,16 @@ pub(crate) const CLIENT_TIMEOUT: NumericOption = NumericOption {
     refusal: "error: --client-timeout takes milliseconds, from 0 to 86400000",
 };
 
+/// The seconds that a client's connection is kept for its next request, at most a day.
+pub(crate) const KEEP_ALIVE: NumericOption = NumericOption {
+    name: "keep-alive",
+    help: "Seconds that a connection is kept for its client's next request; 0 to serve one request each",
+    least: 0,
+    most: 86_400,
+    default: "0",
+    refusal: "error: --keep-alive takes seconds, from 0 to 86400",
+};
+
 /// The connections that are served at once.
 pub(crate) const THREADS: NumericOption = NumericOption {
     name: "threads",

@@ -4,7 +4,9 @@ ghost use Rattle.std.specs.Prelude.{◌≡◌};
 ghost use Rattle.edge_setup.specs.Words.{refusal_of};
 ghost use Rattle.edge_setup.specs.declared.setup.SetupFault.TheVariants as fault;
 
-use crate::number::{AHEAD, CAPACITY, CLIENT_TIMEOUT, LEVELS, THREADS, TIMEOUT, WORKERS};
+use crate::number::{
+    AHEAD, CAPACITY, CLIENT_TIMEOUT, KEEP_ALIVE, LEVELS, THREADS, TIMEOUT, WORKERS,
+};
 use std::alloc::AllocError;
 use std::net::SocketAddr;
 
@@ -39,8 +41,12 @@ pub struct Serving {
     pub timeout: u32,
     /// The milliseconds that a client may take; 0 means no limit.
     pub client_timeout: u32,
+    /// The seconds that a connection is kept for its client's next request; 0 means that none is kept.
+    pub keep_alive: u32,
     /// The most connections that are served at once.
     pub threads: u16,
+    /// Whether HEAD is answered like GET, without the body.
+    pub answers_head: bool,
     /// Whether each request is reported on standard error.
     pub logs: bool,
 }
@@ -79,6 +85,8 @@ pub enum Named {
     Timeout,
     /// `--client-timeout`: not a number within the limits.
     ClientTimeout,
+    /// `--keep-alive`: not a number within the limits.
+    KeepAlive,
     /// `--threads`: not a number within the limits.
     Threads,
 }
@@ -100,6 +108,7 @@ impl Named {
             Named::Accept => "error: --accept takes a number below 2 to the power of 64",
             Named::Timeout => TIMEOUT.refusal,
             Named::ClientTimeout => CLIENT_TIMEOUT.refusal,
+            Named::KeepAlive => KEEP_ALIVE.refusal,
             Named::Threads => THREADS.refusal,
         }
     }

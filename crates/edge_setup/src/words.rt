@@ -5,7 +5,9 @@ ghost use Rattle.clap.specs.Words.{first_of, found_of, rows_of};
 ghost use Rattle.edge_setup.specs.Words.{accepts_of, is_set, IsAddress, HasAddress, HasPages, IsFirstWrong, IsRefusedBy, IsWithin, SaysPages, SaysServing, SaysSetup};
 
 use crate::decimal::decimal_of;
-use crate::number::{AHEAD, CAPACITY, CLIENT_TIMEOUT, LEVELS, THREADS, TIMEOUT, WORKERS};
+use crate::number::{
+    AHEAD, CAPACITY, CLIENT_TIMEOUT, KEEP_ALIVE, LEVELS, THREADS, TIMEOUT, WORKERS,
+};
 use crate::origins::origins_of;
 use crate::setup::{Named, Pages, Serving, Setup, SetupFault};
 use clap::ArgMatches;
@@ -69,7 +71,9 @@ fn serving_of(matches: &ArgMatches<'_>) -> Result<Serving, Named>
         accept: accepts_of(word_of(matches, "accept")).ok_or(Named::Accept)?,
         timeout: TIMEOUT.u32_of(matches).ok_or(Named::Timeout)?,
         client_timeout: CLIENT_TIMEOUT.u32_of(matches).ok_or(Named::ClientTimeout)?,
+        keep_alive: KEEP_ALIVE.u32_of(matches).ok_or(Named::KeepAlive)?,
         threads: THREADS.u16_of(matches).ok_or(Named::Threads)?,
+        answers_head: is_set(word_of(matches, "head")),
         logs: is_set(word_of(matches, "log")),
     })
 }
