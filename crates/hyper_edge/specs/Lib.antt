@@ -2,3 +2,4 @@ pub mod Roster
 pub mod Responses
 pub mod Records
 pub mod Lines
+pub mod Methods

@@ -32,6 +32,10 @@ succeeded roster = record roster { failed = 0; serving = min (roster.serving + 1
 abbrev pub has_served : Roster → Roster
 has_served roster = record roster { serving = roster.serving - 1 }
 
+-- connections may be kept: not all threads that there may be are serving
+abbrev pub MayKeep : Roster → Type 0
+MayKeep roster = roster.serving < roster.most
+
 -- one more thread is wanted: all existing ones are serving, there may be more, and none is wanted yet
 pub record WantsThread (roster : Roster) : Type 0 where
   pub quiet : IsFalse roster.wanted

@@ -11,8 +11,9 @@ ghost use Rattle.hyper_edge.specs.Records.{IsCopyOrEmpty};
 use crate::responding::Responded;
 use http::Request;
 use http_body::Body;
-use std::alloc::{AllocError, Global};
-use std::sync::{Arc, Mutex, Wait};
+use std::alloc::Global;
+use std::mem;
+use std::sync::{Mutex, Wait};
 use std::time::{Clock, Duration, Instant};
 
 /// What each request that was answered is reported to, by the threads that serve.
@@ -22,7 +23,7 @@ pub trait Journal<R> {
     /// Whether requests are to be reported. If not, no record is made.
     fn is_kept(&self) -> bool;
 
-    /// A request was answered, and its connection has ended.
+    /// A request was answered, and its response has been written or its connection has ended.
     fn served(&self, rt: &R, record: &RequestRecord);
 }
 
@@ -51,55 +52,59 @@ pub struct RequestRecord {
     pub body: u64,
     /// The answers that the page asked the source for, its own among them; 0 for a refusal.
     pub answers: u64,
-    /// The microseconds from the request's head to the end of the connection.
+    /// The microseconds from the request's head to the end of the response, or of the connection if it isn't kept.
     pub micros: u64,
 }
 
-/// Where the service of one connection leaves a record of its answer, for whoever waits for its end.
+/// Where the service of one connection leaves records of its answers, for whoever reports them.
 #[derive(Drop)]
 pub(crate) struct Note {
-    left: Mutex<Option<(Instant, RequestRecord)>>,
+    alloc: Global,
+    left: Mutex<Vec<Left>>,
+}
+
+// What is left of one request: when its head had come, and how it was answered.
+#[derive(Drop)]
+struct Left {
+    begun: Instant,
+    record: RequestRecord,
 }
 
 impl Note {
-    /// An empty note, with two owners.
-    pub(crate) fn pair(alloc: Global) -> Result<(Arc<Note>, Arc<Note>), AllocError> {
-        let note = Arc::new(
+    /// An empty note.
+    pub(crate) fn new(alloc: Global) -> Note {
+        Note {
             alloc,
-            Note {
-                left: Mutex::new(None),
-            },
-        )?;
-        let same = note.clone()?;
-        Ok((note, same))
+            left: Mutex::new(Vec::new(alloc)),
+        }
     }
 
-    /// Leaves a record of how a request was answered whose head had come at `begun`.
+    /// Leaves a record of how a request was answered whose head had come at `begun`. What there is no memory
+    /// for isn't reported.
     pub(crate) fn leave<R: Wait, B>(
         &self,
         rt: &R,
-        alloc: Global,
         begun: Instant,
         request: &Request<B>,
         responded: &Responded,
     ) {
-        let record = record_of(alloc, request, responded);
-        *self.left.lock(rt) = Some((begun, record));
+        let record = record_of(self.alloc, request, responded);
+        let _ = self.left.lock(rt).push(Left { begun, record });
     }
 
-    /// Reports the record to a journal, now that the connection has ended.
+    /// Reports the records to a journal, now that the responses have been written or the connection has ended.
     pub(crate) fn tell<R: Wait + Clock, J: Journal<R>>(&self, rt: &R, journal: &J) {
-        let Some((begun, mut record)) = self.left.lock(rt).take() else {
-            return;
-        };
-        if let Ok(taken) = begun.elapsed(rt) {
-            record.micros = micros_of(taken);
+        let left = mem::replace(&mut *self.left.lock(rt), Vec::new(self.alloc));
+        for Left { begun, mut record } in left {
+            if let Ok(taken) = begun.elapsed(rt) {
+                record.micros = micros_of(taken);
+            }
+            journal.served(rt, &record);
         }
-        journal.served(rt, &record);
     }
 }
 
-// The record of how a request was answered, as long as its connection hasn't ended.
+// The record of how a request was answered, as long as it hasn't been reported.
 fn record_of<B>(alloc: Global, request: &Request<B>, responded: &Responded) -> RequestRecord
     ensures method { IsCopyOrEmpty (http.head_of request.now).method result.method.items }
     ensures url { IfSome (slice_get responded.now.log.items 0) (λ page. IsCopyOrEmpty (arc_value page).url result.url.items) }

@@ -1,5 +1,5 @@
-//! An edge server over HTTP: each connection is served one request, whose page is assembled from what
-//! a source answers.
+//! An edge server over HTTP: each connection is served one request, or one after another, whose pages are
+//! assembled from what a source answers.
 //!
 //! Source: RFC 9110, "HTTP Semantics", and RFC 9112, "HTTP/1.1".
 #![tactic(auto)]
@@ -7,8 +7,10 @@
 mod accept;
 mod client_stream;
 mod connection;
+mod date;
 mod executor;
 mod journal;
+mod reporting;
 mod responding;
 mod roster;
 mod runtime;

@@ -76,6 +76,13 @@ impl Roster {
         true
     }
 
+    /// Whether connections may be kept for further requests: a thread is left for other clients, or may be started.
+    pub(crate) fn may_keep(&self) -> bool
+        ensures { IsTrue result ↔ spec.MayKeep self.now }
+    {
+        self.serving < self.most
+    }
+
     /// A thread has served.
     pub(crate) fn served(&mut self)
         ensures { self.new ≡ spec.has_served self.old }

@@ -2,7 +2,9 @@
 
 ghost use Rattle.std.specs.Prelude.{◌≡◌, map, IfOk};
 ghost use Rattle.hyper_edge.specs.Lines.{line, lines_of};
+ghost use Rattle.hyper_edge.specs.Methods.{answered_as};
 
+use crate::date::DateClock;
 use crate::journal::Note;
 use crate::responding::{RequestHead, Responded, no_room, respond_with_log};
 use edge_types::NoMemory;
@@ -15,6 +17,7 @@ use std::borrow::CowStr;
 use std::hash::RandomState;
 use std::io;
 use std::random::RandomSource;
+use std::sync::atomic::AtomicBool;
 use std::sync::{Arc, Wait};
 use std::thread::Threads;
 use std::time::{Clock, Instant};
@@ -26,6 +29,9 @@ pub struct EdgeService<S, R> {
     alloc: Global,
     source: Arc<S>,
     how: Assembling,
+    answers_head: bool,
+    // Whether connections may be kept for further requests at the moment. Whoever serves them says so.
+    may_keep: Arc<AtomicBool>,
     // The hash keys of the maps of fields.
     keys: RandomState,
 }
@@ -42,13 +48,24 @@ impl<S: Drop, R: Drop> EdgeService<S, R> {
         R: RandomSource,
     {
         let keys = RandomState::new(&rt)?;
+        let may_keep = Arc::new(alloc, AtomicBool::new(false))?;
         Ok(EdgeService {
             rt,
             alloc,
             source,
             how,
+            answers_head: false,
+            may_keep,
             keys,
         })
+    }
+
+    /// The same, and HEAD is answered like GET, without the body.
+    ///
+    /// Source: RFC 9110, "HEAD".
+    pub fn answering_head(mut self) -> EdgeService<S, R> {
+        self.answers_head = true;
+        self
     }
 
     pub(crate) fn alloc(&self) -> Global {
@@ -57,6 +74,10 @@ impl<S: Drop, R: Drop> EdgeService<S, R> {
 
     pub(crate) fn keys(&self) -> RandomState {
         self.keys
+    }
+
+    pub(crate) fn may_keep(&self) -> &AtomicBool {
+        &self.may_keep
     }
 }
 
@@ -77,7 +98,7 @@ where
         let begun = Instant::now(&self.rt);
         let responded = self.respond_to(request)?;
         if let Ok(begun) = begun {
-            note.leave(&self.rt, self.alloc, begun, request, &responded);
+            note.leave(&self.rt, begun, request, &responded);
         }
         Ok(responded)
     }
@@ -92,7 +113,7 @@ where
             return no_room(alloc);
         };
         let head = RequestHead {
-            method: request.method().as_str().as_bytes(),
+            method: answered_as(request.method().as_str().as_bytes(), self.answers_head),
             target: target.as_bytes(),
             fields: fields.as_slice(),
         };
@@ -101,6 +122,11 @@ where
 }
 
 impl<S: Drop, R: Clone + Drop> EdgeService<S, R> {
+    /// The clock for the dates of responses, if there is memory for one more.
+    pub(crate) fn date_clock(&self) -> Option<DateClock<R>> {
+        Some(DateClock::new(self.rt.clone().ok()?))
+    }
+
     /// A second handle to the same service, for another connection.
     pub(crate) fn share(&self) -> Result<EdgeService<S, R>, AllocError> {
         Ok(EdgeService {
@@ -108,8 +134,21 @@ impl<S: Drop, R: Clone + Drop> EdgeService<S, R> {
             alloc: self.alloc,
             source: self.source.clone()?,
             how: self.how,
+            answers_head: self.answers_head,
+            may_keep: self.may_keep.clone()?,
             keys: self.keys,
         })
+    }
+}
+
+// The method as which a request is answered. Of the response to HEAD the HTTP library leaves the body out.
+fn answered_as(method: &[u8], answers_head: bool) -> &[u8]
+    ensures { result.now ≡ answered_as answers_head method.now }
+{
+    if answers_head && method == b"HEAD".as_slice() {
+        b"GET".as_slice()
+    } else {
+        method
     }
 }
 

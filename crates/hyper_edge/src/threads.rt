@@ -8,7 +8,8 @@ use crate::roster::{Roster, ServeEnd};
 use crate::runtime::ServerRuntime;
 use crate::service::EdgeService;
 use fetch_workers::Source;
-use std::sync::{Condvar, Mutex, Wait};
+use std::sync::atomic::{AtomicBool, Ordering};
+use std::sync::{Arc, Condvar, Mutex, Wait};
 use std::thread;
 use tokio::io::{AsyncRead, AsyncWrite};
 
@@ -32,14 +33,21 @@ impl SharedRoster {
         may
     }
 
-    fn accepted(&self, rt: &impl Wait) {
-        if self.roster.lock(rt).accepted() {
+    // Leaves there whether connections may be kept from now on, and so does `served`.
+    fn accepted(&self, rt: &impl Wait, may_keep: &AtomicBool) {
+        let mut roster = self.roster.lock(rt);
+        let is_wanted = roster.accepted();
+        may_keep.store(roster.may_keep(), Ordering::SeqCst);
+        drop(roster);
+        if is_wanted {
             self.moved.notify_all();
         }
     }
 
-    fn served(&self, rt: &impl Wait) {
-        self.roster.lock(rt).served();
+    fn served(&self, rt: &impl Wait, may_keep: &AtomicBool) {
+        let mut roster = self.roster.lock(rt);
+        roster.served();
+        may_keep.store(roster.may_keep(), Ordering::SeqCst);
     }
 
     fn accept_failed(&self, rt: &impl Wait) -> bool {
@@ -75,9 +83,12 @@ impl SharedRoster {
 /// are none the calling thread serves alone. A failed accept is skipped, and doesn't add to `count`;
 /// sixteen in succession end the server.
 ///
+/// Where the acceptor keeps connections, each serves one request after another, as long as not all threads
+/// that there may be are serving: then each response says that it is the last one of its connection.
+///
 /// Each request that was answered is reported to the journal by the thread that served it, once its
-/// connection has ended. What never became a request, or what the HTTP library answered on its own,
-/// isn't reported.
+/// response has been written or its connection has ended. What never became a request, or what the HTTP
+/// library answered on its own, isn't reported.
 ///
 /// Our profile.
 pub fn serve_accepts<R, A, S, J>(
@@ -161,9 +172,10 @@ where
             }
             continue;
         };
-        shared.accepted(rt);
-        serve(rt, &mut executor, io, service, journal);
-        shared.served(rt);
+        shared.accepted(rt, service.may_keep());
+        let written = acceptor.written(&io);
+        serve(rt, &mut executor, io, service, journal, written);
+        shared.served(rt, service.may_keep());
     }
     unreachable!()
 }
@@ -175,6 +187,7 @@ fn serve<R, I, S, J>(
     io: I,
     service: &EdgeService<S, R>,
     journal: &J,
+    written: Option<Arc<AtomicBool>>,
 )
 where
     R: ServerRuntime + Sync,
@@ -186,6 +199,6 @@ where
         *executor = Executor::new(rt).ok();
     }
     if let (Some(executor), Ok(own)) = (executor, service.share()) {
-        serve_journaled(rt, executor, io, own, journal);
+        serve_journaled(rt, executor, io, own, journal, written);
     }
 }

@@ -6,13 +6,16 @@ ghost use Rattle.std.specs.Io.{ReadsAtMost, WritesAtMost};
 use super::source_of;
 use fetch_workers::{Assembling, TableSource};
 use futures::task::{Context, Poll};
-use hyper_edge::{Accept, EdgeService, Executor, NoJournal, ServeEnd, serve_accepts, serve_io};
+use hyper_edge::{
+    Accept, EdgeService, Executor, Journal, NoJournal, RequestRecord, ServeEnd, serve_accepts,
+    serve_io,
+};
 use std::alloc::AllocGlobal;
 use std::io;
 use std::io::{ErrorKind, Read};
 use std::process::Abort;
 use std::random::RandomSource;
-use std::sync::atomic::{AtomicU64, Ordering};
+use std::sync::atomic::{AtomicBool, AtomicU64, Ordering};
 use std::sync::{Arc, Wait};
 use std::test::Fail;
 use std::thread::Threads;
@@ -22,12 +25,14 @@ use tokio::io::{AsyncRead, AsyncWrite};
 // What a client sends.
 const ASKED: &[u8] = b"GET /p HTTP/1.1\r\nhost: a.test\r\n\r\n";
 
-// A client in memory, whose reads and writes fail after this many. It counts what is written.
+// A client in memory that sends this many requests, and whose reads and writes fail after this many. It counts
+// what is written, and says when a response is out.
 #[derive(Drop)]
 struct Script {
-    is_read: bool,
+    requests: u64,
     moves: u64,
     written: Arc<AtomicU64>,
+    is_out: Arc<AtomicBool>,
 }
 
 impl Script {
@@ -39,15 +44,15 @@ impl Script {
         Ok(())
     }
 
-    // The whole request at once, and then the end.
+    // A whole request at once, and after the last one the end.
     fn read(&mut self, buf: &mut [u8]) -> io::Result<usize>
         ensures { ReadsAtMost result buf.new }
     {
         self.goes_on()?;
-        if self.is_read {
+        if self.requests == 0 {
             return Ok(0);
         }
-        self.is_read = true;
+        self.requests -= 1;
         let mut input = ASKED;
         input.read(buf)
     }
@@ -87,6 +92,7 @@ impl AsyncWrite for Script {
     }
 
     fn poll_flush(&mut self, _cx: &mut Context<'_>) -> Poll<io::Result<()>> {
+        self.is_out.store(true, Ordering::SeqCst);
         Poll::Ready(Ok(()))
     }
 
@@ -114,9 +120,10 @@ where
     let service = service(rt)?;
     let count = Arc::new(rt.alloc(), AtomicU64::new(0))?;
     let io = Script {
-        is_read: false,
+        requests: 1,
         moves,
         written: count.clone()?,
+        is_out: Arc::new(rt.alloc(), AtomicBool::new(false))?,
     };
     serve_io(rt, executor, io, service);
     Ok(count.load(Ordering::SeqCst))
@@ -141,6 +148,7 @@ struct Failing {
     fails: u64,
     accepts: AtomicU64,
     written: Arc<AtomicU64>,
+    is_out: Arc<AtomicBool>,
 }
 
 impl<R> Accept<R> for Failing {
@@ -151,9 +159,10 @@ impl<R> Accept<R> for Failing {
             return None;
         }
         Some(Script {
-            is_read: false,
+            requests: 1,
             moves: 100,
             written: self.written.clone().ok()?,
+            is_out: self.is_out.clone().ok()?,
         })
     }
 
@@ -171,6 +180,7 @@ where
         fails,
         accepts: AtomicU64::new(0),
         written: Arc::new(rt.alloc(), AtomicU64::new(0))?,
+        is_out: Arc::new(rt.alloc(), AtomicBool::new(false))?,
     };
     let end = serve_accepts(rt, &failing, &service, &NoJournal, 1, u64::MAX);
     assert!(rt; end == ServeEnd::AcceptsFailed);
@@ -191,4 +201,83 @@ fn sixteen_failed_accepts_end_a_server(rt: HostRuntime) -> Result<(), Fail> {
     let whole = written(&rt, &mut executor, 100)?;
     ends(&rt, 15, 32, whole)?;
     ends(&rt, 16, 16, 0)
+}
+
+// Gives clients in memory that send three requests each over a connection that is kept.
+#[derive(Drop)]
+struct Keeping {
+    moves: u64,
+    written: Arc<AtomicU64>,
+    is_out: Arc<AtomicBool>,
+}
+
+impl<R> Accept<R> for Keeping {
+    type Io = Script;
+
+    fn accept(&self, _rt: &R) -> Option<Script> {
+        Some(Script {
+            requests: 3,
+            moves: self.moves,
+            written: self.written.clone().ok()?,
+            is_out: self.is_out.clone().ok()?,
+        })
+    }
+
+    fn written(&self, io: &Script) -> Option<Arc<AtomicBool>> {
+        io.is_out.clone().ok()
+    }
+
+    fn end(&self, _rt: &R) {}
+}
+
+// Counts the requests that are reported.
+#[derive(Drop)]
+struct Counting {
+    records: AtomicU64,
+}
+
+impl<R> Journal<R> for Counting {
+    fn is_kept(&self) -> bool {
+        true
+    }
+
+    fn served(&self, _rt: &R, record: &RequestRecord) {
+        if record.status == 200 {
+            self.records.fetch_add(1, Ordering::SeqCst);
+        }
+    }
+}
+
+// How many bytes are sent to a client in memory that is kept, and how many of its requests are reported, where its
+// reads and writes fail after this many.
+fn kept<R>(rt: &R, moves: u64) -> Result<(u64, u64), Fail>
+where
+    R: Wait + Threads + Clock + RandomSource + AllocGlobal + Abort + Clone + Drop + Send + Sync,
+{
+    let service = service(rt)?;
+    let keeping = Keeping {
+        moves,
+        written: Arc::new(rt.alloc(), AtomicU64::new(0))?,
+        is_out: Arc::new(rt.alloc(), AtomicBool::new(false))?,
+    };
+    let counting = Counting {
+        records: AtomicU64::new(0),
+    };
+    let end = serve_accepts(rt, &keeping, &service, &counting, 2, 1);
+    assert!(rt; end == ServeEnd::Served);
+    let written = keeping.written.load(Ordering::SeqCst);
+    Ok((written, counting.records.load(Ordering::SeqCst)))
+}
+
+#[test]
+fn a_kept_stream_that_fails_ends_its_connection_alone(rt: HostRuntime) -> Result<(), Fail> {
+    let (whole, records) = kept(&rt, 100)?;
+    assert!(rt; records == 3);
+    let mut before = 0;
+    for moves in 0..12 {
+        let (sent, told) = kept(&rt, moves)?;
+        assert!(rt; before <= sent && sent <= whole && told <= 3, "{moves}");
+        before = sent;
+    }
+    Ok(())
 }
