@@ -111,6 +111,18 @@ def a_request_has_to_come_in_time():
         same("past the limit, and soon (%.2f s)" % taken, True, 0.3 <= taken < 5)
 
 
+def a_long_page_comes_whole_to_a_client_that_sends_on():
+    """Ten bytes, and a second request, that come after the request and are never read."""
+    texts = {"/p": wire(PAGE + "<esi:include src='/x'/>" * 8), "/x": wire("HTTP/1.1 200 OK||") + b"1" * 250000}
+    with Wires(texts) as origin, before(origin) as edge:
+        for more in (b"0123456789", ASKED):
+            with client(edge, ASKED) as connection:
+                time.sleep(0.1)
+                connection.sendall(more)
+                time.sleep(0.1)
+                same("bytes of the body", 2000000, len(Response(rest(connection)).body))
+
+
 def many_clients_are_served_side_by_side():
     """Two threads serve two hundred clients, four of them at a time, and the edge ends with the last."""
     with Origin(PLAIN) as origin, before(origin, "--threads", "2", "--accept", "200") as edge:
@@ -133,5 +145,6 @@ TESTS = (
     a_silent_client_holds_one_thread_alone,
     without_a_limit_a_client_takes_its_time,
     a_request_has_to_come_in_time,
+    a_long_page_comes_whole_to_a_client_that_sends_on,
     many_clients_are_served_side_by_side,
 )

@@ -1,7 +1,7 @@
 //! The server that the options of `serve` ask for.
 ghost use Rattle.std.specs.Prelude.{◌≡◌};
 ghost use Rattle.edge_setup.specs.Words.{IsWithin};
-ghost use Rattle.edge_main.specs.Server.{IsServerOf, limit_of, nanos_of};
+ghost use Rattle.edge_main.specs.Server.{IsServerOf, idle_of, limit_of, nanos_of};
 
 use crate::server::Server;
 use edge_setup::Setup;
@@ -17,6 +17,17 @@ fn limit_of(millis: u32) -> Option<Duration>
         None
     } else {
         Some(Duration::from_millis(u64::from(millis)))
+    }
+}
+
+// How long a connection is kept for a further request, in seconds; 0 means that none is kept.
+fn idle_of(seconds: u32) -> Option<Duration>
+    ensures { nanos_of result ≡ idle_of seconds }
+{
+    if seconds == 0 {
+        None
+    } else {
+        Some(Duration::from_secs(u64::from(seconds)))
     }
 }
 
@@ -39,11 +50,13 @@ pub(crate) fn server_of(setup: Setup) -> Server
         clients: Limits {
             request: client,
             response: client,
+            idle: idle_of(serving.keep_alive),
         },
         pages: Assembling::new(pages.ahead, pages.workers, pages.levels),
         capacity: usize::from(pages.capacity),
         threads: serving.threads,
         accept: serving.accept,
+        answers_head: serving.answers_head,
         logs: serving.logs,
     }
 }

@@ -26,6 +26,8 @@ pub(crate) struct Server {
     pub threads: u16,
     /// After how many connections it ends.
     pub accept: u64,
+    /// Whether HEAD is answered like GET.
+    pub answers_head: bool,
     /// Whether each request is logged.
     pub logs: bool,
     ghost some_capacity: { 1 ≤ capacity },

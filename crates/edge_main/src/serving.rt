@@ -35,10 +35,14 @@ where
         capacity,
         threads,
         accept,
+        answers_head,
         logs,
     } = server;
     let source = source_of(rt, origins, fetch)?;
-    let service = service_of(rt, source, capacity, pages)?;
+    let mut service = service_of(rt, source, capacity, pages)?;
+    if answers_head {
+        service = service.answering_head();
+    }
     let (sockets, address) = listening(rt, listen, clients)?;
     println!(rt; "listening on {address}")?;
     let log = AccessLog { is_kept: logs };
