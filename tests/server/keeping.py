@@ -191,6 +191,8 @@ def kept_connections_lock_nobody_out():
         for _ in range(10):
             got = get(edge, "/p")
             same("beyond them", (BODY, True), (got.body, is_last(got)))
+        # The thread of the last one may serve for a moment more.
+        time.sleep(0.1)
         for connection in kept:
             connection.sendall(ASKED)
             same("still kept", (BODY, False), (lambda it: (it.body, is_last(it)))(of_one(connection)))
