@@ -212,7 +212,6 @@ fn enter(
 }
 
 // A leg.
-#[tactic(auto, using(crate::proofs::Legs::leg_many))]
 fn leg(
     machine: &mut Machine,
     setting: &Setting<'_>,
