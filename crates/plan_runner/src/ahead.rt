@@ -4,8 +4,6 @@ ghost use Rattle.edge_types.specs.Answered.{Answered};
 ghost use Rattle.esi_meaning.specs.Ahead.{ahead_of};
 ghost use Rattle.answer_board.specs.Board.{Slot, KeepsFilled, answer_in, log_of};
 ghost use Rattle.answer_board.specs.Sound.{IsBoard};
-ghost use Rattle.plan_compiler.specs.declared.prepared.Form.TheVariants as form;
-ghost use Rattle.plan_compiler.specs.Prepared.{IsForm};
 ghost use Rattle.plan_compiler.specs.Shown.{step_of};
 ghost use Rattle.plan_runner.specs.Ahead.{opened, opened_by};
 ghost use Rattle.plan_runner.specs.Walk.{asked_by, asked_in, sources_at, passed_by, with_asked};
@@ -14,7 +12,7 @@ use answer_board::Board;
 use edge_types::{NoMemory, PageUrl, Request};
 use esi_meaning::leg_url;
 use esi_tree::Parts;
-use plan_compiler::{Form, Plan, Prepared, Step};
+use plan_compiler::{Form, Prepared, Step};
 use std::alloc::Global;
 
 // What slots are opened with: the template, and their depth.
@@ -62,11 +60,12 @@ pub(crate) fn open_ahead(
         template: &template,
         depth,
     };
-    open_all(&opening, board, room)
+    walk(&opening, board, room)
 }
 
-// Opens slots for what the template may ask for, if it is one.
-fn open_all(opening: &Opening<'_>, board: &mut Board, room: u16) -> Result<u16, NoMemory>
+// Opens slots for what the template may ask for, if it is one: its steps in their order, where each test is
+// decided, and both ways of each try are entered.
+fn walk(opening: &Opening<'_>, board: &mut Board, room: u16) -> Result<u16, NoMemory>
     requires sound { IsBoard board.old }
     ensures opens { IfOk result (λ left. record { board = board.new; room = left } ≡ opened opening.now.depth (ahead_of opening.now.request.now opening.now.template.now) (record { board = board.old; room = room })) }
     ensures keeps { KeepsFilled board.old board.new }
@@ -75,24 +74,11 @@ fn open_all(opening: &Opening<'_>, board: &mut Board, room: u16) -> Result<u16, 
     ensures few { length board.new.slots ≤ length board.old.slots + room }
     ensures fewer { IfOk result (λ left. length board.new.slots + left ≤ length board.old.slots + room) }
 {
-    match opening.template.form() {
-        Form::Planned(plan) => walk(opening, plan, board, room),
-        Form::Plain => Ok(room),
-        Form::BadAt(_) => Ok(room),
-    }
-}
-
-// The steps of the plan in their order: each test is decided, and both ways of each try are entered.
-fn walk(opening: &Opening<'_>, plan: &Plan, board: &mut Board, room: u16) -> Result<u16, NoMemory>
-    requires sound { IsBoard board.old }
-    requires plan { IsForm opening.now.template.now (form.Planned plan.now) }
-    ensures opens { IfOk result (λ left. record { board = board.new; room = left } ≡ opened opening.now.depth (ahead_of opening.now.request.now opening.now.template.now) (record { board = board.old; room = room })) }
-    ensures keeps { KeepsFilled board.old board.new }
-    ensures log { log_of board.new ≡ log_of board.old }
-    ensures sound { IsBoard board.new }
-    ensures few { length board.new.slots ≤ length board.old.slots + room }
-    ensures fewer { IfOk result (λ left. length board.new.slots + left ≤ length board.old.slots + room) }
-{
+    let plan = match opening.template.form() {
+        Form::Planned(plan) => plan,
+        Form::Plain => return Ok(room),
+        Form::BadAt(_) => return Ok(room),
+    };
     // For the clauses: with the plan's length the prover knows that no place in the plan overflows.
     let _ = plan.len();
     let mut left = room;
