@@ -9,7 +9,6 @@ use Rattle.std.proofs.lemmas.Option.{slice_get_within, get_or_from_slice_get, sl
 use Rattle.edge_types.specs.declared.request.Request.{Request}
 use Rattle.edge_types.specs.Answered.{Answered}
 use Rattle.edge_types.specs.Table.{answer_of, reply_of, Agrees}
-use Rattle.edge_types.specs.Outcome.{Shown}
 use Rattle.esi_meaning.specs.Meaning.{asked, outcome}
 use Rattle.esi_meaning.specs.Run.{Leg, Asks, AsksNobody}
 use Rattle.esi_meaning.specs.State as meaning
@@ -26,13 +25,11 @@ use Rattle.esi_meaning.specs.Ahead.{ahead_of}
 use Rattle.answer_board.specs.declared.board.FillFault.{FillFault}
 use Rattle.plan_runner.specs.declared.page.PostFault.{PostFault}
 use Rattle.plan_runner.specs.declared.page.PostFault.TheVariants as refusal
-use Rattle.plan_runner.specs.declared.events.Event.{Event}
-use Rattle.plan_runner.specs.declared.events.Event.TheVariants as event
 use Rattle.plan_runner.specs.declared.page.State as told
 use Rattle.plan_runner.specs.declared.page.State.TheVariants as tells
 use Rattle.plan_runner.specs.Ahead.{Opening, opened}
 use Rattle.plan_runner.specs.Calls.{TakesIn, Refuses, Posted, Awaits, Moves, told_state, standing_after, only_board, with_opening}
-use Rattle.plan_runner.specs.Events.{Held, IsPost, Happens, Happen, Advances, answered_by, receipt_of, empty_handed}
+use Rattle.plan_runner.specs.Events.{Held, IsPost, Advances, answered_by, receipt_of, empty_handed}
 use Rattle.plan_runner.specs.Holding.{is_claimed_at, AreTickets, IsHeld, without_slot, left, unclaimed, IsSameBut, ClaimsOne, OnlyClaims}
 use Rattle.plan_runner.specs.Page as page
 use Rattle.plan_runner.specs.Page.{Page, Standing as PageStanding, accepted, ClaimsOf}
@@ -168,7 +165,7 @@ no_ticket page.Broken old new h e = absurd (cc)
 -- ---- post
 
 -- what a post leaves of a page, where its slot was filled
-record IsPosted (table : List Answered) (old : Page) (filled : State) (new : Page) : Type 0 where
+pub record IsPosted (table : List Answered) (old : Page) (filled : State) (new : Page) : Type 0 where
   pub standing : new.standing ≡ old.standing
   pub url : new.url ≡ old.url
   pub request : new.request ≡ old.request
@@ -186,7 +183,7 @@ posted_by table old depth answer filled true ws =
     opened_is table old filled (opened (depth + 1) ws o) (opened_grows (depth + 1) ws o) (λ all. opened_weighs all (depth + 1) ws o)
 posted_by table old depth answer filled false ws = opened_is table old filled (record { board = filled; room = old.room }) (grows_same filled.slots) (λ all. omega arith)
 
-is_posted : (table : List Answered) (st : PageStanding) (old : Page) (receipt : Receipt) (depth : ℕ) (filled : State) (new : Page) → Posted st old receipt depth filled new → IsPosted table old filled new
+pub is_posted : (table : List Answered) (st : PageStanding) (old : Page) (receipt : Receipt) (depth : ℕ) (filled : State) (new : Page) → Posted st old receipt depth filled new → IsPosted table old filled new
 is_posted table page.Underway old receipt depth filled new h = subst (IsPosted table old filled) (sym h) (posted_by table old depth receipt.answer filled (nat_lt depth old.levels) (ahead_of old.request receipt.answer))
 is_posted table (page.Finished outcome) old receipt depth filled new h = subst (IsPosted table old filled) (sym h) (posted_by table old depth receipt.answer filled false [])
 is_posted table page.Broken old receipt depth filled new h = absurd h
@@ -464,9 +461,6 @@ only_on table a b c x y = record {
   left_is = y.left_is ∙ x.left_is;
 }
 
-pub same_on : (a b c : Page) → IsSameBut a b → IsSameBut b c → IsSameBut a c
-same_on a b c x y = record { url = y.url ∙ x.url; request = y.request ∙ x.request; levels = y.levels ∙ x.levels }
-
 still_underway : (table : List Answered) (old a b : Page) (s : told.State) (url : List ℕ) → s ≡ tells.Waiting url → Advances s old a → OnlyClaims table a b → b.standing ≡ page.Underway
 still_underway table old a b s url is adv only = only.standing ∙ adv.stands ∙ ap standing_after is
 
@@ -479,38 +473,3 @@ round_less table old mid new a inner ts s url is adv held true_over only all mid
     let none = all (still_underway table old.page a mid.page s url is adv only) in
     let some = round_tickets table old a mid.page mid.tickets s url waits adv held true_over only none board_sound mid_held.tickets in
     round_left table old a mid.page new mid.tickets s url waits adv held true_over only (left_by_post table mid new mid_held some post)
-
--- ---- the page is the same one throughout
-
-post_same : (table : List Answered) (place : ℕ) (old new : Held) (o : Option Ticket) → IsPost table place o old new → IsSameBut old.page new.page
-post_same table place old new None h = subst (λ (x : Held). IsSameBut old.page x.page) (sym h) (record { url = refl; request = refl; levels = refl })
-post_same table place old new (Some t) h =
-    let posted = is_posted table old.page.standing old.page (receipt_of table t) h.0.fills.0.depth h.0.filled new.page h.0.posted in
-    record { url = posted.url; request = posted.request; levels = posted.levels }
-
-happens_same : (table : List Answered) (event : Event) (old new : Held) → Happens table event old new → IsSameBut old.page new.page
-happens_same table event.Claim old new h = subst (λ (p : Page). IsSameBut old.page p) (sym h.rest) (record { url = refl; request = refl; levels = refl })
-happens_same table (event.Post place) old new h = post_same table place old new (slice_get old.tickets place) h
-happens_same table event.Advance old new h = record { url = h.advances.url; request = h.advances.request; levels = h.advances.levels }
-
-pub happen_same : (table : List Answered) (events : List Event) (old new : Held) → Happen table events old new → IsSameBut old.page new.page
-happen_same table [] old new h = subst (λ (x : Held). IsSameBut old.page x.page) (sym h) (record { url = refl; request = refl; levels = refl })
-happen_same table (e ∷ events) old new h = same_on old.page h.0.page new.page (happens_same table e old h.0 h.1) (happen_same table events h.0 new h.2)
-
-pub ran_same : (table : List Answered) (events : List Event) (u : List ℕ) (r : Request) (ahead L : ℕ) (start new : Held) → start ≡ empty_handed (accepted u r ahead L) → Happen table events start new → IsSameBut (accepted u r ahead L) new.page
-ran_same table events u r ahead L start new is h = subst (λ (x : Held). IsSameBut x.page new.page) is (happen_same table events start new h)
-
-pub told_after : (u : List ℕ) (r : Request) (ahead L : ℕ) (before : Held) (s : told.State) (after : Held) (result : Page) → IsSameBut (accepted u r ahead L) before.page → Advances s before.page after.page → result ≡ after.page
-    → told_state s ≡ state r (log_of result.board) L u
-told_after u r ahead L before s after result same adv is = adv.is_state ∙ rw (is, adv.log, same.request, same.levels, same.url) refl
-
-pub over_after : (table : List Answered) (u : List ℕ) (r : Request) (ahead L : ℕ) (before : Held) (s : told.State) (after : Held) (result : Page) → IsSameBut (accepted u r ahead L) before.page → Advances s before.page after.page → result ≡ after.page
-    → IsTrueOver (log_of after.page.board) table after.page.request after.page.levels after.page.url (told_state s) → IsTrueOver (log_of result.board) table r L u (told_state s)
-over_after table u r ahead L before s after result same adv is h =
-    let request : after.page.request ≡ r = adv.request ∙ same.request in
-    let levels : after.page.levels ≡ L = adv.levels ∙ same.levels in
-    let url : after.page.url ≡ u = adv.url ∙ same.url in
-    rw (is, ← request, ← levels, ← url) h
-
-pub outcome_after : (table : List Answered) (u : List ℕ) (r : Request) (ahead L : ℕ) (p : Page) (o : Shown) → IsSameBut (accepted u r ahead L) p → o ≡ outcome p.request table p.levels p.url → o ≡ outcome r table L u
-outcome_after table u r ahead L p o same is = is ∙ rw (same.request, same.levels, same.url) refl

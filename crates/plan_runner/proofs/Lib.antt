@@ -18,3 +18,4 @@ pub mod Sound
 pub mod Growing
 pub mod Tickets
 pub mod Holding
+pub mod Same

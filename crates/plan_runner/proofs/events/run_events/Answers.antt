@@ -1,4 +1,4 @@
-use Rattle.plan_runner.proofs.Holding.{ran_same, told_after, over_after}
+use Rattle.plan_runner.proofs.Same.{ran_same, told_after, over_after}
 use Rattle.plan_runner.proofs.events.run_events.Goals as goal
 
 pub returns-clause-told : goal.returns-clause-told

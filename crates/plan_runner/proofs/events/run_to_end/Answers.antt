@@ -1,7 +1,7 @@
 use Rattle.std.proofs.lemmas.Result.{IfOk-weaker}
 use Rattle.std.specs.Arc.{arc_value}
 use Rattle.edge_types.specs.Outcome.{shown}
-use Rattle.plan_runner.proofs.Holding.{ran_same, outcome_after}
+use Rattle.plan_runner.proofs.Same.{ran_same, outcome_after}
 use Rattle.plan_runner.proofs.events.run_to_end.Goals as goal
 
 pub returns : goal.returns
