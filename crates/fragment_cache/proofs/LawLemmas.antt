@@ -60,8 +60,8 @@ latest_bridging h s url now answer told is = by_entry (entry_of s.entries url) r
         let g = answer_before-some now (bridge_end e) e.answer answer (sym (ap (option_and_then (λ (e : Entry). answer_before now (bridge_end e) e.answer)) at) ∙ is) in
         (e.expiry, subst (λ (a : Answered). IsLatest h url a e.expiry) g.1 (told.latest url e at), subst (λ (a : Answered). now < second_after e.expiry (extension_of a.reply)) g.1 g.0)
 
-told_hit : (h : History) (s : State) (url : List ℕ) (now : ℕ) (answer : Answered) → Told h s → Told (Began url now (Hit answer) ∷ h) (record s { entries = used url s.entries })
-told_hit h s url now answer told = record {
+told_used : (h : History) (s : State) (url : List ℕ) → Told h s → Told h (record s { entries = used url s.entries })
+told_used h s url told = record {
   flying = told.flying;
   tells = told.tells;
   below = told.below;
@@ -70,15 +70,8 @@ told_hit h s url now answer told = record {
   one = told.one;
 }
 
-told_found : (h : History) (s : State) (url : List ℕ) (now : ℕ) (answer : Answered) → Told h s → Told (Looked url now (Found answer) ∷ h) (record s { entries = used url s.entries })
-told_found h s url now answer told = record {
-  flying = told.flying;
-  tells = told.tells;
-  below = told.below;
-  number = told.number;
-  latest = λ u e is. told.latest u e (sym (entry_of-used url s.entries u) ∙ is);
-  one = told.one;
-}
+told_hit : (h : History) (s : State) (url : List ℕ) (now : ℕ) (answer : Answered) → Told h s → Told (Began url now (Hit answer) ∷ h) s
+told_hit h s url now answer told = record { flying = told.flying; tells = told.tells; below = told.below; number = told.number; latest = told.latest; one = told.one }
 
 told_join : (h : History) (s : State) (url : List ℕ) (now number : ℕ) → Told h s → Told (Began url now (Join number) ∷ h) (record s { flights = changed number one_more s.flights })
 told_join h s url now number told = record {
@@ -413,7 +406,7 @@ landed h old new flight answer now given told (inr (inr (inr step))) = (
 
 told_step : (h : History) (old new : State) (event : Event) → Step old event new → Told h old → Follows h event × Told (event ∷ h) new
 told_step h old new (Began url now (Hit answer)) step told =
-    (latest_fresh h old url now answer told step.0, subst (Told (Began url now (Hit answer) ∷ h)) (sym step.1) (told_hit h old url now answer told))
+    (latest_fresh h old url now answer told step.0, told_hit h new url now answer (subst (Told h) (sym step.1) (told_used h old url told)))
 told_step h old new (Began url now (Join number)) step told =
     (sym (told.flying number) ∙ step.1, subst (Told (Began url now (Join number) ∷ h)) (sym step.3) (told_join h old url now number told))
 told_step h old new (Began url now (Lead flight ready)) step told =
@@ -421,7 +414,7 @@ told_step h old new (Began url now (Lead flight ready)) step told =
 told_step h old new (Began url now Bypass) step told =
     (tt, subst (Told (Began url now Bypass ∷ h)) (sym step.0) (told_bypass h old url now told))
 told_step h old new (Looked url now (Found answer)) step told =
-    (latest_fresh h old url now answer told step.0, subst (Told (Looked url now (Found answer) ∷ h)) (sym step.1) (told_found h old url now answer told))
+    (latest_fresh h old url now answer told step.0, told_looked h new url now (Found answer) (subst (Told h) (sym step.1) (told_used h old url told)))
 told_step h old new (Looked url now Missing) step told = (tt, subst (Told (Looked url now Missing ∷ h)) (sym step.1) (told_looked h old url now Missing told))
 told_step h old new (Looked url now Refused) step told = (tt, subst (Told (Looked url now Refused ∷ h)) (sym step.1) (told_looked h old url now Refused told))
 told_step h old new (Landed flight answer now given) step told = landed h old new flight answer now given told step.1
