@@ -4,12 +4,12 @@ use crate::row::{Line, number, pair};
 use crate::values::fault_of;
 use bytes::Bytes;
 use edge_types::{Octets, Outcome, PageBody, SharedBytes, around};
-use futures::task::{Context, Poll};
-use futures::{Future, FutureExt};
+use futures::FutureExt;
+use futures::future::poll_fn;
 use http::Response;
-use http_body::{Body, Frame};
+use http_body::Body;
 use page_http::EdgeBody;
-use std::alloc::{AllocError, Global};
+use std::alloc::Global;
 use std::str;
 use std::sync::Arc;
 
@@ -81,23 +81,10 @@ fn push_frames(rt: &HostRuntime, line: &mut Line, body: &mut EdgeBody) -> Option
     Some(())
 }
 
-// The next frame of a body.
-#[derive(Drop)]
-struct Next<'a> {
-    body: &'a mut EdgeBody,
-}
-
-impl Future for Next<'_> {
-    type Output = Option<Result<Frame<Bytes>, AllocError>>;
-
-    fn poll(&mut self, cx: &mut Context<'_>) -> Poll<Option<Result<Frame<Bytes>, AllocError>>> {
-        self.body.poll_frame(cx)
-    }
-}
-
 // The bytes of the next frame, which has to come.
 fn next_frame(rt: &HostRuntime, body: &mut EdgeBody) -> Option<Bytes> {
-    let frame = (Next { body }).now_or_never(rt).ok()???;
+    let next = poll_fn(|cx| body.poll_frame(cx));
+    let frame = next.now_or_never(rt).ok()???;
     frame.ok()?.into_data().ok()
 }
 
