@@ -1,5 +1,6 @@
-//! What the benchmarks share: times and their ratios, and the texts that are measured.
+//! What the benchmarks share: how a program runs them, times and their ratios, and the texts that are measured.
 #![tactic(auto)]
 
 pub mod inputs;
+pub mod program;
 pub mod timing;

@@ -2,7 +2,8 @@
 //! with `all`, it runs them. Each prints ratios of times taken in one run.
 #![tactic(auto)]
 
-use std::{env, io};
+use bench_tools::program::run_named;
+use std::io;
 
 mod boards;
 mod caching;
@@ -26,29 +27,7 @@ const NAMES: [&str; 9] = [
 ];
 
 fn main(rt: HostRuntime) -> io::Result<()> {
-    let mut named = false;
-    for word in env::args(&rt)?.skip(1) {
-        named = true;
-        match word.as_str() {
-            "all" => run_all(&rt)?,
-            name => run(&rt, name)?,
-        }
-    }
-    if named { Ok(()) } else { list(&rt) }
-}
-
-fn list(rt: &HostRuntime) -> io::Result<()> {
-    for name in NAMES {
-        println!(rt; "{name}")?;
-    }
-    Ok(())
-}
-
-fn run_all(rt: &HostRuntime) -> io::Result<()> {
-    for name in NAMES {
-        run(rt, name)?;
-    }
-    Ok(())
+    run_named(&rt, NAMES.as_slice(), |name| run(&rt, name))
 }
 
 fn run(rt: &HostRuntime, name: &str) -> io::Result<()> {
