@@ -1,7 +1,6 @@
 pub mod AcceptableLemmas
 pub mod Steps
 pub mod Lines
-pub mod Decimals
 pub mod Numbers
 pub mod Headings
 pub mod Entries

@@ -10,14 +10,14 @@ use Rattle.std.proofs.lemmas.List.{length-drop}
 use Rattle.std.proofs.lemmas.Bool.{eqb-true, ne_eqb, leb-true, le-leb, ltb-true, cond-true}
 use Rattle.std.proofs.lemmas.Option.{none-some}
 use Rattle.std.proofs.lemmas.Slice.Eq.{bytes_eq-Decides}
+use Rattle.decimals.specs.Decimal.{decimal_of}
+use Rattle.decimals.proofs.Decimals.{decimal_sound, decimal_complete, short_value}
 use Rattle.edge_types.specs.Halves.{around}
 use Rattle.plan_runner.specs.declared.events.Event.{Event}
 use Rattle.plan_runner.specs.declared.events.Event.TheVariants.{Claim, Post, Advance}
-use Rattle.edge_case.specs.Decimal.{decimal_of}
 use Rattle.edge_case.specs.Order.{comma, WritesPlace, WritesEvent, WriteEach, Lists, place_of, plain_event, event_of, after_item, events_by, events_of}
 use Rattle.edge_case.specs.Reading.{◌>>=◌}
 use Rattle.edge_case.proofs.Steps.{bound, mapped, same_value}
-use Rattle.edge_case.proofs.Decimals.{decimal_sound, decimal_complete, short_value}
 
 abbrev items_of : List ℕ → List (List ℕ)
 items_of text = slice_split (λ b. b == comma) text

@@ -1,10 +1,9 @@
--- Laws of case texts, of lists of events and of numbers, over the definitions alone.
-use Rattle.std.specs.Prelude.{◌≡◌, ◌↔◌, ◌≤◌, ℕ, List, Some}
+-- Laws of case texts and of lists of events, over the definitions alone.
+use Rattle.std.specs.Prelude.{◌≡◌, ◌↔◌, ℕ, List, Some}
 use Rattle.plan_runner.specs.declared.events.Event.{Event}
 use Rattle.edge_case.specs.declared.case_text.Case.{Case}
 use Rattle.edge_case.specs.Case.{IsCaseText}
 use Rattle.edge_case.specs.Reading.{case_of}
-use Rattle.edge_case.specs.Decimal.{WritesNumber, decimal_of}
 use Rattle.edge_case.specs.Order.{Lists, events_of}
 
 -- what is read from a text is the case that it spells, and each case that is spelled is read
@@ -14,10 +13,6 @@ ReadsCases = (text : List ℕ) (case : Case) → (case_of text ≡ Some case) �
 -- a text spells at most one case
 abbrev pub CasesAreOne : Type 0
 CasesAreOne = (text : List ℕ) (one other : Case) → IsCaseText text one → IsCaseText text other → one ≡ other
-
--- what is read from a text is the number that it writes, if that is at most the limit, and each such number is read
-abbrev pub ReadsNumbers : Type 0
-ReadsNumbers = (text : List ℕ) (most n : ℕ) → (decimal_of text most ≡ Some n) ↔ (WritesNumber text n × (n ≤ most))
 
 -- what is read from a text is the list of events that it writes, and each list that is written is read
 abbrev pub ReadsOrders : Type 0

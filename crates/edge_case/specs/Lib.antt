@@ -1,7 +1,6 @@
 pub mod Document
 pub mod Case
 pub mod Reading
-pub mod Decimal
 pub mod Order
 pub mod Printed
 pub mod Bytes

@@ -1,7 +1,7 @@
 //! Laws that tie the definitions together. Each function's clauses are its laws; none of them does
 //! anything. Our profile.
 ghost use Rattle.std.specs.Prelude.{◌≡◌};
-ghost use Rattle.edge_case.specs.Laws.{ReadsCases, CasesAreOne, ReadsNumbers, ReadsOrders, OrdersAreOne};
+ghost use Rattle.edge_case.specs.Laws.{ReadsCases, CasesAreOne, ReadsOrders, OrdersAreOne};
 
 use crate::case_text::MAX_CASE;
 
@@ -15,12 +15,6 @@ pub fn case_texts_are_read()
 /// The limit of a case text, as a number.
 pub fn limit_of_case_texts()
     ensures { MAX_CASE ≡ 67108864 }
-{}
-
-/// What is read from a text is the number that it writes, if it is at most the limit, and each such
-/// number is read.
-pub fn numbers_are_read()
-    ensures { ReadsNumbers }
 {}
 
 /// What is read from a text is the list of events that it writes, and each list that is written is read;

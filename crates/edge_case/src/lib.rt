@@ -1,11 +1,10 @@
 //! Case texts: a page's URL, a reader's request and the answers of origins in one text, which is
-//! read, evaluated and printed; and the lists of events and the numbers of the command line.
+//! read, evaluated and printed; and the lists of events of the command line.
 #![tactic(auto)]
 
 mod answers;
 mod bytes;
 pub mod case_text;
-pub mod decimal;
 pub mod ending;
 mod entry;
 mod heading;
@@ -20,7 +19,6 @@ mod templates;
 mod writing;
 
 pub use case_text::Case;
-pub use decimal::decimal_of;
 pub use ending::{CaseEnd, CaseFault};
 pub use order::read_events;
 pub use runner::{Ran, run_case, run_case_and_keep};

@@ -2,13 +2,13 @@
 ghost use Rattle.std.specs.Prelude.{◌≡◌};
 ghost use Rattle.edge_case.specs.Reading.{has_needless_zero, number_of};
 
-use crate::decimal::decimal_of;
+use decimals::decimal_of;
 
 /// The most digits of a number: the longest body needs them; a status needs fewer.
 pub(crate) const MAX_DIGITS: usize = 6;
 
 // The largest number with this many digits.
-const MAX_NUMBER: u32 = 999_999;
+const MAX_NUMBER: u64 = 999_999;
 
 fn has_needless_zero(text: &[u8]) -> bool
     ensures { result ≡ has_needless_zero text.now }
@@ -23,5 +23,6 @@ pub(crate) fn number_of(text: &[u8]) -> Option<u32>
     if text.len() > MAX_DIGITS || has_needless_zero(text) {
         return None;
     }
-    decimal_of(text, MAX_NUMBER)
+    let number = decimal_of(text, MAX_NUMBER)?;
+    Some(number as u32)
 }

@@ -3,8 +3,8 @@ ghost use Rattle.std.specs.Prelude.{◌≡◌, None, Some, IfOk, if◌then◌els
 ghost use Rattle.std.specs.Option.{option_map};
 ghost use Rattle.edge_case.specs.Order.{place_of, event_of, events_of, after_item};
 
-use crate::decimal::decimal_of;
 use crate::line::COMMA;
+use decimals::decimal_of;
 use edge_types::{NoMemory, around};
 use plan_runner::Event;
 use std::alloc::Global;
@@ -13,7 +13,7 @@ use std::alloc::Global;
 const PLACE_DIGITS: usize = 4;
 
 // The largest number with this many digits.
-const MAX_PLACE: u32 = 9_999;
+const MAX_PLACE: u64 = 9_999;
 
 // The place that the digits write.
 #[tactic(auto, unfolding(crate::specs::Order::place_of))]

@@ -3,12 +3,12 @@ use Rattle.std.proofs.Common.{◌≡◌, ◌≤◌, ◌↔◌, ℕ, true, false,
 use Rattle.std.proofs.lemmas.Bool.{leb-true, le-leb}
 use Rattle.clap.specs.Words.{Text, fault_of}
 use Rattle.clap.specs.declared.error.kind.ErrorKind.{ErrorKind}
+use Rattle.decimals.specs.Decimal.{decimal_of}
+use Rattle.decimals.proofs.Decimals.{decimal_sound, decimal_complete}
 use Rattle.esi_meaning.specs.declared.limits.TheConstants.{MIN_LEVELS, MAX_LEVELS}
 use Rattle.plan_runner.specs.declared.events.Event.{Event}
 use Rattle.plan_runner.specs.declared.page.TheConstants.{MAX_AHEAD}
-use Rattle.edge_case.specs.Decimal.{decimal_of}
 use Rattle.edge_case.specs.Order.{Lists}
-use Rattle.edge_case.proofs.Decimals.{decimal_sound, decimal_complete}
 use Rattle.edge_case.proofs.Orders.{order_sound, order_complete}
 use Rattle.edge_main.specs.CommandLine.{program, order_of, ahead_of, levels_by, levels_of, AsksCase}
 use Rattle.edge_main.specs.Laws.{IsAhead, IsLevels, AskForNone, plain_words, order_words, ahead_words, levels_words, why_words, all_words}

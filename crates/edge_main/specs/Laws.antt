@@ -2,10 +2,10 @@
 use Rattle.std.specs.Prelude.{◌≡◌, ◌≢◌, ◌↔◌, ◌≤◌, ℕ, Bool, true, false, List, [], ◌∷◌, map, codes}
 use Rattle.std.specs.Str.{byte}
 use Rattle.clap.specs.Words.{Text}
+use Rattle.decimals.specs.Decimal.{WritesNumber}
 use Rattle.esi_meaning.specs.Meaning.{AreLevels}
 use Rattle.plan_runner.specs.declared.events.Event.{Event}
 use Rattle.plan_runner.specs.declared.page.TheConstants.{MAX_AHEAD}
-use Rattle.edge_case.specs.Decimal.{WritesNumber}
 use Rattle.edge_case.specs.Order.{Lists}
 use Rattle.edge_setup.specs.declared.check.Checking.{Checking}
 use Rattle.edge_main.specs.CommandLine.{AsksCase, AsksCheck, AsksWhy}

@@ -6,7 +6,8 @@ ghost use Rattle.edge_main.specs.CommandLine.{program, word_of, order_of, ahead_
 
 use crate::asked::{Asked, Refusal};
 use clap::{ArgMatches, Command};
-use edge_case::{decimal_of, read_events};
+use decimals::decimal_of;
+use edge_case::read_events;
 use edge_setup::{
     SetupFault, case_command, check_command, checking_of, is_set, serve_command, setup_of,
 };
@@ -57,7 +58,7 @@ fn ahead_of(word: Option<&str>) -> Option<u16>
     ensures value { result ≡ ahead_of (option_map (λ w. w.now) word.entry) }
     ensures within { IfSome result (λ ahead. ahead ≤ MAX_AHEAD) }
 {
-    let ahead = decimal_of(word?.as_bytes(), u32::from(MAX_AHEAD))?;
+    let ahead = decimal_of(word?.as_bytes(), u64::from(MAX_AHEAD))?;
     Some(ahead as u16)
 }
 
@@ -66,7 +67,7 @@ fn levels_of(word: Option<&str>) -> Option<u8>
     ensures value { result ≡ levels_of (option_map (λ w. w.now) word.entry) }
     ensures within { IfSome result AreLevels }
 {
-    let levels = decimal_of(word?.as_bytes(), u32::from(MAX_LEVELS))? as u8;
+    let levels = decimal_of(word?.as_bytes(), u64::from(MAX_LEVELS))? as u8;
     if are_levels(levels) {
         Some(levels)
     } else {

@@ -1,4 +1,3 @@
-pub mod Decimal
 pub mod Rules
 pub mod Numbers
 pub mod Command

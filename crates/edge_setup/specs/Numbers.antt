@@ -1,7 +1,7 @@
 -- The options that take a number, and what they say by the rows of `clap`'s matches.
 use Rattle.std.specs.Prelude.{ℕ, nat_le, List, codes, Option, Some, None, option_and_then, if◌then◌else◌}
 use Rattle.clap.specs.Words.{Row, Rule, Text, first_of}
-use Rattle.edge_setup.specs.Decimal.{decimal_of}
+use Rattle.decimals.specs.Decimal.{decimal_of}
 use Rattle.edge_setup.specs.Rules.{named_option, with_default}
 use Rattle.edge_setup.specs.declared.number.NumericOption.{NumericOption}
 

@@ -7,7 +7,7 @@ use Rattle.std.specs.Net.Grammar.{IsSocketText}
 use Rattle.std.specs.declared.net.socket_addr.SocketAddr.{SocketAddr}
 use Rattle.clap.specs.Words.{Row, Text, all_of, first_of}
 use Rattle.edge_types.specs.Halves.{around}
-use Rattle.edge_setup.specs.Decimal.{decimal_of}
+use Rattle.decimals.specs.Decimal.{decimal_of}
 use Rattle.edge_setup.specs.Numbers.{Numeric, ahead, capacity, client_timeout, keep_alive, levels, said_of, threads, timeout, workers}
 use Rattle.edge_setup.specs.declared.setup.Origin.{Origin}
 use Rattle.edge_setup.specs.declared.setup.Pages.{Pages}

@@ -5,7 +5,6 @@
 mod case;
 mod check;
 mod command;
-mod decimal;
 mod number;
 mod options;
 mod origins;
@@ -15,6 +14,5 @@ mod words;
 pub use case::case_command;
 pub use check::{Checking, check_command, checking_of};
 pub use command::serve_command;
-pub use decimal::decimal_of;
 pub use setup::{Named, Origin, Pages, Serving, Setup, SetupFault};
 pub use words::{is_set, setup_of};

@@ -3,10 +3,10 @@ ghost use Rattle.std.specs.Prelude.{◌≡◌, ◌≤◌, false, IfSome};
 ghost use Rattle.clap.specs.Words.{found_of, rows_of, rule_of};
 ghost use Rattle.edge_setup.specs.Numbers.{numeric_option, said_of, shown};
 
-use crate::decimal::decimal_of;
 use crate::options::option;
 use crate::words::word_of;
 use clap::{Arg, ArgMatches};
+use decimals::decimal_of;
 use std::alloc::Global;
 
 /// An option that takes a number, which has a default.

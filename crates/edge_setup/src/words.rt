@@ -4,13 +4,13 @@ ghost use Rattle.std.specs.declared.net.socket_addr.SocketAddr.{SocketAddr};
 ghost use Rattle.clap.specs.Words.{first_of, found_of, rows_of};
 ghost use Rattle.edge_setup.specs.Words.{accepts_of, is_set, IsAddress, HasAddress, HasPages, IsFirstWrong, IsRefusedBy, IsWithin, SaysPages, SaysServing, SaysSetup};
 
-use crate::decimal::decimal_of;
 use crate::number::{
     AHEAD, CAPACITY, CLIENT_TIMEOUT, KEEP_ALIVE, LEVELS, THREADS, TIMEOUT, WORKERS,
 };
 use crate::origins::origins_of;
 use crate::setup::{Named, Pages, Serving, Setup, SetupFault};
 use clap::ArgMatches;
+use decimals::decimal_of;
 use std::alloc::Global;
 use std::net::SocketAddr;
 

@@ -11,4 +11,7 @@ returns-then-text-gt-MAX_DIGITS c =
     ]
 
 pub returns : goal.returns
-returns c = c.decimal_of.ensures.reading ∙ plain_number c.args.text.now c.if-text-gt-MAX_DIGITS.false (sym c.if-has_needless_zero.ensures)
+returns c = c.in_ok-number.ensures.reading ∙ plain_number c.args.text.now c.if-text-gt-MAX_DIGITS.false (sym c.if-has_needless_zero.ensures)
+
+pub returns-in_err-number : goal.returns-in_err-number
+returns-in_err-number c = c.from_residual.ensures ∙ c.in_err-number.ensures.reading ∙ plain_number c.args.text.now c.if-text-gt-MAX_DIGITS.false (sym c.if-has_needless_zero.ensures)

@@ -1,12 +1,12 @@
 -- Decimal numbers: what is read is written so, and what is written so is read.
 use Rattle.std.proofs.Common.{◌≡◌, ℕ, ◌+◌, ◌*◌, ◌^◌, ◌<◌, ◌≤◌, ◌&&◌, min, true, List, length, ◌∙◌, ap, Some, None, arith, rules, nat_le}
 use Rattle.std.proofs.lemmas.Bool.{and_parts, and_from, ltb-true, lt-ltb, leb-true, le-leb, cond-true}
+use Rattle.std.proofs.lemmas.Option.{cond_some}
 use Rattle.std.proofs.lemmas.Str.Parse.{IsNumeralModel, IsDigitsTest, numerals_by_value, digits_value_short}
 use Rattle.std.specs.Char.{is_ascii_digit}
 use Rattle.std.specs.List.{list_all}
 use Rattle.std.specs.Str.Parse.{digits_value}
-use Rattle.edge_case.specs.Decimal.{WritesNumber, is_decimal, decimal_of}
-use Rattle.edge_case.proofs.Steps.{guarded}
+use Rattle.decimals.specs.Decimal.{WritesNumber, is_decimal, decimal_of}
 
 abbrev pub AreDigits : List ℕ → Type 0
 AreDigits text = list_all is_ascii_digit text ≡ true
@@ -24,7 +24,7 @@ capped v d above = omega arith
 pub decimal_sound : (text : List ℕ) (most n : ℕ) → decimal_of text most ≡ Some n → WritesNumber text n × (n ≤ most)
 unfolding decimal_of
 decimal_sound text most n h =
-    let (is, value) = guarded (is_decimal text && nat_le (digits_value 10 text) most) (digits_value 10 text) n h in
+    let (is, value) = cond_some (is_decimal text && nat_le (digits_value 10 text) most) (digits_value 10 text) n h in
     let (plain, low) = and_parts _ _ is in
     let (some, digits) = and_parts _ _ plain in
     let within : digits_value 10 text ≤ most = leb-true _ _ low in
