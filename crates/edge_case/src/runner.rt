@@ -2,6 +2,7 @@
 ghost use Rattle.std.specs.Prelude.{◌≡◌, ◌≢◌, ◌≤◌, ◌+◌, IfOk, IfErr, IsErrOf};
 ghost use Rattle.std.specs.Io.KnownBytes.{Appends, Keeps};
 ghost use Rattle.esi_meaning.specs.Meaning.{AreLevels};
+ghost use Rattle.plan_runner.specs.declared.page.TheConstants.{MAX_AHEAD};
 ghost use Rattle.edge_case.specs.Bytes.{AppendsPart, TakesAtMost, IsInput};
 ghost use Rattle.edge_case.specs.Printed.{end_of, printed};
 ghost use Rattle.edge_case.specs.Run.{outcome_of, Reads, IsNoCase, ReadsBefore, Prints, PrintsPart};
@@ -14,6 +15,21 @@ use crate::printer::print;
 use plan_runner::{Event, MAX_AHEAD, run_to_end};
 use std::alloc::Global;
 use std::io::{Read, Write};
+
+/// How a case's page is run. What is printed depends on the levels alone.
+///
+/// Our profile.
+#[derive(Clone, Copy)]
+pub struct Running<'a> {
+    /// How many slots posts may open ahead.
+    pub ahead: u16,
+    /// The events that come first, in order; then the page runs to its end.
+    pub events: &'a [Event],
+    /// How many levels of fragments there may be.
+    pub levels: u8,
+    ghost ahead_few: { ahead ≤ MAX_AHEAD },
+    ghost levels_few: { AreLevels levels },
+}
 
 /// A case that was run.
 #[derive(Drop)]
@@ -45,16 +61,12 @@ fn print_case<W: Write>(
     alloc: Global,
     case: Case,
     writer: &mut W,
-    ahead: u16,
-    events: &[Event],
-    levels: u8,
+    running: Running<'_>,
 ) -> Result<CaseEnd, CaseFault>
-    requires ahead { ahead ≤ MAX_AHEAD }
-    requires levels { AreLevels levels }
-    ensures end { IfOk result (λ end. end ≡ end_of (outcome_of case levels)) }
-    ensures written { IfOk result (λ _. Appends (W.contents writer.old) (W.contents writer.new) (printed (outcome_of case levels))) }
+    ensures end { IfOk result (λ end. end ≡ end_of (outcome_of case running.entry.levels)) }
+    ensures written { IfOk result (λ _. Appends (W.contents writer.old) (W.contents writer.new) (printed (outcome_of case running.entry.levels))) }
     ensures nothing { IfErr result (λ e. e ≢ CaseFault.Write → Keeps (W.contents writer.old) (W.contents writer.new)) }
-    ensures part { IsErrOf result CaseFault.Write → AppendsPart (W.contents writer.old) (W.contents writer.new) (printed (outcome_of case levels)) }
+    ensures part { IsErrOf result CaseFault.Write → AppendsPart (W.contents writer.old) (W.contents writer.new) (printed (outcome_of case running.entry.levels)) }
     ensures never_bad { IfErr result (λ e. e ≢ CaseFault.BadCase) }
 {
     let Case {
@@ -62,43 +74,41 @@ fn print_case<W: Write>(
         request,
         table,
     } = case;
+    let Running {
+        ahead,
+        events,
+        levels,
+    } = running;
     let outcome = run_to_end(alloc, url, request, &table, ahead, levels, events)?;
     print(alloc, writer, &outcome)
 }
 
-/// Reads a case text, runs its page with this many levels and prints the outcome. The page is
-/// run by these events, in order, and then to its end; `ahead` is how many slots posts may open
-/// ahead, at most `plan_runner::MAX_AHEAD`. What is printed depends on neither.
+/// Reads a case text, runs its page and prints the outcome.
 ///
-/// The whole input is read first, but at most `MAX_CASE + 1` bytes. `esi_meaning::are_levels` tests
-/// the number of levels. Refusals: `BadCase` if the input isn't a case text; `NoMemory` if an
-/// allocation fails; `Read` if a read fails; `Write` if a write fails or takes no byte.
-/// After the first three nothing is written, after `Write` only a first part of the printed form. No
-/// memory is taken after the first write.
+/// The whole input is read first, but at most `MAX_CASE + 1` bytes. Refusals: `BadCase` if the input
+/// isn't a case text; `NoMemory` if an allocation fails; `Read` if a read fails; `Write` if a write
+/// fails or takes no byte. After the first three nothing is written, after `Write` only a first part
+/// of the printed form. No memory is taken after the first write.
 ///
 /// Our profile.
 pub fn run_case<R: Read, W: Write>(
     alloc: Global,
     reader: &mut R,
     writer: &mut W,
-    ahead: u16,
-    events: &[Event],
-    levels: u8,
+    running: Running<'_>,
 ) -> Result<CaseEnd, CaseFault>
-    requires ahead { ahead ≤ MAX_AHEAD }
-    requires levels { AreLevels levels }
     // What is written is the printed form of the case's outcome, and nothing else.
-    ensures printed { IfOk result (λ end. Prints levels (R.remaining reader.old)
+    ensures printed { IfOk result (λ end. Prints running.entry.levels (R.remaining reader.old)
         (W.contents writer.old) (W.contents writer.new) end) }
     ensures bad_case { IsErrOf result CaseFault.BadCase → IsNoCase (R.remaining reader.old) }
     ensures through { ReadsBefore result (R.remaining reader.old) (R.remaining reader.new) }
     ensures nothing { IfErr result (λ e. e ≢ CaseFault.Write → Keeps (W.contents writer.old) (W.contents writer.new)) }
-    ensures part { IsErrOf result CaseFault.Write → PrintsPart levels (R.remaining reader.old) (W.contents writer.old) (W.contents writer.new) }
+    ensures part { IsErrOf result CaseFault.Write → PrintsPart running.entry.levels (R.remaining reader.old) (W.contents writer.old) (W.contents writer.new) }
     ensures at_most { TakesAtMost (MAX_CASE + 1) (R.remaining reader.old) (R.remaining reader.new) }
 {
     // The text isn't kept: the case has its own copies.
     let (case, _) = read_case(alloc, reader)?;
-    let end = print_case(alloc, case, writer, ahead, events, levels)?;
+    let end = print_case(alloc, case, writer, running)?;
     Ok(end)
 }
 
@@ -109,22 +119,18 @@ pub fn run_case_and_keep<R: Read, W: Write>(
     alloc: Global,
     reader: &mut R,
     writer: &mut W,
-    ahead: u16,
-    events: &[Event],
-    levels: u8,
+    running: Running<'_>,
 ) -> Result<Ran, CaseFault>
-    requires ahead { ahead ≤ MAX_AHEAD }
-    requires levels { AreLevels levels }
-    ensures printed { IfOk result (λ ran. Prints levels (R.remaining reader.old)
+    ensures printed { IfOk result (λ ran. Prints running.entry.levels (R.remaining reader.old)
         (W.contents writer.old) (W.contents writer.new) ran.end) }
     ensures text { IfOk result (λ ran. IsInput (R.remaining reader.old) ran.text.items) }
     ensures bad_case { IsErrOf result CaseFault.BadCase → IsNoCase (R.remaining reader.old) }
     ensures through { ReadsBefore result (R.remaining reader.old) (R.remaining reader.new) }
     ensures nothing { IfErr result (λ e. e ≢ CaseFault.Write → Keeps (W.contents writer.old) (W.contents writer.new)) }
-    ensures part { IsErrOf result CaseFault.Write → PrintsPart levels (R.remaining reader.old) (W.contents writer.old) (W.contents writer.new) }
+    ensures part { IsErrOf result CaseFault.Write → PrintsPart running.entry.levels (R.remaining reader.old) (W.contents writer.old) (W.contents writer.new) }
     ensures at_most { TakesAtMost (MAX_CASE + 1) (R.remaining reader.old) (R.remaining reader.new) }
 {
     let (case, text) = read_case(alloc, reader)?;
-    let end = print_case(alloc, case, writer, ahead, events, levels)?;
+    let end = print_case(alloc, case, writer, running)?;
     Ok(Ran { end, text })
 }

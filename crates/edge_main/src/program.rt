@@ -8,7 +8,7 @@ use crate::command_line::asked;
 use crate::options::server_of;
 use crate::server::Server;
 use crate::status::Status;
-use edge_case::{CaseEnd, CaseFault, Ran, run_case, run_case_and_keep};
+use edge_case::{CaseEnd, CaseFault, Ran, Running, run_case, run_case_and_keep};
 use edge_setup::Checking;
 use std::alloc::Global;
 use std::io::{Read, Write};
@@ -50,11 +50,16 @@ pub(crate) fn run_words<'a, R: Read, W: Write>(
             levels,
             is_why,
         } => {
+            let running = Running {
+                ahead,
+                events: &order,
+                levels,
+            };
             if is_why {
-                let ended = run_case_and_keep(alloc, reader, writer, ahead, &order, levels);
+                let ended = run_case_and_keep(alloc, reader, writer, running);
                 Ok(explained_by(ended))
             } else {
-                let ended = run_case(alloc, reader, writer, ahead, &order, levels);
+                let ended = run_case(alloc, reader, writer, running);
                 Ok(Done::Ran(Status::of(ended)))
             }
         }

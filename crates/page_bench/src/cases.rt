@@ -7,7 +7,7 @@ ghost use Rattle.plan_runner.specs.declared.page.TheConstants.{MAX_AHEAD};
 use crate::site::{Site, case_text, evaluated, includes, ran, table};
 use bench_tools::inputs::{CHOOSE, or_input_error};
 use bench_tools::timing::{Least, ratio};
-use edge_case::run_case;
+use edge_case::{Running, run_case};
 use edge_types::Table;
 use esi_meaning::are_levels;
 use plan_runner::Event;
@@ -162,7 +162,12 @@ fn printed(rt: &HostRuntime, text: &[u8], levels: u8) -> io::Result<()>
 {
     let mut reader = text;
     let mut out = Vec::new(rt.alloc());
-    or_input_error(run_case(rt.alloc(), &mut reader, &mut out, 16, &[], levels))
+    let running = Running {
+        ahead: 16,
+        events: &[],
+        levels,
+    };
+    or_input_error(run_case(rt.alloc(), &mut reader, &mut out, running))
 }
 
 // Reads the bytes, and writes what was read.

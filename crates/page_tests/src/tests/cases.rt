@@ -1,7 +1,7 @@
 //! What a process can't show of `run_case` and `read_events`: a writer that takes no byte, the items of
 //! a list, and a list that is longer than a command line.
 
-use edge_case::{CaseEnd, CaseFault, read_events, run_case};
+use edge_case::{CaseEnd, CaseFault, Running, read_events, run_case};
 use plan_runner::Event;
 use std::io;
 use std::io::Write;
@@ -41,7 +41,12 @@ fn a_writer_that_takes_none_has_a_first_part(rt: HostRuntime) {
             taken: Vec::new(rt.alloc()),
             room,
         };
-        let ended = run_case(rt.alloc(), &mut reader, &mut writer, 16, &[], 4);
+        let running = Running {
+            ahead: 16,
+            events: &[],
+            levels: 4,
+        };
+        let ended = run_case(rt.alloc(), &mut reader, &mut writer, running);
         let (front, _) = PRINTED.split_at(room);
         assert!(rt;
             matches!(ended, Err(CaseFault::Write)) && writer.taken.as_slice() == front,
@@ -69,7 +74,12 @@ fn lists_of_events_are_read_and_run(rt: HostRuntime) -> Result<(), Fail> {
     assert!(rt; events.len() == 180_005 && events.as_slice().starts_with(&LISTED));
     let mut reader = CASE;
     let mut written = Vec::new(rt.alloc());
-    match run_case(rt.alloc(), &mut reader, &mut written, 0, &events, 4) {
+    let running = Running {
+        ahead: 0,
+        events: &events,
+        levels: 4,
+    };
+    match run_case(rt.alloc(), &mut reader, &mut written, running) {
         Ok(end) => assert!(rt; end == CaseEnd::PagePrinted),
         Err(_) => return Err("a run".into()),
     }
