@@ -65,8 +65,8 @@ def silent_clients_are_cut():
 
 
 def slow_clients_lose_their_connection():
-    """A client that sends nothing, one that sends half a head and one that reads nothing of a long page hold
-    the one thread; after them another is served."""
+    """A client that sends nothing, one that sends half a head and one that reads nothing of a long page; another is
+    served by the one thread."""
     texts = {"/p": wire(PAGE + "<esi:include src='/x'/>" * 40), "/x": wire("HTTP/1.1 200 OK||") + b"1" * 250000}
     with Wires(texts) as origin, before(origin, "--client-timeout", "50", "--threads", "1", "--accept", "4") as edge:
         with client(edge) as silent, client(edge, b"GET /p HT") as half, client(edge, ASKED):
@@ -75,9 +75,9 @@ def slow_clients_lose_their_connection():
             same("exit status", 0, edge.ends())
 
 
-def a_silent_client_holds_one_thread_alone():
-    """Of two threads the other serves on."""
-    with Origin(PLAIN) as origin, before(origin, "--client-timeout", "10000", "--threads", "2", "--accept", "4") as edge:
+def a_silent_client_holds_no_thread():
+    """The one thread serves on."""
+    with Origin(PLAIN) as origin, before(origin, "--client-timeout", "10000", "--threads", "1", "--accept", "4") as edge:
         with client(edge):
             for _ in range(3):
                 same("others", b"[12345678]", get(edge, "/p").body)
@@ -142,7 +142,7 @@ TESTS = (
     pages_of_faults,
     silent_clients_are_cut,
     slow_clients_lose_their_connection,
-    a_silent_client_holds_one_thread_alone,
+    a_silent_client_holds_no_thread,
     without_a_limit_a_client_takes_its_time,
     a_request_has_to_come_in_time,
     a_long_page_comes_whole_to_a_client_that_sends_on,

@@ -181,39 +181,35 @@ def a_later_request_has_to_come_in_time():
         same("past the limit, and soon (%.2f s)" % taken, True, 0.2 <= taken < 5)
 
 
-def kept_connections_lock_nobody_out():
-    """Of four threads three keep their connections; clients beyond them are answered, each by a last response.
-    One thread keeps none."""
-    with Origin(PLAIN) as origin, before(origin, *KEPT, "--threads", "4") as edge:
-        kept = [client(edge, ASKED) for _ in range(3)]
-        for connection in kept:
-            same("kept", (BODY, False), (lambda it: (it.body, is_last(it)))(of_one(connection)))
-        for _ in range(10):
-            got = get(edge, "/p")
-            same("beyond them", (BODY, True), (got.body, is_last(got)))
-        # The thread of the last one may serve for a moment more.
-        time.sleep(0.1)
-        for connection in kept:
-            connection.sendall(ASKED)
-            same("still kept", (BODY, False), (lambda it: (it.body, is_last(it)))(of_one(connection)))
-            connection.close()
-    with Origin(PLAIN) as origin, before(origin, *KEPT, "--threads", "1") as edge:
-        for _ in range(3):
-            got = get(edge, "/p")
-            same("by one thread", (BODY, True), (got.body, is_last(got)))
+def more_connections_are_kept_than_there_are_threads():
+    """Twenty by one thread and by four. Clients beyond them are answered, and each of the twenty once more."""
+    for threads in ("1", "4"):
+        with Origin(PLAIN) as origin, before(origin, *KEPT, "--threads", threads) as edge:
+            kept = [client(edge, ASKED) for _ in range(20)]
+            for connection in kept:
+                same("kept", (BODY, False), (lambda it: (it.body, is_last(it)))(of_one(connection)))
+            for _ in range(10):
+                same("beyond them", BODY, get(edge, "/p", fields="Connection: close\r\n").body)
+            for connection in kept:
+                connection.sendall(ASKED)
+                same("still kept", (BODY, False), (lambda it: (it.body, is_last(it)))(of_one(connection)))
+                connection.close()
 
 
-def busy_connections_make_room():
-    """Twelve clients ask again and again over four threads: each is served, and opens a new connection where its
-    own was ended."""
+def busy_connections_are_kept():
+    """Twelve clients ask again and again over four threads, each over one connection."""
     with Origin(PLAIN) as origin, before(origin, *KEPT, "--threads", "4") as edge:
         counts = [0] * 12
 
         def ask(at):
             asking = http.client.HTTPConnection("127.0.0.1", edge.port, timeout=PATIENCE)
+            asking.connect()
+            port = asking.sock.getsockname()[1]
             for _ in range(30):
                 asking.request("GET", "/p", headers={"Host": "a.test"})
-                counts[at] += asking.getresponse().read() == BODY
+                is_page = asking.getresponse().read() == BODY
+                counts[at] += is_page and asking.sock is not None and asking.sock.getsockname()[1] == port
+            asking.close()
 
         asking = [threading.Thread(target=ask, args=(at,)) for at in range(12)]
         for it in asking:
@@ -279,8 +275,8 @@ TESTS = (
     long_responses_follow_one_another,
     idle_connections_end,
     a_later_request_has_to_come_in_time,
-    kept_connections_lock_nobody_out,
-    busy_connections_make_room,
+    more_connections_are_kept_than_there_are_threads,
+    busy_connections_are_kept,
     each_request_over_a_connection_is_told,
     head_is_answered_where_it_is_asked_for,
     responses_have_dates,

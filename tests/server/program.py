@@ -54,7 +54,7 @@ def usage_is_told():
         ["--ahead", "257"], ["--ahead=-1"], ["--levels", "0"], ["--levels", "9"], ["--capacity", "0"], ["--capacity", "1025"],
         ["--accept", "18446744073709551616"], ["--accept", "+1"], ["--accept", ""], ["--timeout", "1s"], ["--timeout", "86400001"],
         ["--client-timeout", "-"], ["--client-timeout", "86400001"], ["--keep-alive", "5s"], ["--keep-alive", "86401"],
-        ["--threads", "0"], ["--threads", "65"], ["--head", "x"], ["--head=yes"], ["--log", "x"], ["--log=yes"],
+        ["--threads", "0"], ["--threads", "65"], ["--connections", "0"], ["--connections", "65537"], ["--head", "x"], ["--head=yes"], ["--log", "x"], ["--log=yes"],
     )]
     for words in rows:
         ended = subprocess.run(["esi_edge", "serve", *words], executable=PROGRAM, stdin=subprocess.DEVNULL, capture_output=True, timeout=PATIENCE)
@@ -64,8 +64,8 @@ def usage_is_told():
 
 def limits_are_taken():
     """The largest and the smallest of each number, an address of IPv6, and a thousand origins."""
-    most = ["--workers", "16", "--ahead", "256", "--levels", "8", "--capacity", "1024", "--timeout", "86400000", "--client-timeout", "86400000", "--keep-alive", "86400", "--threads", "64", "--head"]
-    least = ["--workers", "1", "--ahead", "0", "--levels", "1", "--capacity", "1", "--timeout", "0", "--client-timeout", "0", "--keep-alive", "0", "--threads", "1"]
+    most = ["--workers", "16", "--ahead", "256", "--levels", "8", "--capacity", "1024", "--timeout", "86400000", "--client-timeout", "86400000", "--keep-alive", "86400", "--threads", "64", "--connections", "65536", "--head"]
+    least = ["--workers", "1", "--ahead", "0", "--levels", "1", "--capacity", "1", "--timeout", "0", "--client-timeout", "0", "--keep-alive", "0", "--threads", "1", "--connections", "1"]
     many = [word for at in range(1000) for word in ("--origin", "%d.test=127.0.0.1:80" % at)]
     for words in (most, least, many, ["--accept", "18446744073709551615"], ["--origin", "a.test=[::1]:80", "--origin", "b.test=127.0.0.1:80"]):
         with Origin(PLAIN) as origin, before(origin, *words) as edge:

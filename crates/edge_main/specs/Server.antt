@@ -29,7 +29,8 @@ pub record IsServerOf (setup : Setup) (server : Server) : Type 0 where
   pub ahead_is : server.pages.ahead ≡ setup.pages.ahead
   pub levels_are : server.pages.levels ≡ setup.pages.levels
   pub capacity_is : server.capacity ≡ setup.pages.capacity
-  pub threads_are : server.threads ≡ setup.serving.threads
+  pub threads_are : server.at_once.threads ≡ setup.serving.threads
+  pub connections_are : server.at_once.connections ≡ setup.serving.connections
   pub accepts_are : server.accept ≡ setup.serving.accept
   pub head_is : server.answers_head ≡ setup.serving.answers_head
   pub logs_is : server.logs ≡ setup.serving.logs

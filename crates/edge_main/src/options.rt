@@ -6,7 +6,7 @@ ghost use Rattle.edge_main.specs.Server.{IsServerOf, idle_of, limit_of, nanos_of
 use crate::server::Server;
 use edge_setup::Setup;
 use fetch_workers::Assembling;
-use hyper_edge::Limits;
+use hyper_edge::{Capacity, Limits};
 use std::time::Duration;
 
 // A limit of this many milliseconds; 0 means no limit.
@@ -54,7 +54,10 @@ pub(crate) fn server_of(setup: Setup) -> Server
         },
         pages: Assembling::new(pages.ahead, pages.workers, pages.levels),
         capacity: usize::from(pages.capacity),
-        threads: serving.threads,
+        at_once: Capacity {
+            threads: serving.threads,
+            connections: serving.connections,
+        },
         accept: serving.accept,
         answers_head: serving.answers_head,
         logs: serving.logs,

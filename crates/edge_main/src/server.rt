@@ -3,7 +3,7 @@ ghost use Rattle.std.specs.Prelude.{◌≤◌};
 
 use edge_setup::Origin;
 use fetch_workers::Assembling;
-use hyper_edge::Limits;
+use hyper_edge::{Capacity, Limits};
 use std::net::SocketAddr;
 use std::time::Duration;
 
@@ -22,8 +22,8 @@ pub(crate) struct Server {
     pub pages: Assembling,
     /// How many answers each shard of the cache keeps.
     pub capacity: usize,
-    /// How many connections are served at once.
-    pub threads: u16,
+    /// How many threads serve clients, and how many connections may be open at once.
+    pub at_once: Capacity,
     /// After how many connections it ends.
     pub accept: u64,
     /// Whether HEAD is answered like GET.

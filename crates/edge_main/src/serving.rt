@@ -33,7 +33,7 @@ where
         clients,
         pages,
         capacity,
-        threads,
+        at_once,
         accept,
         answers_head,
         logs,
@@ -46,17 +46,17 @@ where
     let (sockets, address) = listening(rt, listen, clients)?;
     println!(rt; "listening on {address}")?;
     let log = AccessLog { is_kept: logs };
-    Ok(serve_accepts(rt, &sockets, &service, &log, threads, accept))
+    Ok(serve_accepts(rt, &sockets, &service, &log, at_once, accept))
 }
 
 // What accepts connections, and where it listens.
 fn listening<R>(rt: &R, listen: SocketAddr, clients: Limits) -> io::Result<(Sockets, SocketAddr)>
 where
-    R: Net<Stream = TcpStream, Listener = TcpListener>,
+    R: AllocGlobal + Net<Stream = TcpStream, Listener = TcpListener>,
 {
     let listener = TcpListener::bind(rt, listen)?;
     let address = listener.local_addr()?;
-    Ok((Sockets::new(listener, clients)?, address))
+    Ok((Sockets::new(rt, listener, clients)?, address))
 }
 
 // What fetches from the origins.

@@ -1,7 +1,7 @@
 -- The subcommand `serve`, by `clap`'s definitions of commands.
 use Rattle.std.specs.Prelude.{codes}
 use Rattle.clap.specs.Words.{App, new_app, with_rule}
-use Rattle.edge_setup.specs.Numbers.{ahead, capacity, client_timeout, keep_alive, levels, numeric_option, threads, timeout, workers}
+use Rattle.edge_setup.specs.Numbers.{ahead, capacity, client_timeout, connections, keep_alive, levels, numeric_option, threads, timeout, workers}
 use Rattle.edge_setup.specs.Rules.{named_flag, named_option, repeated, wanted}
 
 -- where the server listens, and which origins it asks
@@ -20,12 +20,13 @@ with_pages command = with_rule (with_rule (with_rule (with_rule command
 
 -- how connections are served
 abbrev pub with_serving : App → App
-with_serving command = with_rule (with_rule (with_rule (with_rule (with_rule command
+with_serving command = with_rule (with_rule (with_rule (with_rule (with_rule (with_rule command
     (named_option (codes "accept")))
     (numeric_option timeout))
     (numeric_option client_timeout))
     (numeric_option keep_alive))
-    (numeric_option threads)
+    (numeric_option threads))
+    (numeric_option connections)
 
 -- whether HEAD is answered, and whether each request is reported
 abbrev pub with_flags : App → App

@@ -47,9 +47,13 @@ client_timeout = record { name = codes "client-timeout"; least = 0; most = 86400
 abbrev pub keep_alive : Numeric
 keep_alive = record { name = codes "keep-alive"; least = 0; most = 86400; default = codes "0"; refusal = codes "error: --keep-alive takes seconds, from 0 to 86400" }
 
--- the connections that are served at once
+-- the threads that serve clients; as many more may go on with those who were waited for
 abbrev pub threads : Numeric
 threads = record { name = codes "threads"; least = 1; most = 64; default = codes "64"; refusal = codes "error: --threads takes a number from 1 to 64" }
+
+-- the connections that may be open at once
+abbrev pub connections : Numeric
+connections = record { name = codes "connections"; least = 1; most = 65536; default = codes "64"; refusal = codes "error: --connections takes a number from 1 to 65536" }
 
 -- ---- what they are to `clap`, and what they say
 

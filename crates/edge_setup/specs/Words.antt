@@ -8,7 +8,7 @@ use Rattle.std.specs.declared.net.socket_addr.SocketAddr.{SocketAddr}
 use Rattle.clap.specs.Words.{Row, Text, all_of, first_of}
 use Rattle.edge_types.specs.Halves.{around}
 use Rattle.decimals.specs.Decimal.{decimal_of}
-use Rattle.edge_setup.specs.Numbers.{Numeric, ahead, capacity, client_timeout, keep_alive, levels, said_of, threads, timeout, workers}
+use Rattle.edge_setup.specs.Numbers.{Numeric, ahead, capacity, client_timeout, connections, keep_alive, levels, said_of, threads, timeout, workers}
 use Rattle.edge_setup.specs.declared.setup.Origin.{Origin}
 use Rattle.edge_setup.specs.declared.setup.Pages.{Pages}
 use Rattle.edge_setup.specs.declared.setup.Serving.{Serving}
@@ -87,6 +87,7 @@ pub record SaysServing (rows : List Row) (serving : Serving) : Type 0 where
   pub client_timeout_is : said_of client_timeout rows ≡ Some serving.client_timeout
   pub keep_alive_is : said_of keep_alive rows ≡ Some serving.keep_alive
   pub threads_are : said_of threads rows ≡ Some serving.threads
+  pub connections_are : said_of connections rows ≡ Some serving.connections
   pub head_is : is_set (first_of (codes "head") rows) ≡ serving.answers_head
   pub logs_is : is_set (first_of (codes "log") rows) ≡ serving.logs
 
@@ -110,6 +111,7 @@ IsWrong rows named.Timeout = said_of timeout rows ≡ None
 IsWrong rows named.ClientTimeout = said_of client_timeout rows ≡ None
 IsWrong rows named.KeepAlive = said_of keep_alive rows ≡ None
 IsWrong rows named.Threads = said_of threads rows ≡ None
+IsWrong rows named.Connections = said_of connections rows ≡ None
 
 -- the values of these options are valid
 abbrev pub HasAddress : List Row → Type 0
@@ -125,7 +127,7 @@ abbrev pub HasPages : List Row → Type 0
 HasPages rows = Has workers rows × Has ahead rows × Has levels rows × Has capacity rows
 
 abbrev pub HasServing : List Row → Type 0
-HasServing rows = HasAccepts rows × Has timeout rows × Has client_timeout rows × Has keep_alive rows × Has threads rows
+HasServing rows = HasAccepts rows × Has timeout rows × Has client_timeout rows × Has keep_alive rows × Has threads rows × Has connections rows
 
 -- the values of the options that are read before this one are valid
 abbrev pub AreValidBefore : List Row → Named → Type 0
@@ -139,6 +141,7 @@ AreValidBefore rows named.Timeout = HasAddress rows × HasPages rows × HasAccep
 AreValidBefore rows named.ClientTimeout = HasAddress rows × HasPages rows × HasAccepts rows × Has timeout rows
 AreValidBefore rows named.KeepAlive = HasAddress rows × HasPages rows × HasAccepts rows × Has timeout rows × Has client_timeout rows
 AreValidBefore rows named.Threads = HasAddress rows × HasPages rows × HasAccepts rows × Has timeout rows × Has client_timeout rows × Has keep_alive rows
+AreValidBefore rows named.Connections = HasAddress rows × HasPages rows × HasAccepts rows × Has timeout rows × Has client_timeout rows × Has keep_alive rows × Has threads rows
 AreValidBefore rows named.Origin = HasAddress rows × HasPages rows × HasServing rows
 
 -- this is the first option, in the order of reading, whose value is invalid
@@ -159,6 +162,7 @@ refusal_of named.Timeout = timeout.refusal
 refusal_of named.ClientTimeout = client_timeout.refusal
 refusal_of named.KeepAlive = keep_alive.refusal
 refusal_of named.Threads = threads.refusal
+refusal_of named.Connections = connections.refusal
 
 -- why the options are refused
 abbrev pub IsRefusedBy : List Row → SetupFault → Type 0

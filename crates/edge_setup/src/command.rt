@@ -5,7 +5,7 @@ ghost use Rattle.clap.specs.declared.builder.command.Command.TheViews.{out-Comma
 ghost use Rattle.edge_setup.specs.Command.{serve_command, with_addresses, with_flags, with_pages, with_serving};
 
 use crate::number::{
-    AHEAD, CAPACITY, CLIENT_TIMEOUT, KEEP_ALIVE, LEVELS, THREADS, TIMEOUT, WORKERS,
+    AHEAD, CAPACITY, CLIENT_TIMEOUT, CONNECTIONS, KEEP_ALIVE, LEVELS, THREADS, TIMEOUT, WORKERS,
 };
 use crate::options::{flag, option, with_option};
 use clap::{ArgAction, Command};
@@ -73,11 +73,13 @@ fn with_serving<'a>(alloc: Global, command: Command<'a>) -> Result<Command<'a>, 
     let client_timeout = CLIENT_TIMEOUT.arg(alloc);
     let keep_alive = KEEP_ALIVE.arg(alloc);
     let threads = THREADS.arg(alloc);
+    let connections = CONNECTIONS.arg(alloc);
     let command = with_option(command, accept)?;
     let command = with_option(command, timeout)?;
     let command = with_option(command, client_timeout)?;
     let command = with_option(command, keep_alive)?;
-    with_option(command, threads)
+    let command = with_option(command, threads)?;
+    with_option(command, connections)
 }
 
 // Whether HEAD is answered, and whether each request is reported.

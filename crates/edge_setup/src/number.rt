@@ -96,14 +96,24 @@ pub(crate) const KEEP_ALIVE: NumericOption = NumericOption {
     refusal: "error: --keep-alive takes seconds, from 0 to 86400",
 };
 
-/// The connections that are served at once.
+/// The threads that serve clients; as many more may go on with those who were waited for.
 pub(crate) const THREADS: NumericOption = NumericOption {
     name: "threads",
-    help: "Connections that are served at once, from 1 to 64",
+    help: "Threads that serve clients, from 1 to 64; up to as many more go on with those who were waited for",
     least: 1,
     most: 64,
     default: "64",
     refusal: "error: --threads takes a number from 1 to 64",
+};
+
+/// The connections that may be open at once.
+pub(crate) const CONNECTIONS: NumericOption = NumericOption {
+    name: "connections",
+    help: "Connections that may be open at once, from 1 to 65536; a client who is waited for holds no thread",
+    least: 1,
+    most: 65_536,
+    default: "64",
+    refusal: "error: --connections takes a number from 1 to 65536",
 };
 
 impl NumericOption {

@@ -5,7 +5,7 @@ ghost use Rattle.edge_setup.specs.Words.{refusal_of};
 ghost use Rattle.edge_setup.specs.declared.setup.SetupFault.TheVariants as fault;
 
 use crate::number::{
-    AHEAD, CAPACITY, CLIENT_TIMEOUT, KEEP_ALIVE, LEVELS, THREADS, TIMEOUT, WORKERS,
+    AHEAD, CAPACITY, CLIENT_TIMEOUT, CONNECTIONS, KEEP_ALIVE, LEVELS, THREADS, TIMEOUT, WORKERS,
 };
 use std::alloc::AllocError;
 use std::net::SocketAddr;
@@ -43,8 +43,10 @@ pub struct Serving {
     pub client_timeout: u32,
     /// The seconds that a connection is kept for its client's next request; 0 means that none is kept.
     pub keep_alive: u32,
-    /// The most connections that are served at once.
+    /// The most threads that serve clients; as many more may go on with those who were waited for.
     pub threads: u16,
+    /// The most connections that are open at once.
+    pub connections: u32,
     /// Whether HEAD is answered like GET, without the body.
     pub answers_head: bool,
     /// Whether each request is reported on standard error.
@@ -89,6 +91,8 @@ pub enum Named {
     KeepAlive,
     /// `--threads`: not a number within the limits.
     Threads,
+    /// `--connections`: not a number within the limits.
+    Connections,
 }
 
 impl Named {
@@ -110,6 +114,7 @@ impl Named {
             Named::ClientTimeout => CLIENT_TIMEOUT.refusal,
             Named::KeepAlive => KEEP_ALIVE.refusal,
             Named::Threads => THREADS.refusal,
+            Named::Connections => CONNECTIONS.refusal,
         }
     }
 }

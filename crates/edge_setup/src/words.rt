@@ -5,7 +5,7 @@ ghost use Rattle.clap.specs.Words.{first_of, found_of, rows_of};
 ghost use Rattle.edge_setup.specs.Words.{accepts_of, is_set, IsAddress, HasAddress, HasPages, IsFirstWrong, IsRefusedBy, IsWithin, SaysPages, SaysServing, SaysSetup};
 
 use crate::number::{
-    AHEAD, CAPACITY, CLIENT_TIMEOUT, KEEP_ALIVE, LEVELS, THREADS, TIMEOUT, WORKERS,
+    AHEAD, CAPACITY, CLIENT_TIMEOUT, CONNECTIONS, KEEP_ALIVE, LEVELS, THREADS, TIMEOUT, WORKERS,
 };
 use crate::origins::origins_of;
 use crate::setup::{Named, Pages, Serving, Setup, SetupFault};
@@ -73,6 +73,7 @@ fn serving_of(matches: &ArgMatches<'_>) -> Result<Serving, Named>
         client_timeout: CLIENT_TIMEOUT.u32_of(matches).ok_or(Named::ClientTimeout)?,
         keep_alive: KEEP_ALIVE.u32_of(matches).ok_or(Named::KeepAlive)?,
         threads: THREADS.u16_of(matches).ok_or(Named::Threads)?,
+        connections: CONNECTIONS.u32_of(matches).ok_or(Named::Connections)?,
         answers_head: is_set(word_of(matches, "head")),
         logs: is_set(word_of(matches, "log")),
     })

@@ -1,2 +1,1 @@
-mod Crossings
 mod Heads

@@ -1,3 +1,5 @@
+pub mod Opening
+pub mod Staff
 pub mod Roster
 pub mod Responses
 pub mod Records

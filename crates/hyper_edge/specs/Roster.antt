@@ -1,11 +1,20 @@
--- When threads that serve may accept, when one more is wanted, and when failed accepts end a
--- server.
-use Rattle.std.specs.Prelude.{ℕ, ◌+◌, ◌-◌, ◌^◌, ◌<◌, ◌≤◌, min, false, true, IsFalse}
+-- When connections may be accepted, when one more thread is wanted, and when failed accepts end a server.
+use Rattle.std.specs.Prelude.{ℕ, ◌≡◌, ◌+◌, ◌-◌, ◌^◌, ◌<◌, ◌≤◌, min, max, false, true}
+use Rattle.hyper_edge.specs.declared.roster.Capacity.{Capacity}
 use Rattle.hyper_edge.specs.declared.roster.Roster.{Roster}
+use Rattle.hyper_edge.specs.Staff as staff
 
--- before any accept: nobody serves, and the first thread is wanted
-abbrev pub opened : ℕ → ℕ → Roster
-opened count most = record { left = count; threads = 0; most = most; serving = 0; failed = 0; wanted = true }
+-- before any accept: there is no connection, and the first thread is wanted
+abbrev pub opened : ℕ → Capacity → Roster
+opened count capacity = record {
+  left = count;
+  begun = 0;
+  failed = 0;
+  held = 0;
+  room = max capacity.connections 1;
+  accepting = staff.nobody capacity.threads true;
+  resuming = staff.nobody capacity.threads false;
+}
 
 -- this many accepts have failed since the last that succeeded, so no more are made
 abbrev pub HasFailed : Roster → Type 0
@@ -16,36 +25,65 @@ pub record IsOpen (roster : Roster) : Type 0 where
   pub left : 0 < roster.left
   pub failed : roster.failed < 16
 
+-- there is room for one more connection, even if each accept that was begun succeeds
+abbrev pub HasRoom : Roster → Type 0
+HasRoom roster = roster.held + roster.begun < roster.room
+
+-- no accept is under way, and each connection has ended
+pub record IsEmpty (roster : Roster) : Type 0 where
+  pub accepted : roster.begun ≡ 0
+  pub ended : roster.held ≡ 0
+
+-- nothing is left to be done
+pub record IsDone (roster : Roster) : Type 0 where
+  pub over : ¬ (IsOpen roster)
+  pub empty : IsEmpty roster
+
 -- one of the accepts that were left has been begun
 abbrev pub begun : Roster → Roster
-begun roster = record roster { left = roster.left - 1 }
+begun roster = record roster { left = roster.left - 1; begun = min (roster.begun + 1) (2 ^ 32 - 1) }
 
 -- it has failed, and is still to be made
 abbrev pub given_back : Roster → Roster
-given_back roster = record roster { left = min (roster.left + 1) (2 ^ 64 - 1); failed = min (roster.failed + 1) (2 ^ 32 - 1) }
+given_back roster = record roster { left = min (roster.left + 1) (2 ^ 64 - 1); begun = roster.begun - 1; failed = min (roster.failed + 1) (2 ^ 32 - 1) }
 
--- it has succeeded: one more thread serves, and failures are counted from 0 again
+-- it has succeeded: there is one more connection, which one more thread serves, and failures are counted from 0 again
 abbrev pub succeeded : Roster → Roster
-succeeded roster = record roster { failed = 0; serving = min (roster.serving + 1) (2 ^ 16 - 1) }
+succeeded roster = record roster { begun = roster.begun - 1; failed = 0; held = min (roster.held + 1) (2 ^ 32 - 1); accepting = staff.begun roster.accepting }
 
--- one thread fewer serves
+-- one thread fewer serves what it accepted
 abbrev pub has_served : Roster → Roster
-has_served roster = record roster { serving = roster.serving - 1 }
+has_served roster = record roster { accepting = staff.ended roster.accepting }
 
--- connections may be kept: not all threads that there may be are serving
-abbrev pub MayKeep : Roster → Type 0
-MayKeep roster = roster.serving < roster.most
+-- one more thread goes on with a connection that was parked
+abbrev pub resumed : Roster → Roster
+resumed roster = record roster { resuming = staff.begun roster.resuming }
 
--- one more thread is wanted: all existing ones are serving, there may be more, and none is wanted yet
-pub record WantsThread (roster : Roster) : Type 0 where
-  pub quiet : IsFalse roster.wanted
-  pub busy : roster.threads ≤ roster.serving
-  pub few : roster.threads < roster.most
+-- one fewer does
+abbrev pub rested : Roster → Roster
+rested roster = record roster { resuming = staff.ended roster.resuming }
 
--- a thread that was wanted is counted
-abbrev pub counted : Roster → Roster
-counted roster = record roster { wanted = false; threads = min (roster.threads + 1) (2 ^ 16 - 1) }
+-- a connection has ended
+abbrev pub let_go : Roster → Roster
+let_go roster = record roster { held = roster.held - 1 }
 
--- a thread that was counted could not be started
-abbrev pub uncounted : Roster → Roster
-uncounted roster = record roster { threads = roster.threads - 1 }
+-- one more thread is asked for, for either work
+abbrev pub asked_to_accept : Roster → Roster
+asked_to_accept roster = record roster { accepting = record roster.accepting { wanted = true } }
+
+abbrev pub asked_to_resume : Roster → Roster
+asked_to_resume roster = record roster { resuming = record roster.resuming { wanted = true } }
+
+-- it is counted
+abbrev pub counted_to_accept : Roster → Roster
+counted_to_accept roster = record roster { accepting = staff.counted roster.accepting }
+
+abbrev pub counted_to_resume : Roster → Roster
+counted_to_resume roster = record roster { resuming = staff.counted roster.resuming }
+
+-- it could not be started
+abbrev pub not_accepting : Roster → Roster
+not_accepting roster = record roster { accepting = staff.uncounted roster.accepting }
+
+abbrev pub not_resuming : Roster → Roster
+not_resuming roster = record roster { resuming = staff.uncounted roster.resuming }

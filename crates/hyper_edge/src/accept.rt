@@ -1,16 +1,9 @@
 //! Where connections come from.
 
-use crate::client_stream::{ClientStream, Limits};
-use std::alloc::AllocGlobal;
-use std::io;
-use std::io::ErrorKind;
-use std::net::{Shutdown, TcpListener, TcpStream};
-use std::os::fd::OwnedFd;
-use std::sync::atomic::AtomicBool;
-use std::sync::{Arc, Wait};
-use std::time::Clock;
+use crate::signals::{Pause, Signals};
+use std::sync::Arc;
 
-/// What accepts connections, from any number of threads at once.
+/// What accepts connections, from any number of threads at once, and tells when one that waits can go on.
 pub trait Accept<R> {
     /// The stream of a connection.
     type Io: Send + Drop;
@@ -18,72 +11,30 @@ pub trait Accept<R> {
     /// Waits for a connection. `None` means that the accept failed.
     fn accept(&self, rt: &R) -> Option<Self::Io>;
 
-    /// What a stream sets once a response has been written whole, if it may be kept for further requests. By
-    /// default none is kept.
-    fn written(&self, _io: &Self::Io) -> Option<Arc<AtomicBool>> {
+    /// Whether connections are kept for further requests. By default they aren't.
+    fn keeps(&self) -> bool {
+        false
+    }
+
+    /// By what a stream tells that a response has been written, and why it can't go on. By default no stream tells
+    /// anything, so none is waited for by anything but its own reads and writes.
+    fn signals(&self, _io: &Self::Io) -> Option<Arc<Signals>> {
+        None
+    }
+
+    /// Whether streams may block for a moment from now on, since there are threads to spare.
+    fn set_may_wait(&self, _may_wait: bool) {}
+
+    /// Has `ready` tell a key, once, when the socket of a stream is ready. Returns false if that isn't possible.
+    fn watch(&self, _key: usize, _pause: &Pause) -> bool {
+        false
+    }
+
+    /// Waits for a moment until a stream that is watched can go on, and tells its key.
+    fn ready(&self, _rt: &R) -> Option<usize> {
         None
     }
 
     /// Ends each accept that waits; it fails then, and so does each later one.
     fn end(&self, rt: &R);
-}
-
-/// Sockets of a listener, with limits of time.
-#[derive(Drop)]
-pub struct Sockets {
-    listener: TcpListener,
-    // A second handle to the listener's socket.
-    same: TcpStream,
-    limits: Limits,
-}
-
-impl Sockets {
-    /// Accepts from a listener. The sockets inherit the time limit of each read and write from it: so
-    /// setting it costs no call per connection, and a read or write that has begun may last this much longer
-    /// than the limit. Each write is sent at once, since a kept connection would hold a short one back.
-    ///
-    /// Refused if a limit is zero, or if the system refuses.
-    pub fn new(listener: TcpListener, limits: Limits) -> io::Result<Sockets> {
-        let same = TcpStream::from(OwnedFd::from(listener.try_clone()?));
-        same.set_read_timeout(limits.request)?;
-        same.set_write_timeout(limits.response)?;
-        same.set_nodelay(true)?;
-        Ok(Sockets {
-            listener,
-            same,
-            limits,
-        })
-    }
-}
-
-impl<R: Clock + Wait + AllocGlobal + Clone + Drop + Send> Accept<R> for Sockets {
-    type Io = ClientStream<R>;
-
-    // A limit on reads bounds accepts too: if nobody came in that time, that isn't a failure.
-    fn accept(&self, rt: &R) -> Option<ClientStream<R>> {
-        for _ in rt.forever() {
-            match self.listener.accept() {
-                Ok((socket, _)) => return begun(rt, socket, self.limits),
-                Err(e) if e.kind() == ErrorKind::WouldBlock => {}
-                Err(_) => return None,
-            }
-        }
-        unreachable!()
-    }
-
-    fn written(&self, io: &ClientStream<R>) -> Option<Arc<AtomicBool>> {
-        io.written()
-    }
-
-    fn end(&self, _rt: &R) {
-        let _ = self.same.shutdown(Shutdown::Both);
-    }
-}
-
-fn begun<R: Clock + AllocGlobal + Clone + Drop>(
-    rt: &R,
-    socket: TcpStream,
-    limits: Limits,
-) -> Option<ClientStream<R>> {
-    ClientStream::new(rt.alloc(), socket, rt.clone().ok()?, limits).ok()
 }

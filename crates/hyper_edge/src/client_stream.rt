@@ -1,17 +1,23 @@
-//! A socket to a client, whose polls block for a limited time.
+//! A socket to a client, whose polls hold no thread for long.
 
 ghost use Rattle.std.specs.Prelude.{⊤};
 ghost use Rattle.std.specs.Io.{ReadsAtMost, WritesAtMost};
 
+use crate::exchange::{Exchange, Limits, Stage, deadline};
+use crate::signals::{Pause, Readiness, Signals};
 use futures::task::{Context, Poll};
 use std::alloc::Global;
 use std::io;
 use std::io::{ErrorKind, Read, Write};
 use std::net::{Shutdown, TcpStream};
+use std::os::fd::AsRawFd;
 use std::sync::Arc;
 use std::sync::atomic::{AtomicBool, Ordering};
-use std::time::{Clock, Duration, Instant};
+use std::time::{Clock, Duration};
 use tokio::io::{AsyncRead, AsyncWrite};
+
+/// For how many milliseconds a read or write of a connection blocks, until its client lets one wait longer.
+pub(crate) const PATIENCE_MILLIS: u64 = 10;
 
 // After a response of more bytes than this the client may not have received all of it when its connection ends.
 const LINGERS_AFTER: u64 = 65_536;
@@ -20,117 +26,126 @@ const LINGERS_SECONDS: u64 = 1;
 
 const LINGERS_READS: usize = 16;
 
-/// How long a client may take. None of these may be zero. The time that the edge itself takes for a page
-/// counts in none.
-///
-/// Our profile.
-#[derive(Clone, Copy)]
-pub struct Limits {
-    /// To send its request, from the accept on, or from the first bytes of a further request on. `None` means
-    /// no limit; so does a limit that would overflow the clock.
-    pub request: Option<Duration>,
-    /// To receive the whole response, from its first write on. `None` as above.
-    pub response: Option<Duration>,
-    /// To begin a further request over the same connection. `None` means that no connection is kept for one.
-    pub idle: Option<Duration>,
-}
-
-/// A connection to a client. Past the deadlines of its exchange, where that has some, each read and
-/// write fails.
+/// A connection to a client. A read or write that can't be done now blocks for a moment, as long as there is a
+/// thread to spare and the client hasn't let the connection wait before; else the stream tells what it waits for, by
+/// its signals. Past the limits of its exchange, where that has some, each read and write fails.
 #[derive(Drop)]
 pub struct ClientStream<R> {
     socket: TcpStream,
-    clock: R,
+    rt: R,
     limits: Limits,
     exchange: Exchange,
-    // Whether the socket's own limit of reads is the one between requests.
-    reads_idly: bool,
-    // Set at the end of each response. Only connections that are kept have it.
-    written: Option<Arc<AtomicBool>>,
+    // Whether the client has let no read or write wait so far, so that one may block.
+    is_prompt: bool,
+    // Whether there are threads to spare.
+    may_wait: Arc<AtomicBool>,
+    signals: Arc<Signals>,
 }
 
 impl<R: Clock + Drop> ClientStream<R> {
-    /// A connection whose first exchange begins now.
+    /// A connection whose first exchange begins now, and whose writes block for a moment.
     pub(crate) fn new(
         alloc: Global,
         socket: TcpStream,
-        clock: R,
+        rt: R,
         limits: Limits,
+        may_wait: Arc<AtomicBool>,
     ) -> io::Result<ClientStream<R>> {
-        let exchange = Exchange::accepted(deadline(&clock, limits.request)?);
-        let written = match limits.idle {
-            Some(_) => Some(Arc::new(alloc, AtomicBool::new(false))?),
-            None => None,
-        };
+        let is_prompt = may_wait.load(Ordering::SeqCst);
+        if is_prompt {
+            socket.set_read_timeout(Some(Duration::from_millis(PATIENCE_MILLIS)))?;
+        } else {
+            socket.set_nonblocking(true)?;
+        }
+        let exchange = Exchange::begun(Stage::Accepted, deadline(&rt, limits.request)?);
         Ok(ClientStream {
             socket,
-            clock,
+            rt,
             limits,
             exchange,
-            reads_idly: false,
-            written,
+            is_prompt,
+            may_wait,
+            signals: Arc::new(alloc, Signals::new())?,
         })
     }
 
-    /// What is set once a response has been written whole; nothing where the connection isn't kept.
-    pub(crate) fn written(&self) -> Option<Arc<AtomicBool>> {
-        self.written.as_ref()?.clone().ok()
+    /// What it tells whoever serves it.
+    pub(crate) fn signals(&self) -> Option<Arc<Signals>> {
+        self.signals.clone().ok()
     }
 
     fn is_kept(&self) -> bool {
         self.limits.idle.is_some()
     }
 
-    // The first read of a connection needs no look at the clock: the socket's own limit bounds it.
-    fn read(&mut self, buf: &mut [u8]) -> io::Result<usize>
-        ensures { ReadsAtMost result buf.new }
-    {
-        match self.exchange.stage {
-            Stage::Accepted => {}
-            Stage::Kept => return self.read_further(buf),
-            Stage::Asking => self.read_in_time()?,
-            Stage::Answering | Stage::Answered => return Ok(0),
+    // Has whoever serves the connection wait until its socket is ready. Refused if the client's time is over.
+    fn waits(&mut self, readiness: Readiness) -> io::Result<()> {
+        self.exchange.in_time(&self.rt)?;
+        self.blocks_no_more()?;
+        if self.exchange.stage == Stage::Kept {
+            self.exchange.stage = Stage::Idle;
         }
-        self.exchange.stage = Stage::Asking;
-        (&self.socket).read(buf)
+        let pause = Pause {
+            socket: self.socket.as_raw_fd(),
+            readiness,
+            until: self.exchange.until,
+            is_idle: self.exchange.stage == Stage::Idle,
+        };
+        self.signals.pauses(pause);
+        Ok(())
     }
 
-    // Begins a further request, whose time counts from its first bytes.
-    fn read_further(&mut self, buf: &mut [u8]) -> io::Result<usize>
-        ensures { ReadsAtMost result buf.new }
-    {
-        if !self.reads_idly {
-            self.socket.set_read_timeout(self.limits.idle)?;
-            self.reads_idly = true;
-        }
-        let count = (&self.socket).read(buf)?;
-        self.exchange.request_by = deadline(&self.clock, self.limits.request)?;
-        self.exchange.stage = Stage::Asking;
-        Ok(count)
-    }
-
-    // Refused if the request is late; else the next read may take as long as a request.
-    fn read_in_time(&mut self) -> io::Result<()> {
-        in_time(&self.clock, self.exchange.request_by)?;
-        if self.reads_idly {
-            self.socket.set_read_timeout(self.limits.request)?;
-            self.reads_idly = false;
+    // No read or write holds the thread from now on.
+    fn blocks_no_more(&mut self) -> io::Result<()> {
+        if self.is_prompt {
+            self.socket.set_nonblocking(true)?;
+            self.is_prompt = false;
         }
         Ok(())
     }
 
-    // The time of a response begins with its first write, which the socket's own limit bounds too.
+    // Only the first read of a request may block. Over a connection that isn't kept, what comes after the request is
+    // never read.
+    fn read(&mut self, buf: &mut [u8]) -> io::Result<usize>
+        ensures { ReadsAtMost result buf.new }
+    {
+        match self.exchange.stage {
+            Stage::Accepted | Stage::Kept | Stage::Idle => {}
+            Stage::Asking => {
+                self.exchange.in_time(&self.rt)?;
+                self.blocks_no_more()?;
+            }
+            Stage::Answering | Stage::Answered | Stage::Lingering => return Ok(0),
+        }
+        let count = (&self.socket).read(buf)?;
+        self.has_read()?;
+        Ok(count)
+    }
+
+    // The time of a further request counts from its first bytes.
+    fn has_read(&mut self) -> io::Result<()> {
+        if let Stage::Kept | Stage::Idle = self.exchange.stage {
+            self.exchange.until = deadline(&self.rt, self.limits.request)?;
+        }
+        self.exchange.stage = Stage::Asking;
+        Ok(())
+    }
+
+    // The time of a response begins with its first write. One that isn't done whole has blocked for as long as one may.
     fn write(&mut self, buf: &[u8]) -> io::Result<usize>
         ensures { WritesAtMost result buf.now }
     {
         if self.is_answering() {
-            in_time(&self.clock, self.exchange.response_by)?;
+            self.exchange.in_time(&self.rt)?;
         } else {
-            self.exchange.response_by = deadline(&self.clock, self.limits.response)?;
+            let until = deadline(&self.rt, self.limits.response)?;
+            self.exchange.goes_on(Stage::Answering, until);
         }
-        self.exchange.stage = Stage::Answering;
         let count = (&self.socket).write(buf)?;
         self.exchange.sent = self.exchange.sent.saturating_add(count as u64);
+        if count < buf.len() {
+            self.blocks_no_more()?;
+        }
         Ok(count)
     }
 
@@ -147,7 +162,12 @@ impl<R: Clock + Drop> ClientStream<R> {
     // Ends the output. What a client sends that is never read would have the system reset the connection, and
     // drop what is still on its way to the client; so after a long response it is read away for a moment.
     fn shut_down(&mut self) -> io::Result<()> {
-        self.socket.shutdown(Shutdown::Write)?;
+        if self.exchange.stage != Stage::Lingering {
+            self.socket.shutdown(Shutdown::Write)?;
+            let limit = Duration::from_secs(LINGERS_SECONDS);
+            let until = deadline(&self.rt, Some(limit))?;
+            self.exchange.goes_on(Stage::Lingering, until);
+        }
         if self.exchange.sent > LINGERS_AFTER {
             self.read_away()?;
         }
@@ -155,15 +175,11 @@ impl<R: Clock + Drop> ClientStream<R> {
     }
 
     fn read_away(&mut self) -> io::Result<()> {
-        let limit = Some(Duration::from_secs(LINGERS_SECONDS));
-        self.socket.set_read_timeout(limit)?;
-        let until = deadline(&self.clock, limit)?;
         let mut room = [0; 4_096];
         for _ in 0..LINGERS_READS {
             if (&self.socket).read(&mut room)? == 0 {
                 return Ok(());
             }
-            in_time(&self.clock, until)?;
         }
         Ok(())
     }
@@ -172,79 +188,30 @@ impl<R: Clock + Drop> ClientStream<R> {
     fn flushed(&mut self) {
         if self.exchange.stage == Stage::Answering {
             self.exchange.stage = Stage::Answered;
-            if let Some(written) = &self.written {
-                written.store(true, Ordering::SeqCst);
-            }
-        }
-    }
-}
-
-// One request and its response: how far they are, and when the client has to have sent the one and received
-// the other.
-#[derive(Drop)]
-struct Exchange {
-    stage: Stage,
-    request_by: Option<Instant>,
-    // Counts once some of the response was written.
-    response_by: Option<Instant>,
-    // The bytes of the response that were written.
-    sent: u64,
-}
-
-// How far an exchange is. While the response is under way, nothing is read: no answer waits for what a client
-// sends meanwhile. Over a connection that isn't kept, the client's input counts as ended from then on.
-#[derive(Clone, Copy, Drop, PartialEq, Eq)]
-enum Stage {
-    // Nothing was read of the first request of a connection,
-    Accepted,
-    // or of a further one.
-    Kept,
-    // Some of the request was read.
-    Asking,
-    // Some of the response was written.
-    Answering,
-    // All of it was.
-    Answered,
-}
-
-impl Exchange {
-    // The first one of a connection, whose request has to come by then.
-    fn accepted(request_by: Option<Instant>) -> Exchange {
-        Exchange {
-            stage: Stage::Accepted,
-            request_by,
-            response_by: None,
-            sent: 0,
+            self.signals.wrote();
         }
     }
 
-    // A further one, of which nothing was read.
-    fn further() -> Exchange {
-        Exchange {
-            stage: Stage::Kept,
-            request_by: None,
-            response_by: None,
-            sent: 0,
-        }
+    // Begins a further exchange, of which nothing was read.
+    fn is_kept_on(&mut self) -> io::Result<()> {
+        let until = deadline(&self.rt, self.limits.idle)?;
+        self.exchange = Exchange::begun(Stage::Kept, until);
+        Ok(())
+    }
+
+    // Whether a further request is waited for without a look whether it has come, so that each connection gets its turn
+    // at a thread.
+    fn gives_way(&self) -> bool {
+        let may_block = self.is_prompt && self.may_wait.load(Ordering::SeqCst);
+        self.exchange.stage == Stage::Kept && !may_block
     }
 }
 
-// Refused once a deadline is past.
-fn in_time(clock: &impl Clock, deadline: Option<Instant>) -> io::Result<()> {
-    let Some(deadline) = deadline else {
-        return Ok(());
-    };
-    if Instant::now(clock)? > deadline {
-        return Err(ErrorKind::TimedOut.into());
-    }
-    Ok(())
-}
-
-// When a limit that begins now ends; never, if the clock doesn't reach that far.
-fn deadline(clock: &impl Clock, limit: Option<Duration>) -> io::Result<Option<Instant>> {
-    match limit {
-        Some(limit) => Ok(Instant::now(clock)?.checked_add(limit)),
-        None => Ok(None),
+// Whether a call has to be made again once the socket is ready: it would block, or was interrupted by a signal.
+fn has_to_wait<T>(done: &io::Result<T>) -> bool {
+    match done {
+        Ok(_) => false,
+        Err(e) => e.kind() == ErrorKind::WouldBlock || e.kind() == ErrorKind::Interrupted,
     }
 }
 
@@ -257,17 +224,28 @@ impl<R: Clock + Drop> AsyncRead for ClientStream<R> {
 
     ghost reads_in_order = { λ _ _ _ _ _ _ _. tt };
 
-    // Over a connection that is kept no read blocks while a response is under way, since the HTTP library reads
-    // on before it has written all of it. Nor does the first read after that, by which it may ask for the rest
+    // Over a connection that is kept nothing is read while a response is under way, since the HTTP library reads
+    // on before it has written all of it. Nor is it by the first read after that, by which it may ask for the rest
     // of a body that nobody wants; the next one is for a further request.
     fn poll_read(&mut self, cx: &mut Context<'_>, buf: &mut [u8]) -> Poll<io::Result<usize>> {
-        match self.exchange.stage {
-            Stage::Answering if self.is_kept() => cx.yield_now(),
-            Stage::Answered if self.is_kept() => {
-                self.exchange = Exchange::further();
-                cx.yield_now()
+        if self.is_kept() && self.exchange.stage == Stage::Answering {
+            return cx.yield_now();
+        }
+        if self.is_kept() && self.exchange.stage == Stage::Answered {
+            return match self.is_kept_on() {
+                Ok(()) => cx.yield_now(),
+                Err(e) => Poll::Ready(Err(e)),
+            };
+        }
+        if !self.gives_way() {
+            let read = self.read(buf);
+            if !has_to_wait(&read) {
+                return Poll::Ready(read);
             }
-            _ => Poll::Ready(self.read(buf)),
+        }
+        match self.waits(Readiness::Readable) {
+            Ok(()) => cx.yield_now(),
+            Err(late) => Poll::Ready(Err(late)),
         }
     }
 }
@@ -279,8 +257,15 @@ impl<R: Clock + Drop> AsyncWrite for ClientStream<R> {
 
     ghost writes_in_order = { λ _ _ _ _ _ _ _. tt };
 
-    fn poll_write(&mut self, _cx: &mut Context<'_>, buf: &[u8]) -> Poll<io::Result<usize>> {
-        Poll::Ready(self.write(buf))
+    fn poll_write(&mut self, cx: &mut Context<'_>, buf: &[u8]) -> Poll<io::Result<usize>> {
+        let written = self.write(buf);
+        if !has_to_wait(&written) {
+            return Poll::Ready(written);
+        }
+        match self.waits(Readiness::Writable) {
+            Ok(()) => cx.yield_now(),
+            Err(late) => Poll::Ready(Err(late)),
+        }
     }
 
     fn poll_flush(&mut self, _cx: &mut Context<'_>) -> Poll<io::Result<()>> {
@@ -289,7 +274,14 @@ impl<R: Clock + Drop> AsyncWrite for ClientStream<R> {
     }
 
     // Without it a client that sent more than was read sees a reset after a whole answer.
-    fn poll_shutdown(&mut self, _cx: &mut Context<'_>) -> Poll<io::Result<()>> {
-        Poll::Ready(self.shut_down())
+    fn poll_shutdown(&mut self, cx: &mut Context<'_>) -> Poll<io::Result<()>> {
+        let done = self.shut_down();
+        if !has_to_wait(&done) {
+            return Poll::Ready(done);
+        }
+        match self.waits(Readiness::Readable) {
+            Ok(()) => cx.yield_now(),
+            Err(late) => Poll::Ready(Err(late)),
+        }
     }
 }

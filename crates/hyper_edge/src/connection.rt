@@ -1,135 +1,143 @@
-//! One connection, over whose stream requests are answered.
+//! A connection that the HTTP library serves, and how far it gets.
+
+ghost use Rattle.std.specs.Prelude.{IsSomeAnd};
 
 use crate::date::DateClock;
 use crate::executor::Executor;
-use crate::journal::{Journal, NoJournal, Note};
-use crate::reporting::{Reported, Reporter};
+use crate::handover::{Asked, Handover};
+use crate::pollable::Pollable;
 use crate::service::EdgeService;
-use fetch_workers::Source;
-use futures::future;
-use http::header::{CONNECTION, HeaderValue};
-use http_body::Body;
-use hyper::body::Incoming;
-use hyper::service::service_fn;
-use hyper::{Request, Response, server};
-use page_http::EdgeBody;
-use std::alloc::AllocError;
-use std::sync::atomic::{AtomicBool, Ordering};
+use crate::signals::{Pause, Signals};
+use futures::Future;
+use futures::task::{Context, Poll};
+use hyper::server::conn::http1::Builder;
 use std::sync::{Arc, Wait};
-use std::thread::Threads;
 use std::time::Clock;
-use tokio::io::{AsyncRead, AsyncWrite};
 
-/// Serves one request over one stream, and ends the connection. Anything that goes wrong ends it too: a fault
-/// of the stream, a head that isn't HTTP/1, and running out of memory for the response.
-///
-/// A client may end its input after its request, and still gets whole bodies. What a client sends
-/// after its request is never answered.
-///
-/// Source: RFC 9112, "Persistence" and "Tear-down".
-pub fn serve_io<R, I, S, Q>(rt: &R, executor: &mut Executor, io: I, service: EdgeService<S, Q>)
-where
-    R: Wait + Clock,
-    I: AsyncRead + AsyncWrite,
-    S: Source<Q> + Sync + Drop,
-    Q: Wait + Threads + Clock + Clone + Sync + Drop,
-{
-    serve_journaled(rt, executor, io, service, &NoJournal, None);
-}
-
-/// Serves one request as `serve_io` does, or, over a stream that sets what is given here once a response has
-/// been written, one after another. Each that was answered is reported to the journal, if it is to be.
-pub(crate) fn serve_journaled<R, I, S, Q, J>(
-    rt: &R,
-    executor: &mut Executor,
-    io: I,
-    service: EdgeService<S, Q>,
-    journal: &J,
-    written: Option<Arc<AtomicBool>>,
-)
-where
-    R: Wait + Clock,
-    I: AsyncRead + AsyncWrite,
-    S: Source<Q> + Sync + Drop,
-    Q: Wait + Threads + Clock + Clone + Sync + Drop,
-    J: Journal<R>,
-{
-    let keeps = written.is_some();
-    let reporter = if journal.is_kept() {
-        Reporter::new(rt, service.alloc(), journal, written).ok()
-    } else {
-        None
-    };
-    serve_connection(rt, executor, io, service, keeps, reporter);
-}
-
-// Serves one request, or, if the connection is kept, one after another.
-fn serve_connection<R, I, S, Q, J>(
-    rt: &R,
-    executor: &mut Executor,
-    io: I,
-    service: EdgeService<S, Q>,
+/// How the requests of connections are read and their responses written, by the HTTP library, as a service needs it;
+/// and whether connections are kept for further requests.
+pub(crate) fn http_of<S, R>(
+    service: &EdgeService<S, R>,
     keeps: bool,
-    reporter: Option<Reporter<'_, R, J>>,
-)
+) -> Builder<Option<DateClock<R>>>
 where
-    R: Wait + Clock,
-    I: AsyncRead + AsyncWrite,
-    S: Source<Q> + Sync + Drop,
-    Q: Wait + Threads + Clock + Clone + Sync + Drop,
-    J: Journal<R>,
+    S: Drop,
+    R: Clock + Clone + Drop,
 {
-    let mut http = server::conn::http1::Builder::new(service.alloc(), service.keys());
+    let mut http = Builder::new(service.alloc(), service.keys());
     http.keep_alive(keeps);
     // Without it a long body waits for the client to send more.
     http.half_close(true);
     // The stream has limits of its own.
     http.header_read_timeout(None);
-    let http = http.timer(service.date_clock());
-    let note = match &reporter {
-        Some(reporter) => reporter.share_note().ok(),
-        None => None,
-    };
-    let answer = service_fn(move |request: Request<Incoming<I>>| {
-        future::ready(answered(&service, &request, note.as_deref(), keeps))
-    });
-    let reported = Reported {
-        connection: http.serve_connection(io, answer),
-        reporter,
-    };
-    let _ = executor.pool.run_until(rt, reported);
+    http.timer(service.date_clock())
 }
 
-// The response to a request. Over a connection that is kept it says whether it is the last one: where no further
-// one may be kept, or something of the request's body is left, which nobody reads.
-fn answered<S, Q, B: Body>(
-    service: &EdgeService<S, Q>,
-    request: &Request<B>,
-    note: Option<&Note>,
-    keeps: bool,
-) -> Result<Response<EdgeBody>, AllocError>
-where
-    S: Source<Q> + Sync + Drop,
-    Q: Wait + Threads + Clock + Sync + Drop,
-{
-    let Ok(responded) = service.answer(request, note) else {
-        return Err(AllocError);
-    };
-    let mut response = responded.response;
-    let goes_on = request.body().is_end_stream() && service.may_keep().load(Ordering::SeqCst);
-    if keeps && !goes_on {
-        closes(&mut response)?;
-    }
-    Ok(response)
+/// Why a connection stopped that may be gone on with.
+#[derive(Drop)]
+pub(crate) enum Stop {
+    /// A request has come, and waits for its response.
+    Asked(Asked),
+    /// A response has been written.
+    Written,
+    /// Its client lets it wait.
+    Paused(Pause),
 }
 
-// Says of a response that it is the last one of its connection.
-fn closes(response: &mut Response<EdgeBody>) -> Result<(), AllocError> {
-    match response
-        .headers_mut()
-        .insert(CONNECTION, HeaderValue::from_static("close"))
+/// A connection that may be gone on with.
+#[derive(Drop)]
+pub(crate) struct Connection<F: Future> {
+    future: Pollable<F>,
+    handover: Arc<Handover>,
+    // Without them the connection is never paused, and nobody knows when a response has been written.
+    signals: Option<Arc<Signals>>,
+}
+
+impl<F: Future<Output = hyper::Result<()>>> Connection<F> {
+    /// A connection whose requests are handed over there, and whose stream tells these signals.
+    pub(crate) fn new(
+        future: F,
+        handover: Arc<Handover>,
+        signals: Option<Arc<Signals>>,
+    ) -> Connection<F>
+        requires { F.can_poll future }
     {
-        Ok(_) => Ok(()),
-        Err(_) => Err(AllocError),
+        Connection {
+            future: Pollable::new(future),
+            handover,
+            signals,
+        }
+    }
+
+    /// Where the responses to its requests are given.
+    pub(crate) fn handover(&self) -> &Handover {
+        &self.handover
+    }
+
+    /// Goes on until the connection stops, and says why; `None` once it has ended, or where the executor has no room.
+    pub(crate) fn go_on(
+        self,
+        rt: &impl Wait,
+        executor: &mut Executor,
+    ) -> Option<(Connection<F>, Stop)> {
+        let stretch = Stretch {
+            connection: Some(self),
+        };
+        executor.pool.run_until(rt, stretch).ok()?
+    }
+
+    // Why the connection doesn't go on after a poll, if it doesn't. A pause counts for this poll alone.
+    fn stop(&self) -> Option<Stop> {
+        let pause = match &self.signals {
+            Some(signals) => signals.take_pause(),
+            None => None,
+        };
+        if let Some(asked) = self.handover.take_asked() {
+            return Some(Stop::Asked(asked));
+        }
+        if self.signals.as_ref()?.take_written() {
+            return Some(Stop::Written);
+        }
+        Some(Stop::Paused(pause?))
+    }
+}
+
+// A connection from where it goes on to where it stops.
+#[derive(Drop)]
+struct Stretch<F: Future> {
+    // `None` once it was given back, or has ended.
+    connection: Option<Connection<F>>,
+}
+
+impl<F: Future<Output = hyper::Result<()>>> Future for Stretch<F> {
+    type Output = Option<(Connection<F>, Stop)>;
+
+    ghost needs = { λ s n. IsSomeAnd s.connection (λ c. F.needs c.future.future n) };
+
+    fn poll(&mut self, cx: &mut Context<'_>) -> Poll<Option<(Connection<F>, Stop)>> {
+        let Some(connection) = self.connection.take() else {
+            return Poll::Ready(None);
+        };
+        let Connection {
+            future,
+            handover,
+            signals,
+        } = connection;
+        let mut future = future.into_inner();
+        if let Poll::Ready(_) = future.poll(cx) {
+            return Poll::Ready(None);
+        }
+        let connection = Connection {
+            future: Pollable::new(future),
+            handover,
+            signals,
+        };
+        match connection.stop() {
+            Some(stop) => Poll::Ready(Some((connection, stop))),
+            None => {
+                self.connection = Some(connection);
+                Poll::Pending
+            }
+        }
     }
 }

@@ -12,8 +12,6 @@ use crate::responding::Responded;
 use http::Request;
 use http_body::Body;
 use std::alloc::Global;
-use std::mem;
-use std::sync::{Mutex, Wait};
 use std::time::{Clock, Duration, Instant};
 
 /// What each request that was answered is reported to, by the threads that serve.
@@ -52,55 +50,38 @@ pub struct RequestRecord {
     pub body: u64,
     /// The answers that the page asked the source for, its own among them; 0 for a refusal.
     pub answers: u64,
-    /// The microseconds from the request's head to the end of the response, or of the connection if it isn't kept.
+    /// The microseconds from the request's head until its response has been written, or its connection has ended.
     pub micros: u64,
 }
 
-/// Where the service of one connection leaves records of its answers, for whoever reports them.
+/// A request that was answered and is to be reported: when its head had come, and how it was answered.
 #[derive(Drop)]
-pub(crate) struct Note {
-    alloc: Global,
-    left: Mutex<Vec<Left>>,
-}
-
-// What is left of one request: when its head had come, and how it was answered.
-#[derive(Drop)]
-struct Left {
+pub(crate) struct Unreported {
     begun: Instant,
     record: RequestRecord,
 }
 
-impl Note {
-    /// An empty note.
-    pub(crate) fn new(alloc: Global) -> Note {
-        Note {
-            alloc,
-            left: Mutex::new(Vec::new(alloc)),
-        }
-    }
-
-    /// Leaves a record of how a request was answered whose head had come at `begun`. What there is no memory
-    /// for isn't reported.
-    pub(crate) fn leave<R: Wait, B>(
-        &self,
-        rt: &R,
+impl Unreported {
+    /// A request whose head had come at `begun`.
+    pub(crate) fn new<B>(
+        alloc: Global,
         begun: Instant,
         request: &Request<B>,
         responded: &Responded,
-    ) {
-        let record = record_of(self.alloc, request, responded);
-        let _ = self.left.lock(rt).push(Left { begun, record });
+    ) -> Unreported {
+        Unreported {
+            begun,
+            record: record_of(alloc, request, responded),
+        }
     }
 
-    /// Reports the records to a journal, now that the responses have been written or the connection has ended.
-    pub(crate) fn tell<R: Wait + Clock, J: Journal<R>>(&self, rt: &R, journal: &J) {
-        let left = mem::replace(&mut *self.left.lock(rt), Vec::new(self.alloc));
-        for Left { begun, mut record } in left {
-            if let Ok(taken) = begun.elapsed(rt) {
-                record.micros = micros_of(taken);
-            }
-            journal.served(rt, &record);
+    /// Reports it to a journal, now that the response has been written or the connection has ended.
+    pub(crate) fn report<R: Clock, J: Journal<R>>(self, rt: &R, journal: &J) {
+        let Unreported { begun, mut record } = self;
+        if let Ok(taken) = begun.elapsed(rt) {
+            record.micros = micros_of(taken);
         }
+        journal.served(rt, &record);
     }
 }
 

@@ -1,12 +1,26 @@
-//! Every decision about the threads that serve: who may accept, when one more is started, and
-//! when the work has ended.
+//! Every decision about connections and the threads that serve them: who may accept, when one more thread is
+//! started, and when the work has ended.
 
-ghost use Rattle.std.specs.Prelude.{◌≡◌, ◌↔◌, ◌-◌, false, true, IsTrue, MatchBool};
+ghost use Rattle.std.specs.Prelude.{◌≡◌, ◌↔◌, ◌<◌, None, Some, IsTrue, IsFalse, MatchBool};
 ghost use Rattle.hyper_edge.specs.Roster as spec;
+ghost use Rattle.hyper_edge.specs.Staff.{HasSpare, WantsThread};
+ghost use Rattle.hyper_edge.specs.declared.roster.Admission.TheVariants as admission;
 ghost use Rattle.hyper_edge.specs.declared.roster.ServeEnd.TheVariants as ended;
+ghost use Rattle.hyper_edge.specs.declared.roster.Work.TheVariants as kind;
+
+use crate::staff::Staff;
 
 /// This many failed accepts in succession end a server.
 pub(crate) const MAX_FAILED: u32 = 16;
+
+/// How many clients a server serves.
+#[derive(Clone, Copy, Debug, PartialEq, Eq)]
+pub struct Capacity {
+    /// How many threads accept and serve, and how many more go on with clients who waited.
+    pub threads: u16,
+    /// How many connections there may be that were accepted and haven't ended; at least one.
+    pub connections: u32,
+}
 
 /// How a server ended.
 #[derive(Clone, Copy, Debug, PartialEq, Eq)]
@@ -17,77 +31,135 @@ pub enum ServeEnd {
     AcceptsFailed,
 }
 
+/// Whether a thread may accept.
+#[derive(Clone, Copy, Debug, PartialEq, Eq)]
+pub(crate) enum Admission {
+    /// It may, and its accept is counted.
+    Accepts,
+    /// Not now: as many others accept as there is room for connections.
+    Waits,
+    /// There is no room for any connection.
+    IsFull,
+    /// No more accepts are begun.
+    IsOver,
+}
+
+/// What a thread is started for.
+#[derive(Clone, Copy, Debug, PartialEq, Eq)]
+pub(crate) enum Work {
+    /// To accept and to serve.
+    Accepting,
+    /// To go on with clients who waited.
+    Resuming,
+}
+
 /// The state under the lock that serving threads share.
 #[derive(Drop)]
 pub(crate) struct Roster {
-    // How many accepts nobody has begun yet.
+    // How many accepts nobody has begun yet, and how many have been begun and haven't ended.
     left: u64,
-    // How many threads there are, how many there may be, and how many of them serve.
-    threads: u16,
-    most: u16,
-    serving: u16,
+    begun: u32,
     // The accepts that have failed since the last that succeeded.
     failed: u32,
-    // One more thread is to be started.
-    wanted: bool,
+    // How many connections were accepted and haven't ended, and how many there may be.
+    held: u32,
+    room: u32,
+    accepting: Staff,
+    resuming: Staff,
 }
 
 impl Roster {
-    /// For this many accepts, by at most this many threads, of which the first is wanted.
-    pub(crate) fn new(count: u64, most: u16) -> Roster
-        ensures { result ≡ spec.opened count most }
+    /// For this many accepts. The first thread is wanted.
+    pub(crate) fn new(count: u64, capacity: Capacity) -> Roster
+        ensures { result ≡ spec.opened count capacity }
     {
         Roster {
             left: count,
-            threads: 0,
-            most,
-            serving: 0,
+            begun: 0,
             failed: 0,
-            wanted: true,
+            held: 0,
+            room: capacity.connections.max(1),
+            accepting: Staff::new(capacity.threads, true),
+            resuming: Staff::new(capacity.threads, false),
         }
     }
 
-    /// Lets a thread accept, if there is an accept left to make. A thread that waits in an accept has already
-    /// counted it: so nobody waits once all are made.
-    pub(crate) fn may_accept(&mut self) -> bool
-        ensures { MatchBool result
-            (spec.IsOpen self.old × (self.new ≡ spec.begun self.old))
-            (¬ (spec.IsOpen self.old) × (self.new ≡ self.old)) }
+    /// Lets a thread accept, if there is an accept left to make and room for the connection. A thread that waits in an
+    /// accept has already counted it: so nobody waits once all are made, nor is one more connection accepted than
+    /// there is room for.
+    pub(crate) fn may_accept(&mut self) -> Admission
+        ensures over { ¬ (spec.IsOpen self.old) → (result ≡ admission.IsOver) × (self.new ≡ self.old) }
+        ensures accepts { spec.IsOpen self.old → spec.HasRoom self.old → (result ≡ admission.Accepts) × (self.new ≡ spec.begun self.old) }
+        ensures full { spec.IsOpen self.old → ¬ (spec.HasRoom self.old) → self.old.begun ≡ 0 → (result ≡ admission.IsFull) × (self.new ≡ self.old) }
+        ensures waits { spec.IsOpen self.old → ¬ (spec.HasRoom self.old) → 0 < self.old.begun → (result ≡ admission.Waits) × (self.new ≡ self.old) }
     {
         if !self.is_open() {
-            return false;
+            return Admission::IsOver;
+        }
+        if !self.has_room() {
+            return if self.begun == 0 {
+                Admission::IsFull
+            } else {
+                Admission::Waits
+            };
         }
         self.left -= 1;
-        true
+        self.begun = self.begun.saturating_add(1);
+        Admission::Accepts
     }
 
-    /// A thread has accepted, and serves from now on. Returns true if one more is wanted because of it.
+    /// A thread has accepted a connection, and serves it from now on. Returns true if one more thread is wanted
+    /// because of it.
     pub(crate) fn accepted(&mut self) -> bool
         ensures { MatchBool result
-            (spec.WantsThread (spec.succeeded self.old) × (self.new ≡ record (spec.succeeded self.old) { wanted = true }))
-            (¬ (spec.WantsThread (spec.succeeded self.old)) × (self.new ≡ spec.succeeded self.old)) }
+            (WantsThread (spec.succeeded self.old).accepting × (self.new ≡ spec.asked_to_accept (spec.succeeded self.old)))
+            (¬ (WantsThread (spec.succeeded self.old).accepting) × (self.new ≡ spec.succeeded self.old)) }
     {
         self.failed = 0;
-        self.serving = self.serving.saturating_add(1);
-        if !self.wants_thread() {
-            return false;
-        }
-        self.wanted = true;
-        true
+        self.begun = self.begun.saturating_sub(1);
+        self.held = self.held.saturating_add(1);
+        self.accepting.begins();
+        self.accepting.ask()
     }
 
-    /// Whether connections may be kept for further requests: a thread is left for other clients, or may be started.
-    pub(crate) fn may_keep(&self) -> bool
-        ensures { IsTrue result ↔ spec.MayKeep self.now }
-    {
-        self.serving < self.most
-    }
-
-    /// A thread has served.
+    /// The thread accepts again.
     pub(crate) fn served(&mut self)
         ensures { self.new ≡ spec.has_served self.old }
     {
-        self.serving = self.serving.saturating_sub(1);
+        self.accepting.ends();
+    }
+
+    /// A connection is parked. Returns true if one more thread is wanted that may go on with it.
+    pub(crate) fn parked(&mut self) -> bool
+        ensures { MatchBool result
+            (WantsThread self.old.resuming × (self.new ≡ spec.asked_to_resume self.old))
+            (¬ (WantsThread self.old.resuming) × (self.new ≡ self.old)) }
+    {
+        self.resuming.ask()
+    }
+
+    /// A thread goes on with a connection that was parked. Returns true if one more thread is wanted because of it.
+    pub(crate) fn resumed(&mut self) -> bool
+        ensures { MatchBool result
+            (WantsThread (spec.resumed self.old).resuming × (self.new ≡ spec.asked_to_resume (spec.resumed self.old)))
+            (¬ (WantsThread (spec.resumed self.old).resuming) × (self.new ≡ spec.resumed self.old)) }
+    {
+        self.resuming.begins();
+        self.resuming.ask()
+    }
+
+    /// The thread waits for the next one.
+    pub(crate) fn rested(&mut self)
+        ensures { self.new ≡ spec.rested self.old }
+    {
+        self.resuming.ends();
+    }
+
+    /// A connection has ended.
+    pub(crate) fn ended(&mut self)
+        ensures { self.new ≡ spec.let_go self.old }
+    {
+        self.held = self.held.saturating_sub(1);
     }
 
     /// An accept has failed, and is still to be made. Returns true if it was one failure too many.
@@ -96,31 +168,42 @@ impl Roster {
         ensures failed { IsTrue result ↔ spec.HasFailed self.new }
     {
         self.left = self.left.saturating_add(1);
+        self.begun = self.begun.saturating_sub(1);
         self.failed = self.failed.saturating_add(1);
         self.has_failed()
     }
 
-    /// Counts one more thread, exactly if one is wanted.
-    pub(crate) fn take_wanted(&mut self) -> bool
-        ensures { MatchBool result
-            (IsTrue self.old.wanted × (self.new ≡ spec.counted self.old))
-            ((self.old.wanted ≡ false) × (self.new ≡ self.old)) }
+    /// Counts one more thread, if one was asked for, and says for what.
+    pub(crate) fn take_wanted(&mut self) -> Option<Work>
+        ensures accepting { IsTrue self.old.accepting.wanted → (result ≡ Some kind.Accepting) × (self.new ≡ spec.counted_to_accept self.old) }
+        ensures resuming { IsFalse self.old.accepting.wanted → IsTrue self.old.resuming.wanted → (result ≡ Some kind.Resuming) × (self.new ≡ spec.counted_to_resume self.old) }
+        ensures none { IsFalse self.old.accepting.wanted → IsFalse self.old.resuming.wanted → (result ≡ None) × (self.new ≡ self.old) }
     {
-        if !self.wanted {
-            return false;
+        if self.accepting.take_wanted() {
+            Some(Work::Accepting)
+        } else if self.resuming.take_wanted() {
+            Some(Work::Resuming)
+        } else {
+            None
         }
-        self.wanted = false;
-        self.threads = self.threads.saturating_add(1);
-        true
     }
 
-    /// Called when a thread could not be started. Returns true if no thread is left.
-    pub(crate) fn not_started(&mut self) -> bool
-        ensures uncounted { self.new ≡ spec.uncounted self.old }
-        ensures alone { IsTrue result ↔ (self.new.threads ≡ 0) }
+    /// Called when a thread could not be started. Returns true if there is none for that work.
+    pub(crate) fn not_started(&mut self, work: Work) -> bool
+        ensures accepting { work ≡ kind.Accepting → (self.new ≡ spec.not_accepting self.old) × (IsTrue result ↔ (self.new.accepting.threads ≡ 0)) }
+        ensures resuming { work ≡ kind.Resuming → (self.new ≡ spec.not_resuming self.old) × (IsTrue result ↔ (self.new.resuming.threads ≡ 0)) }
     {
-        self.threads = self.threads.saturating_sub(1);
-        self.threads == 0
+        match work {
+            Work::Accepting => self.accepting.not_started(),
+            Work::Resuming => self.resuming.not_started(),
+        }
+    }
+
+    /// Whether a thread that serves may wait a moment for its client: not all threads that there may be are serving.
+    pub(crate) fn may_wait(&self) -> bool
+        ensures { IsTrue result ↔ HasSpare self.now.accepting }
+    {
+        self.accepting.has_spare()
     }
 
     /// Whether no more accepts are begun.
@@ -128,6 +211,20 @@ impl Roster {
         ensures { IsTrue result ↔ ¬ (spec.IsOpen self.now) }
     {
         !self.is_open()
+    }
+
+    /// Whether no accept is under way, and each connection has ended.
+    pub(crate) fn is_empty(&self) -> bool
+        ensures { IsTrue result ↔ spec.IsEmpty self.now }
+    {
+        self.begun == 0 && self.held == 0
+    }
+
+    /// Whether nothing is left to be done.
+    pub(crate) fn is_done(&self) -> bool
+        ensures { IsTrue result ↔ spec.IsDone self.now }
+    {
+        self.is_over() && self.is_empty()
     }
 
     /// How the server has ended.
@@ -147,15 +244,15 @@ impl Roster {
         0 < self.left && self.failed < MAX_FAILED
     }
 
+    fn has_room(&self) -> bool
+        ensures { IsTrue result ↔ spec.HasRoom self.now }
+    {
+        u64::from(self.held) + u64::from(self.begun) < u64::from(self.room)
+    }
+
     fn has_failed(&self) -> bool
         ensures { IsTrue result ↔ spec.HasFailed self.now }
     {
         MAX_FAILED <= self.failed
-    }
-
-    fn wants_thread(&self) -> bool
-        ensures { IsTrue result ↔ spec.WantsThread self.now }
-    {
-        !self.wanted && self.threads <= self.serving && self.threads < self.most
     }
 }

@@ -5,22 +5,20 @@ ghost use Rattle.hyper_edge.specs.Lines.{line, lines_of};
 ghost use Rattle.hyper_edge.specs.Methods.{answered_as};
 
 use crate::date::DateClock;
-use crate::journal::Note;
 use crate::responding::{RequestHead, Responded, no_room, respond_with_log};
 use edge_types::NoMemory;
 use fetch_workers::{Assembling, Source};
 use http::header::HeaderValue;
 use http::{HeaderMap, Request, Uri};
 use page_http::Field;
-use std::alloc::{AllocError, Global};
+use std::alloc::Global;
 use std::borrow::CowStr;
 use std::hash::RandomState;
 use std::io;
 use std::random::RandomSource;
-use std::sync::atomic::AtomicBool;
 use std::sync::{Arc, Wait};
 use std::thread::Threads;
-use std::time::{Clock, Instant};
+use std::time::Clock;
 
 /// What answers requests for pages from a source, with a runtime of its own.
 #[derive(Drop)]
@@ -30,8 +28,6 @@ pub struct EdgeService<S, R> {
     source: Arc<S>,
     how: Assembling,
     answers_head: bool,
-    // Whether connections may be kept for further requests at the moment. Whoever serves them says so.
-    may_keep: Arc<AtomicBool>,
     // The hash keys of the maps of fields.
     keys: RandomState,
 }
@@ -48,14 +44,12 @@ impl<S: Drop, R: Drop> EdgeService<S, R> {
         R: RandomSource,
     {
         let keys = RandomState::new(&rt)?;
-        let may_keep = Arc::new(alloc, AtomicBool::new(false))?;
         Ok(EdgeService {
             rt,
             alloc,
             source,
             how,
             answers_head: false,
-            may_keep,
             keys,
         })
     }
@@ -75,36 +69,15 @@ impl<S: Drop, R: Drop> EdgeService<S, R> {
     pub(crate) fn keys(&self) -> RandomState {
         self.keys
     }
-
-    pub(crate) fn may_keep(&self) -> &AtomicBool {
-        &self.may_keep
-    }
 }
 
 impl<S, R> EdgeService<S, R>
 where
     S: Source<R> + Sync,
-    R: Wait + Threads + Clock + Sync,
+    R: Wait + Threads + Sync,
 {
-    // The response to a request; if there is a note, a record is left there too.
-    pub(crate) fn answer<B>(
-        &self,
-        request: &Request<B>,
-        note: Option<&Note>,
-    ) -> Result<Responded, NoMemory> {
-        let Some(note) = note else {
-            return self.respond_to(request);
-        };
-        let begun = Instant::now(&self.rt);
-        let responded = self.respond_to(request)?;
-        if let Ok(begun) = begun {
-            note.leave(&self.rt, begun, request, &responded);
-        }
-        Ok(responded)
-    }
-
-    // The response to a request, from a copy of its head; 503 if there is no room for the copy.
-    fn respond_to<B>(&self, request: &Request<B>) -> Result<Responded, NoMemory> {
+    /// The response to a request, from a copy of its head; 503 if there is no room for the copy.
+    pub(crate) fn answer<B>(&self, request: &Request<B>) -> Result<Responded, NoMemory> {
         let alloc = self.alloc;
         let Ok(fields) = fields_of(alloc, request.headers()) else {
             return no_room(alloc);
@@ -125,19 +98,6 @@ impl<S: Drop, R: Clone + Drop> EdgeService<S, R> {
     /// The clock for the dates of responses, if there is memory for one more.
     pub(crate) fn date_clock(&self) -> Option<DateClock<R>> {
         Some(DateClock::new(self.rt.clone().ok()?))
-    }
-
-    /// A second handle to the same service, for another connection.
-    pub(crate) fn share(&self) -> Result<EdgeService<S, R>, AllocError> {
-        Ok(EdgeService {
-            rt: self.rt.clone()?,
-            alloc: self.alloc,
-            source: self.source.clone()?,
-            how: self.how,
-            answers_head: self.answers_head,
-            may_keep: self.may_keep.clone()?,
-            keys: self.keys,
-        })
     }
 }
 

@@ -1,204 +1,141 @@
 //! The threads that serve.
 
+ghost use Rattle.hyper_edge.specs.Opening.{GivesPollable};
+
 use crate::accept::Accept;
-use crate::connection::serve_journaled;
-use crate::executor::Executor;
+use crate::connection::http_of;
+use crate::handover::{Handover, HandsOver};
 use crate::journal::Journal;
-use crate::roster::{Roster, ServeEnd};
+use crate::roster::{Capacity, ServeEnd, Work};
 use crate::runtime::ServerRuntime;
+use crate::server::Server;
 use crate::service::EdgeService;
+use crate::serving::Serving;
 use fetch_workers::Source;
-use std::sync::atomic::{AtomicBool, Ordering};
-use std::sync::{Arc, Condvar, Mutex, Wait};
+use futures::Future;
+use std::sync::Arc;
 use std::thread;
 use tokio::io::{AsyncRead, AsyncWrite};
 
-/// A roster under its lock. Nothing is accepted or served under it.
-#[derive(Drop)]
-struct SharedRoster {
-    roster: Mutex<Roster>,
-    // A thread is wanted, or the work is over.
-    moved: Condvar,
-}
-
-impl SharedRoster {
-    fn may_accept(&self, rt: &impl Wait) -> bool {
-        let mut roster = self.roster.lock(rt);
-        let may = roster.may_accept();
-        let over = roster.is_over();
-        drop(roster);
-        if over {
-            self.moved.notify_all();
-        }
-        may
-    }
-
-    // Leaves there whether connections may be kept from now on, and so does `served`.
-    fn accepted(&self, rt: &impl Wait, may_keep: &AtomicBool) {
-        let mut roster = self.roster.lock(rt);
-        let is_wanted = roster.accepted();
-        may_keep.store(roster.may_keep(), Ordering::SeqCst);
-        drop(roster);
-        if is_wanted {
-            self.moved.notify_all();
-        }
-    }
-
-    fn served(&self, rt: &impl Wait, may_keep: &AtomicBool) {
-        let mut roster = self.roster.lock(rt);
-        roster.served();
-        may_keep.store(roster.may_keep(), Ordering::SeqCst);
-    }
-
-    fn accept_failed(&self, rt: &impl Wait) -> bool {
-        self.roster.lock(rt).accept_failed()
-    }
-
-    fn not_started(&self, rt: &impl Wait) -> bool {
-        self.roster.lock(rt).not_started()
-    }
-
-    // Waits until one more thread is wanted, and counts it. `false` means that none ever will be.
-    fn wait_for_wanted(&self, rt: &impl Wait) -> bool {
-        let mut roster = self.roster.lock(rt);
-        for _ in rt.forever() {
-            if roster.is_over() {
-                return false;
-            }
-            if roster.take_wanted() {
-                return true;
-            }
-            roster = self.moved.wait(rt, roster);
-        }
-        unreachable!()
-    }
-}
-
-/// Serves connections with at most `threads` threads, and at least one, until `count` of them have been
-/// accepted and have ended.
+/// Serves connections with threads, until `count` of them have been accepted and have ended.
 ///
-/// Each thread accepts for itself, and serves what it accepted; as many connections as there may be
-/// threads are served at once, and no more are accepted. One more thread is started only once
-/// all existing ones are serving; if it can't be started, the existing ones go on, and if there
-/// are none the calling thread serves alone. A failed accept is skipped, and doesn't add to `count`;
-/// sixteen in succession end the server.
+/// Each thread accepts for itself, and serves what it accepted. One more is started only once all existing ones are
+/// serving, up to `capacity.threads`, and at least one; if it can't be started, the existing ones go on, and if there
+/// are none the calling thread serves alone. A connection that can't go on, since its client sends or receives nothing,
+/// is parked, and holds no thread: as soon as it can, one of as many further threads goes on with it, which are
+/// started in the same way.
 ///
-/// Where the acceptor keeps connections, each serves one request after another, as long as not all threads
-/// that there may be are serving: then each response says that it is the last one of its connection.
+/// No more than `capacity.connections` connections are accepted that haven't ended. Where there is no room for one
+/// more, the one that has been kept without a further request for longest is ended.
+///
+/// A failed accept is skipped, and doesn't add to `count`; sixteen in succession end the server.
+///
+/// Where the acceptor keeps connections, each serves one request after another.
 ///
 /// Each request that was answered is reported to the journal by the thread that served it, once its
 /// response has been written or its connection has ended. What never became a request, or what the HTTP
 /// library answered on its own, isn't reported.
 ///
 /// Our profile.
-pub fn serve_accepts<R, A, S, J>(
-    rt: &R,
-    acceptor: &A,
-    service: &EdgeService<S, R>,
-    journal: &J,
-    threads: u16,
+pub fn serve_accepts<'a, R, A, S, J>(
+    rt: &'a R,
+    acceptor: &'a A,
+    service: &'a EdgeService<S, R>,
+    journal: &'a J,
+    capacity: Capacity,
     count: u64,
 ) -> ServeEnd
 where
-    R: ServerRuntime + Sync,
+    R: ServerRuntime + Send + Sync,
     A: Accept<R> + Sync,
     A::Io: AsyncRead + AsyncWrite,
     S: Source<R> + Send + Sync + Drop,
     J: Journal<R> + Sync,
 {
-    let shared = SharedRoster {
-        roster: Mutex::new(Roster::new(count, threads)),
-        moved: Condvar::new(),
+    let keeps = acceptor.keeps();
+    let serving = Serving {
+        rt,
+        service,
+        journal,
+        keeps,
     };
-    start_all(rt, acceptor, service, journal, &shared);
-    shared.roster.into_inner().end()
+    let http = http_of(service, keeps);
+    let opens = |io: A::Io, handover: Arc<Handover>| http.serve_connection(
+        io,
+        HandsOver { handover },
+    );
+    serve_opened(acceptor, serving, &opens, capacity, count)
+}
+
+// Serves the connections that are made of what the acceptor gives.
+fn serve_opened<'a, R, A, S, J, F, M>(
+    acceptor: &'a A,
+    serving: Serving<'a, R, S, J>,
+    opens: &M,
+    capacity: Capacity,
+    count: u64,
+) -> ServeEnd
+where
+    R: ServerRuntime + Send + Sync,
+    A: Accept<R> + Sync,
+    S: Source<R> + Send + Sync + Drop,
+    J: Journal<R> + Sync,
+    F: Future<Output = hyper::Result<()>> + Send,
+    M: Fn(A::Io, Arc<Handover>) -> F + Sync,
+    requires callable { M.IsAlwaysCallable opens.now }
+    requires opened { GivesPollable (M.post opens.now) F.can_poll }
+{
+    let rt = serving.rt;
+    let server = Server::new(acceptor, serving, capacity, count);
+    start_all(rt, &server, opens);
+    server.end()
 }
 
 // Starts threads as they are wanted, and joins them.
-fn start_all<R, A, S, J>(
-    rt: &R,
-    acceptor: &A,
-    service: &EdgeService<S, R>,
-    journal: &J,
-    shared: &SharedRoster,
-)
+fn start_all<R, A, S, J, F, M>(rt: &R, server: &Server<'_, R, A, S, J, F>, opens: &M)
 where
-    R: ServerRuntime + Sync,
+    R: ServerRuntime + Send + Sync,
     A: Accept<R> + Sync,
-    A::Io: AsyncRead + AsyncWrite,
     S: Source<R> + Send + Sync + Drop,
     J: Journal<R> + Sync,
+    F: Future<Output = hyper::Result<()>> + Send,
+    M: Fn(A::Io, Arc<Handover>) -> F + Sync,
+    requires callable { M.IsAlwaysCallable opens.now }
+    requires opened { GivesPollable (M.post opens.now) F.can_poll }
 {
-    let is_alone = thread::scope(thread::scope_env(), rt, |scope| {
-        for _ in rt.forever() {
-            if !shared.wait_for_wanted(rt) {
-                return false;
+    let is_alone = thread::scope(
+        thread::scope_env(),
+        rt,
+        |scope|
+            requires callable { M.IsAlwaysCallable opens.now }
+            requires opened { GivesPollable (M.post opens.now) F.can_poll }
+        {
+            for _ in rt.forever() {
+                let Some(work) = server.roster.wait_for_wanted(rt) else {
+                    return false;
+                };
+                let started = match work {
+                    Work::Accepting => scope
+                        .spawn(
+                            move ||
+                                requires callable { M.IsAlwaysCallable opens.now }
+                                requires opened { GivesPollable (M.post opens.now) F.can_poll }
+                            { server.accept_all(opens) },
+                        )
+                        .is_ok(),
+                    Work::Resuming => scope.spawn(move || server.resume_all()).is_ok(),
+                };
+                if !started && server.roster.not_started(rt, work) {
+                    match work {
+                        Work::Accepting => return true,
+                        Work::Resuming => server.resume_all(),
+                    }
+                }
             }
-            let started = scope.spawn(move || work(rt, acceptor, service, journal, shared));
-            if started.is_err() && shared.not_started(rt) {
-                return true;
-            }
-        }
-        unreachable!()
-    });
+            unreachable!()
+        },
+    );
     if is_alone {
-        work(rt, acceptor, service, journal, shared);
-    }
-}
-
-// What one thread does: it accepts and serves as long as there are accepts left to make.
-fn work<R, A, S, J>(
-    rt: &R,
-    acceptor: &A,
-    service: &EdgeService<S, R>,
-    journal: &J,
-    shared: &SharedRoster,
-)
-where
-    R: ServerRuntime + Sync,
-    A: Accept<R>,
-    A::Io: AsyncRead + AsyncWrite,
-    S: Source<R> + Sync + Drop,
-    J: Journal<R>,
-{
-    let mut executor = None;
-    for _ in rt.forever() {
-        if !shared.may_accept(rt) {
-            return;
-        }
-        let Some(io) = acceptor.accept(rt) else {
-            if shared.accept_failed(rt) {
-                acceptor.end(rt);
-            }
-            continue;
-        };
-        shared.accepted(rt, service.may_keep());
-        let written = acceptor.written(&io);
-        serve(rt, &mut executor, io, service, journal, written);
-        shared.served(rt, service.may_keep());
-    }
-    unreachable!()
-}
-
-// Serves a connection; drops it if there is no room for that.
-fn serve<R, I, S, J>(
-    rt: &R,
-    executor: &mut Option<Executor>,
-    io: I,
-    service: &EdgeService<S, R>,
-    journal: &J,
-    written: Option<Arc<AtomicBool>>,
-)
-where
-    R: ServerRuntime + Sync,
-    I: AsyncRead + AsyncWrite,
-    S: Source<R> + Sync + Drop,
-    J: Journal<R>,
-{
-    if executor.is_none() {
-        *executor = Executor::new(rt).ok();
-    }
-    if let (Some(executor), Ok(own)) = (executor, service.share()) {
-        serve_journaled(rt, executor, io, own, journal, written);
+        server.serve_alone(opens);
     }
 }

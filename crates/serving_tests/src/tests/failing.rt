@@ -7,20 +7,26 @@ use super::source_of;
 use fetch_workers::{Assembling, TableSource};
 use futures::task::{Context, Poll};
 use hyper_edge::{
-    Accept, EdgeService, Executor, Journal, NoJournal, RequestRecord, ServeEnd, serve_accepts,
-    serve_io,
+    Accept, Capacity, EdgeService, Executor, Journal, NoJournal, RequestRecord, ServeEnd, Signals,
+    serve_accepts, serve_io,
 };
 use std::alloc::AllocGlobal;
 use std::io;
 use std::io::{ErrorKind, Read};
 use std::process::Abort;
 use std::random::RandomSource;
-use std::sync::atomic::{AtomicBool, AtomicU64, Ordering};
+use std::sync::atomic::{AtomicU64, Ordering};
 use std::sync::{Arc, Wait};
 use std::test::Fail;
 use std::thread::Threads;
 use std::time::Clock;
 use tokio::io::{AsyncRead, AsyncWrite};
+
+// A server of one thread.
+const CAPACITY: Capacity = Capacity {
+    threads: 1,
+    connections: 64,
+};
 
 // What a client sends.
 const ASKED: &[u8] = b"GET /p HTTP/1.1\r\nhost: a.test\r\n\r\n";
@@ -32,7 +38,7 @@ struct Script {
     requests: u64,
     moves: u64,
     written: Arc<AtomicU64>,
-    is_out: Arc<AtomicBool>,
+    signals: Arc<Signals>,
 }
 
 impl Script {
@@ -92,7 +98,7 @@ impl AsyncWrite for Script {
     }
 
     fn poll_flush(&mut self, _cx: &mut Context<'_>) -> Poll<io::Result<()>> {
-        self.is_out.store(true, Ordering::SeqCst);
+        self.signals.wrote();
         Poll::Ready(Ok(()))
     }
 
@@ -123,7 +129,7 @@ where
         requests: 1,
         moves,
         written: count.clone()?,
-        is_out: Arc::new(rt.alloc(), AtomicBool::new(false))?,
+        signals: Arc::new(rt.alloc(), Signals::new())?,
     };
     serve_io(rt, executor, io, service);
     Ok(count.load(Ordering::SeqCst))
@@ -148,7 +154,7 @@ struct Failing {
     fails: u64,
     accepts: AtomicU64,
     written: Arc<AtomicU64>,
-    is_out: Arc<AtomicBool>,
+    signals: Arc<Signals>,
 }
 
 impl<R> Accept<R> for Failing {
@@ -162,7 +168,7 @@ impl<R> Accept<R> for Failing {
             requests: 1,
             moves: 100,
             written: self.written.clone().ok()?,
-            is_out: self.is_out.clone().ok()?,
+            signals: self.signals.clone().ok()?,
         })
     }
 
@@ -180,9 +186,9 @@ where
         fails,
         accepts: AtomicU64::new(0),
         written: Arc::new(rt.alloc(), AtomicU64::new(0))?,
-        is_out: Arc::new(rt.alloc(), AtomicBool::new(false))?,
+        signals: Arc::new(rt.alloc(), Signals::new())?,
     };
-    let end = serve_accepts(rt, &failing, &service, &NoJournal, 1, u64::MAX);
+    let end = serve_accepts(rt, &failing, &service, &NoJournal, CAPACITY, u64::MAX);
     assert!(rt; end == ServeEnd::AcceptsFailed);
     assert!(rt;
         failing.accepts.load(Ordering::SeqCst) == accepts,
@@ -208,7 +214,7 @@ fn sixteen_failed_accepts_end_a_server(rt: HostRuntime) -> Result<(), Fail> {
 struct Keeping {
     moves: u64,
     written: Arc<AtomicU64>,
-    is_out: Arc<AtomicBool>,
+    signals: Arc<Signals>,
 }
 
 impl<R> Accept<R> for Keeping {
@@ -219,12 +225,16 @@ impl<R> Accept<R> for Keeping {
             requests: 3,
             moves: self.moves,
             written: self.written.clone().ok()?,
-            is_out: self.is_out.clone().ok()?,
+            signals: self.signals.clone().ok()?,
         })
     }
 
-    fn written(&self, io: &Script) -> Option<Arc<AtomicBool>> {
-        io.is_out.clone().ok()
+    fn keeps(&self) -> bool {
+        true
+    }
+
+    fn signals(&self, io: &Script) -> Option<Arc<Signals>> {
+        io.signals.clone().ok()
     }
 
     fn end(&self, _rt: &R) {}
@@ -258,12 +268,12 @@ where
     let keeping = Keeping {
         moves,
         written: Arc::new(rt.alloc(), AtomicU64::new(0))?,
-        is_out: Arc::new(rt.alloc(), AtomicBool::new(false))?,
+        signals: Arc::new(rt.alloc(), Signals::new())?,
     };
     let counting = Counting {
         records: AtomicU64::new(0),
     };
-    let end = serve_accepts(rt, &keeping, &service, &counting, 2, 1);
+    let end = serve_accepts(rt, &keeping, &service, &counting, CAPACITY, 1);
     assert!(rt; end == ServeEnd::Served);
     let written = keeping.written.load(Ordering::SeqCst);
     Ok((written, counting.records.load(Ordering::SeqCst)))

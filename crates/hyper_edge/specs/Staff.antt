@@ -1,0 +1,33 @@
+-- When one more thread is wanted for one kind of work.
+use Rattle.std.specs.Prelude.{ℕ, Bool, ◌+◌, ◌-◌, ◌^◌, ◌<◌, ◌≤◌, min, false, IsFalse}
+use Rattle.hyper_edge.specs.declared.staff.Staff.{Staff}
+
+-- no thread yet
+abbrev pub nobody : ℕ → Bool → Staff
+nobody most wanted = record { threads = 0; most = most; busy = 0; wanted = wanted }
+
+-- one more thread is at work
+abbrev pub begun : Staff → Staff
+begun staff = record staff { busy = min (staff.busy + 1) (2 ^ 16 - 1) }
+
+-- one fewer is
+abbrev pub ended : Staff → Staff
+ended staff = record staff { busy = staff.busy - 1 }
+
+-- not all threads that there may be are at work
+abbrev pub HasSpare : Staff → Type 0
+HasSpare staff = staff.busy < staff.most
+
+-- one more thread is wanted: all existing ones are at work, there may be more, and none was asked for
+pub record WantsThread (staff : Staff) : Type 0 where
+  pub quiet : IsFalse staff.wanted
+  pub busy : staff.threads ≤ staff.busy
+  pub few : staff.threads < staff.most
+
+-- a thread that was asked for is counted
+abbrev pub counted : Staff → Staff
+counted staff = record staff { wanted = false; threads = min (staff.threads + 1) (2 ^ 16 - 1) }
+
+-- a thread that was counted could not be started
+abbrev pub uncounted : Staff → Staff
+uncounted staff = record staff { threads = staff.threads - 1 }

@@ -1,0 +1,128 @@
+//! Where connections are whose clients let them wait.
+
+ghost use Rattle.std.specs.Prelude.{◌≡◌, None, IfNone, IfSome, IsSomeAnd};
+ghost use Rattle.slab.specs.Slab.{get};
+
+use crate::signals::Pause;
+use slab::Slab;
+use std::alloc::Global;
+use std::collections::BTreeSet;
+use std::sync::{Mutex, Wait};
+use std::time::Instant;
+
+/// The connections that wait, under a lock. Each is known by its key.
+#[derive(Drop)]
+pub(crate) struct ParkingPlace<T> {
+    lot: Mutex<Lot<T>>,
+}
+
+impl<T: Drop> ParkingPlace<T> {
+    /// An empty one.
+    pub(crate) fn new(alloc: Global) -> ParkingPlace<T> {
+        ParkingPlace {
+            lot: Mutex::new(Lot::new(alloc)),
+        }
+    }
+
+    /// Takes in a connection that can't go on, once `watch` has its key told as soon as it can. Returns false where
+    /// there is no room for it, or it can't be watched: then it is ended.
+    pub(crate) fn park<W: FnOnce(usize) -> bool>(
+        &self,
+        rt: &impl Wait,
+        session: T,
+        pause: Pause,
+        watch: W,
+    ) -> bool
+        requires { W.IsAlwaysCallable watch }
+    {
+        // Under the lock, so that the key is told only once the connection is there.
+        let mut lot = self.lot.lock(rt);
+        let Some(key) = lot.park(session, pause) else {
+            return false;
+        };
+        let is_watched = watch(key);
+        if !is_watched {
+            let _ = lot.take(key);
+        }
+        is_watched
+    }
+
+    /// The connection under a key, if it still waits.
+    pub(crate) fn take(&self, rt: &impl Wait, key: usize) -> Option<T> {
+        self.lot.lock(rt).take(key)
+    }
+
+    /// A connection whose client's time is over by now.
+    pub(crate) fn take_late(&self, rt: &impl Wait, now: Instant) -> Option<T> {
+        self.lot.lock(rt).take_late(now)
+    }
+
+    /// The connection that has been kept without a further request for longest.
+    pub(crate) fn take_idle(&self, rt: &impl Wait) -> Option<T> {
+        self.lot.lock(rt).take_idle()
+    }
+}
+
+// The connections that wait, by their keys.
+#[derive(Drop)]
+struct Lot<T> {
+    parked: Slab<Parked<T>>,
+    // When the time of each is over that has a limit, and its key; and the same of those that are idle.
+    limits: BTreeSet<(Instant, usize)>,
+    idle: BTreeSet<(Instant, usize)>,
+}
+
+#[derive(Drop)]
+struct Parked<T> {
+    session: T,
+    until: Option<Instant>,
+}
+
+impl<T: Drop> Lot<T> {
+    fn new(alloc: Global) -> Lot<T> {
+        Lot {
+            parked: Slab::new(alloc),
+            limits: BTreeSet::new(alloc),
+            idle: BTreeSet::new(alloc),
+        }
+    }
+
+    // The key of a connection that is taken in; `None` where there is no room for it.
+    fn park(&mut self, session: T, pause: Pause) -> Option<usize> {
+        let until = pause.until;
+        let key = self.parked.insert(Parked { session, until }).ok()?;
+        let Some(until) = until else {
+            return Some(key);
+        };
+        let is_listed = self.limits.insert((until, key)).is_ok()
+            && (!pause.is_idle || self.idle.insert((until, key)).is_ok());
+        if is_listed {
+            return Some(key);
+        }
+        let _ = self.take(key);
+        None
+    }
+
+    // The connection under a key, which is there no longer.
+    fn take(&mut self, key: usize) -> Option<T>
+        ensures given { IfSome result (λ session. IsSomeAnd (get self.old.parked key) (λ parked. parked.session ≡ session)) }
+        ensures absent { IfNone result (get self.old.parked key ≡ None) }
+    {
+        let Parked { session, until } = self.parked.try_remove(key)?;
+        if let Some(until) = until {
+            self.limits.remove(&(until, key));
+            self.idle.remove(&(until, key));
+        }
+        Some(session)
+    }
+
+    fn take_late(&mut self, now: Instant) -> Option<T> {
+        let (until, key) = *self.limits.first()?;
+        if until < now { self.take(key) } else { None }
+    }
+
+    fn take_idle(&mut self) -> Option<T> {
+        let (_, key) = *self.idle.first()?;
+        self.take(key)
+    }
+}

@@ -1,0 +1,182 @@
+//! What the threads of a server do.
+
+ghost use Rattle.hyper_edge.specs.Opening.{GivesPollable};
+
+use crate::accept::Accept;
+use crate::executor::Executor;
+use crate::handover::Handover;
+use crate::journal::Journal;
+use crate::parking::ParkingPlace;
+use crate::roster::{Admission, Capacity, Roster, ServeEnd};
+use crate::runtime::ServerRuntime;
+use crate::serving::{Serving, Session};
+use crate::shared_roster::SharedRoster;
+use fetch_workers::Source;
+use futures::Future;
+use std::sync::Arc;
+use std::time::Instant;
+
+/// What the threads share that serve the connections of an acceptor.
+#[derive(Drop)]
+pub(crate) struct Server<'a, R, A, S, J, F: Future> {
+    acceptor: &'a A,
+    serving: Serving<'a, R, S, J>,
+    parked: ParkingPlace<Session<F>>,
+    /// Who works, and who is wanted.
+    pub roster: SharedRoster,
+}
+
+impl<'a, R, A, S, J, F> Server<'a, R, A, S, J, F>
+where
+    R: ServerRuntime + Sync,
+    A: Accept<R>,
+    S: Source<R> + Sync + Drop,
+    J: Journal<R>,
+    F: Future<Output = hyper::Result<()>>,
+{
+    /// A server that accepts `count` connections.
+    pub(crate) fn new(
+        acceptor: &'a A,
+        serving: Serving<'a, R, S, J>,
+        capacity: Capacity,
+        count: u64,
+    ) -> Server<'a, R, A, S, J, F> {
+        Server {
+            acceptor,
+            parked: ParkingPlace::new(serving.rt.alloc()),
+            serving,
+            roster: SharedRoster::new(Roster::new(count, capacity)),
+        }
+    }
+
+    /// How the server has ended.
+    pub(crate) fn end(self) -> ServeEnd {
+        self.roster.end()
+    }
+
+    /// What one thread does: it accepts and serves as long as there are accepts left to make.
+    pub(crate) fn accept_all<M: Fn(A::Io, Arc<Handover>) -> F>(&self, opens: &M)
+        requires callable { M.IsAlwaysCallable opens.now }
+        requires opened { GivesPollable (M.post opens.now) F.can_poll }
+    {
+        let rt = self.serving.rt;
+        let mut executor = None;
+        for _ in rt.forever() {
+            match self.roster.may_accept(rt) {
+                Admission::IsOver => return,
+                Admission::IsFull => self.make_room(),
+                Admission::Waits => self.roster.wait_for_room(rt),
+                Admission::Accepts => self.accept(opens, &mut executor),
+            }
+        }
+    }
+
+    /// What one thread does: it goes on with connections that were parked, until each has ended.
+    pub(crate) fn resume_all(&self) {
+        let rt = self.serving.rt;
+        let mut executor = None;
+        for _ in rt.forever() {
+            if self.roster.is_done(rt) {
+                return;
+            }
+            self.resume(&mut executor);
+        }
+    }
+
+    /// What the calling thread does where no other can be started: it serves one connection after another.
+    pub(crate) fn serve_alone<M: Fn(A::Io, Arc<Handover>) -> F>(&self, opens: &M)
+        requires callable { M.IsAlwaysCallable opens.now }
+        requires opened { GivesPollable (M.post opens.now) F.can_poll }
+    {
+        let rt = self.serving.rt;
+        let mut executor = None;
+        for _ in rt.forever() {
+            if !self.roster.is_empty(rt) {
+                self.resume(&mut executor);
+            } else if self.roster.may_accept(rt) == Admission::Accepts {
+                self.accept(opens, &mut executor);
+            } else {
+                return;
+            }
+        }
+    }
+
+    // Accepts a connection, and serves it.
+    fn accept<M>(&self, opens: &M, executor: &mut Option<Executor>)
+    where
+        M: Fn(A::Io, Arc<Handover>) -> F,
+        requires callable { M.IsAlwaysCallable opens.now }
+        requires opened { GivesPollable (M.post opens.now) F.can_poll }
+    {
+        let rt = self.serving.rt;
+        let Some(io) = self.acceptor.accept(rt) else {
+            if self.roster.accept_failed(rt) {
+                self.acceptor.end(rt);
+            }
+            return;
+        };
+        self.roster.accepted(rt, self.acceptor);
+        let signals = self.acceptor.signals(&io);
+        match self.serving.session(opens, io, signals) {
+            Some(session) => self.go_on(session, executor),
+            None => self.roster.ended(rt),
+        }
+        self.roster.served(rt, self.acceptor);
+    }
+
+    // Goes on with a connection that was parked, if one can go on within a moment.
+    fn resume(&self, executor: &mut Option<Executor>) {
+        let Some(session) = self.next() else {
+            return;
+        };
+        self.roster.resumed(self.serving.rt);
+        self.go_on(session, executor);
+        self.roster.rested(self.serving.rt);
+    }
+
+    // One whose client's time is over, which it finds out by itself; or one whose socket is ready.
+    fn next(&self) -> Option<Session<F>> {
+        let rt = self.serving.rt;
+        let now = Instant::now(rt).ok()?;
+        if let Some(late) = self.parked.take_late(rt, now) {
+            return Some(late);
+        }
+        let key = self.acceptor.ready(rt)?;
+        self.parked.take(rt, key)
+    }
+
+    // Serves a connection until it has ended or is parked. Without room for that, it ends.
+    fn go_on(&self, session: Session<F>, executor: &mut Option<Executor>) {
+        let rt = self.serving.rt;
+        if executor.is_none() {
+            *executor = Executor::new(rt).ok();
+        }
+        let waits = match executor {
+            Some(executor) => self.serving.serve(session, executor),
+            None => None,
+        };
+        let is_parked = match waits {
+            Some((session, pause)) => self
+                .parked
+                .park(rt, session, pause, |key| self.acceptor.watch(key, &pause)),
+            None => false,
+        };
+        if is_parked {
+            self.roster.parked(rt);
+        } else {
+            self.roster.ended(rt);
+        }
+    }
+
+    // Ends the connection that has been idle for longest; if there is none, waits.
+    fn make_room(&self) {
+        let rt = self.serving.rt;
+        match self.parked.take_idle(rt) {
+            Some(idle) => {
+                drop(idle);
+                self.roster.ended(rt);
+            }
+            None => self.roster.wait_for_room(rt),
+        }
+    }
+}

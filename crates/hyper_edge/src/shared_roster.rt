@@ -1,0 +1,128 @@
+//! A roster that threads share.
+
+use crate::accept::Accept;
+use crate::roster::{Admission, Roster, ServeEnd, Work};
+use std::sync::{Condvar, CondvarTimeouts, Mutex, Wait};
+use std::time::{Clock, Duration};
+
+// For how many milliseconds at most a thread waits before it looks again whether there is room for a connection.
+const TICK_MILLIS: u64 = 100;
+
+/// A roster under its lock. Nothing is accepted or served under it.
+#[derive(Drop)]
+pub(crate) struct SharedRoster {
+    roster: Mutex<Roster>,
+    // A thread is wanted, or the work is done.
+    moved: Condvar,
+    // There may be room for a connection.
+    room: Condvar,
+}
+
+impl SharedRoster {
+    pub(crate) fn new(roster: Roster) -> SharedRoster {
+        SharedRoster {
+            roster: Mutex::new(roster),
+            moved: Condvar::new(),
+            room: Condvar::new(),
+        }
+    }
+
+    pub(crate) fn may_accept(&self, rt: &impl Wait) -> Admission {
+        self.roster.lock(rt).may_accept()
+    }
+
+    /// Tells the acceptor whether streams may block for a moment from now on, and so does `served`.
+    pub(crate) fn accepted<R: Wait, A: Accept<R>>(&self, rt: &R, acceptor: &A) {
+        let mut roster = self.roster.lock(rt);
+        let is_wanted = roster.accepted();
+        acceptor.set_may_wait(roster.may_wait());
+        drop(roster);
+        self.tell(is_wanted);
+    }
+
+    pub(crate) fn served<R: Wait, A: Accept<R>>(&self, rt: &R, acceptor: &A) {
+        let mut roster = self.roster.lock(rt);
+        roster.served();
+        acceptor.set_may_wait(roster.may_wait());
+    }
+
+    pub(crate) fn accept_failed(&self, rt: &impl Wait) -> bool {
+        let mut roster = self.roster.lock(rt);
+        let is_over = roster.accept_failed();
+        let is_done = roster.is_done();
+        drop(roster);
+        self.tell(is_done);
+        is_over
+    }
+
+    /// If the connection is an idle one, it may be what makes room.
+    pub(crate) fn parked(&self, rt: &impl Wait) {
+        let is_wanted = self.roster.lock(rt).parked();
+        self.tell(is_wanted);
+        self.room.notify_one();
+    }
+
+    pub(crate) fn resumed(&self, rt: &impl Wait) {
+        let is_wanted = self.roster.lock(rt).resumed();
+        self.tell(is_wanted);
+    }
+
+    pub(crate) fn rested(&self, rt: &impl Wait) {
+        self.roster.lock(rt).rested();
+    }
+
+    pub(crate) fn ended(&self, rt: &impl Wait) {
+        let mut roster = self.roster.lock(rt);
+        roster.ended();
+        let is_done = roster.is_done();
+        drop(roster);
+        self.tell(is_done);
+        self.room.notify_one();
+    }
+
+    pub(crate) fn not_started(&self, rt: &impl Wait, work: Work) -> bool {
+        self.roster.lock(rt).not_started(work)
+    }
+
+    pub(crate) fn is_done(&self, rt: &impl Wait) -> bool {
+        self.roster.lock(rt).is_done()
+    }
+
+    pub(crate) fn is_empty(&self, rt: &impl Wait) -> bool {
+        self.roster.lock(rt).is_empty()
+    }
+
+    /// Waits until there may be room for a connection, or a moment has passed.
+    pub(crate) fn wait_for_room<R: Wait + Clock>(&self, rt: &R) {
+        let roster = self.roster.lock(rt);
+        let tick = Duration::from_millis(TICK_MILLIS);
+        let _ = self.room.wait_timeout(rt, roster, tick);
+    }
+
+    /// Waits until one more thread is wanted, and counts it. `None` means that none ever will be.
+    pub(crate) fn wait_for_wanted(&self, rt: &impl Wait) -> Option<Work> {
+        let mut roster = self.roster.lock(rt);
+        for _ in rt.forever() {
+            if roster.is_done() {
+                return None;
+            }
+            if let Some(work) = roster.take_wanted() {
+                return Some(work);
+            }
+            roster = self.moved.wait(rt, roster);
+        }
+        unreachable!()
+    }
+
+    /// How the server has ended.
+    pub(crate) fn end(self) -> ServeEnd {
+        self.roster.into_inner().end()
+    }
+
+    // Wakes who starts threads, if there is a reason.
+    fn tell(&self, has_moved: bool) {
+        if has_moved {
+            self.moved.notify_all();
+        }
+    }
+}

@@ -1,0 +1,67 @@
+//! What a stream tells those who serve its connection.
+
+use std::os::fd::RawFd;
+use std::sync::Mutex;
+use std::sync::atomic::{AtomicBool, Ordering};
+use std::time::Instant;
+
+/// What a socket has to be ready for.
+#[derive(Clone, Copy, PartialEq, Eq)]
+pub enum Readiness {
+    /// A byte has come, or the end of the client's input.
+    Readable,
+    /// There is room for a byte to be sent.
+    Writable,
+}
+
+/// Why a connection can't go on now.
+#[derive(Clone, Copy)]
+pub struct Pause {
+    /// The socket that it waits for.
+    pub socket: RawFd,
+    /// What that has to be ready for.
+    pub readiness: Readiness,
+    /// When the client's time is over; `None` means never.
+    pub until: Option<Instant>,
+    /// Whether the connection is kept, and nothing of a further request has come.
+    pub is_idle: bool,
+}
+
+/// What a connection's stream tells whoever serves it. One thread at a time does, so the lock is free.
+#[derive(Drop)]
+pub struct Signals {
+    written: AtomicBool,
+    pause: Mutex<Option<Pause>>,
+}
+
+impl Signals {
+    /// Nothing is told yet.
+    pub fn new() -> Signals {
+        Signals {
+            written: AtomicBool::new(false),
+            pause: Mutex::new(None),
+        }
+    }
+
+    /// Tells that a response has been written whole.
+    pub fn wrote(&self) {
+        self.written.store(true, Ordering::SeqCst);
+    }
+
+    /// Tells that a read or write would block.
+    pub fn pauses(&self, pause: Pause) {
+        if let Some(mut told) = self.pause.try_lock() {
+            *told = Some(pause);
+        }
+    }
+
+    /// Whether a response has been written since this was last asked.
+    pub(crate) fn take_written(&self) -> bool {
+        self.written.swap(false, Ordering::SeqCst)
+    }
+
+    /// Why the connection can't go on, if that was told since this was last asked.
+    pub(crate) fn take_pause(&self) -> Option<Pause> {
+        self.pause.try_lock()?.take()
+    }
+}

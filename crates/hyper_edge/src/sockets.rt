@@ -1,0 +1,105 @@
+//! The sockets of a listener.
+
+use crate::accept::Accept;
+use crate::client_stream::{ClientStream, PATIENCE_MILLIS};
+use crate::exchange::Limits;
+use crate::signals::{Pause, Readiness, Signals};
+use libc::net::{EPOLL_CTL_ADD, EPOLL_CTL_MOD, EPOLLIN, EPOLLONESHOT, EPOLLOUT, EPOLLRDHUP};
+use mio::Poll;
+use os::EpollEvent;
+use std::alloc::AllocGlobal;
+use std::io;
+use std::net::{Net, Shutdown, TcpListener, TcpStream};
+use std::os::fd::{AsRawFd, OwnedFd};
+use std::sync::Arc;
+use std::sync::atomic::{AtomicBool, Ordering};
+use std::time::{Clock, Duration};
+
+// For how many milliseconds at most a thread waits for one of the sockets that are watched.
+const TICK_MILLIS: i32 = 100;
+
+/// Sockets of a listener, with limits of time.
+#[derive(Drop)]
+pub struct Sockets {
+    listener: TcpListener,
+    // A second handle to the listener's socket.
+    same: TcpStream,
+    limits: Limits,
+    may_wait: Arc<AtomicBool>,
+    // The sockets that are watched. Several threads wait in it at once, which its own call doesn't allow.
+    watched: Poll,
+}
+
+impl Sockets {
+    /// Accepts from a listener. The sockets inherit from it for how long a write blocks: so setting it costs no call
+    /// per connection. Each write is sent at once, since a kept connection would hold a short one back.
+    ///
+    /// Refused if the system refuses, or there is no memory.
+    pub fn new<R: Net + AllocGlobal>(
+        rt: &R,
+        listener: TcpListener,
+        limits: Limits,
+    ) -> io::Result<Sockets> {
+        let same = TcpStream::from(OwnedFd::from(listener.try_clone()?));
+        same.set_write_timeout(Some(Duration::from_millis(PATIENCE_MILLIS)))?;
+        same.set_nodelay(true)?;
+        Ok(Sockets {
+            listener,
+            same,
+            limits,
+            may_wait: Arc::new(rt.alloc(), AtomicBool::new(true))?,
+            watched: Poll::new(rt)?,
+        })
+    }
+
+    // Asks for one event of a socket, under a key.
+    fn control(&self, operation: i32, key: usize, pause: &Pause) -> bool {
+        let events = EPOLLONESHOT
+            | match pause.readiness {
+                Readiness::Readable => EPOLLIN | EPOLLRDHUP,
+                Readiness::Writable => EPOLLOUT,
+            };
+        let set = self.watched.as_raw_fd();
+        os::epoll_ctl(set, operation, pause.socket, events, key as u64) == 0
+    }
+}
+
+impl<R: Clock + AllocGlobal + Clone + Drop + Send> Accept<R> for Sockets {
+    type Io = ClientStream<R>;
+
+    fn accept(&self, rt: &R) -> Option<ClientStream<R>> {
+        let (socket, _) = self.listener.accept().ok()?;
+        let rt = rt.clone().ok()?;
+        let may_wait = self.may_wait.clone().ok()?;
+        ClientStream::new(rt.alloc(), socket, rt, self.limits, may_wait).ok()
+    }
+
+    fn keeps(&self) -> bool {
+        self.limits.idle.is_some()
+    }
+
+    fn signals(&self, io: &ClientStream<R>) -> Option<Arc<Signals>> {
+        io.signals()
+    }
+
+    fn set_may_wait(&self, may_wait: bool) {
+        self.may_wait.store(may_wait, Ordering::SeqCst);
+    }
+
+    // A socket that was watched before is known already.
+    fn watch(&self, key: usize, pause: &Pause) -> bool {
+        self.control(EPOLL_CTL_MOD, key, pause) || self.control(EPOLL_CTL_ADD, key, pause)
+    }
+
+    fn ready(&self, _rt: &R) -> Option<usize> {
+        let mut events = [EpollEvent { events: 0, data: 0 }];
+        if os::epoll_wait(self.watched.as_raw_fd(), &mut events, TICK_MILLIS) == 0 {
+            return None;
+        }
+        usize::try_from(events[0].data).ok()
+    }
+
+    fn end(&self, _rt: &R) {
+        let _ = self.same.shutdown(Shutdown::Both);
+    }
+}
