@@ -1,0 +1,3 @@
+pub mod Standing
+pub mod Health
+pub mod Law
