@@ -1,2 +1,5 @@
 pub mod Origins
+pub mod Names
+pub mod Heads
 pub mod Fetches
+pub mod Bounded

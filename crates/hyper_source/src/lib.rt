@@ -1,15 +1,24 @@
-//! Answers from origins over HTTP: for each URL one connection and one `GET`, within a limit of time.
+//! Answers from origins over HTTP: for each URL one `GET`, over a connection of its own or one that was kept,
+//! within a limit of time.
 //!
 //! Source: RFC 9110, "HTTP Semantics", and RFC 9112, "HTTP/1.1".
 #![tactic(auto)]
 
+mod bounded;
+mod deadline;
+mod edge_name;
 mod executors;
 mod fields;
 mod gathered;
+mod head;
 mod origin;
 mod origin_stream;
+mod pool;
+mod reach;
 mod round_trip;
 mod source;
 
+pub use edge_name::{EdgeName, MAX_NAME};
 pub use origin::Origin;
+pub use origin_health::Bounds;
 pub use source::HyperSource;

@@ -1,13 +1,18 @@
 //! A socket to an origin, whose polls block for as long as the fetch may still take.
 
-ghost use Rattle.std.specs.Prelude.{⊤};
+ghost use Rattle.std.specs.Prelude.{◌≡◌, ◌↔◌, ⊤, IsTrue, IsErrAnd};
 ghost use Rattle.std.specs.Io.{ReadsAtMost, WritesAtMost};
+ghost use Rattle.std.specs.IoError.{error_kind};
 
+use crate::deadline::Deadline;
+use crate::reach::Reach;
 use futures::task::{Context, Poll};
 use std::io;
 use std::io::{ErrorKind, Read, Write};
-use std::net::TcpStream;
-use std::time::{Clock, Duration, Instant};
+use std::net::{Net, SocketAddr, TcpStream};
+use std::sync::atomic::{AtomicBool, Ordering};
+use std::sync::{Arc, Wait};
+use std::time::Clock;
 use tokio::io::{AsyncRead, AsyncWrite};
 
 /// A connection to an origin, for one fetch. Past its deadline, where it has one, each read and write fails.
@@ -17,44 +22,119 @@ use tokio::io::{AsyncRead, AsyncWrite};
 pub(crate) struct OriginStream<R> {
     socket: TcpStream,
     clock: R,
-    deadline: Option<Instant>,
+    deadline: Deadline,
     has_written: bool,
+    // Told as soon as a byte has come.
+    heard: Option<Arc<AtomicBool>>,
+    // Told of each read and write.
+    reach: Option<Reach>,
+}
+
+impl<R: Wait + Net<Stream = TcpStream> + Clock + Clone> OriginStream<R> {
+    /// A new connection.
+    pub(crate) fn connected(
+        rt: &R,
+        address: SocketAddr,
+        deadline: Deadline,
+    ) -> io::Result<OriginStream<R>> {
+        for _ in rt.forever() {
+            let socket = connected_once(rt, address, deadline);
+            if !was_interrupted(&socket) {
+                return OriginStream::over(rt, socket?, deadline, None);
+            }
+        }
+        unreachable!()
+    }
+}
+
+fn connected_once<R>(rt: &R, address: SocketAddr, deadline: Deadline) -> io::Result<TcpStream>
+where
+    R: Net<Stream = TcpStream> + Clock,
+{
+    match deadline.left(rt)? {
+        None => TcpStream::connect(rt, &address),
+        Some(left) => TcpStream::connect_timeout(rt, &address, left),
+    }
+}
+
+impl<R: Clock + Clone> OriginStream<R> {
+    /// A further fetch over a connection. As soon as a byte has come, that is told.
+    pub(crate) fn over(
+        rt: &R,
+        socket: TcpStream,
+        deadline: Deadline,
+        heard: Option<Arc<AtomicBool>>,
+    ) -> io::Result<OriginStream<R>> {
+        Ok(OriginStream {
+            socket,
+            clock: rt.clone()?,
+            deadline,
+            has_written: false,
+            heard,
+            reach: None,
+        })
+    }
+}
+
+impl<R: Drop> OriginStream<R> {
+    /// The connection, for a further fetch.
+    pub(crate) fn into_socket(self) -> TcpStream {
+        self.socket
+    }
+
+    // Tells that bytes have come, if any have.
+    fn hears(&self, read: &io::Result<usize>) {
+        if let Some(heard) = &self.heard
+            && matches!(read, Ok(1..))
+        {
+            heard.store(true, Ordering::SeqCst);
+        }
+    }
 }
 
 impl<R: Clock> OriginStream<R> {
-    pub(crate) fn new(socket: TcpStream, clock: R, deadline: Option<Instant>) -> OriginStream<R> {
-        OriginStream {
-            socket,
-            clock,
-            deadline,
-            has_written: false,
-        }
+    /// The same stream, which tells of its origin by its reads and writes.
+    pub(crate) fn telling(self, reach: Option<Reach>) -> OriginStream<R> {
+        let mut stream = self;
+        stream.reach = reach;
+        stream
     }
 
-    // The time that is left, which is more than zero; `None` if there is no deadline.
-    fn left(&self) -> io::Result<Option<Duration>> {
-        let Some(deadline) = self.deadline else {
-            return Ok(None);
-        };
-        let left = deadline.duration_since(Instant::now(&self.clock)?);
-        if left.is_zero() {
-            return Err(ErrorKind::TimedOut.into());
+    // What a read or a write has done, once that is told.
+    fn told(&self, done: io::Result<usize>) -> io::Result<usize>
+        ensures { result ≡ done }
+    {
+        match &self.reach {
+            Some(reach) => reach.told(done),
+            None => done,
         }
-        Ok(Some(left))
     }
 
     fn read(&self, buf: &mut [u8]) -> io::Result<usize>
         ensures { ReadsAtMost result buf.new }
     {
-        self.socket.set_read_timeout(self.left()?)?;
+        self.socket
+            .set_read_timeout(self.deadline.left(&self.clock)?)?;
         (&self.socket).read(buf)
     }
 
     fn write(&self, buf: &[u8]) -> io::Result<usize>
         ensures { WritesAtMost result buf.now }
     {
-        self.socket.set_write_timeout(self.left()?)?;
+        self.socket
+            .set_write_timeout(self.deadline.left(&self.clock)?)?;
         (&self.socket).write(buf)
+    }
+}
+
+// Whether a call has to be made again, since a signal came in the midst of it; where the process was stopped and
+// goes on, that is so even without a handler.
+fn was_interrupted<T>(done: &io::Result<T>) -> bool
+    ensures { IsTrue result ↔ IsErrAnd done.now (λ e. error_kind e ≡ ErrorKind.Interrupted) }
+{
+    match done {
+        Ok(_) => false,
+        Err(e) => matches!(e.kind(), ErrorKind::Interrupted),
     }
 }
 
@@ -71,7 +151,12 @@ impl<R: Clock + Drop> AsyncRead for OriginStream<R> {
         if !self.has_written {
             return cx.yield_now();
         }
-        Poll::Ready(self.read(buf))
+        let done = self.read(buf);
+        if was_interrupted(&done) {
+            return cx.yield_now();
+        }
+        self.hears(&done);
+        Poll::Ready(self.told(done))
     }
 }
 
@@ -82,9 +167,13 @@ impl<R: Clock + Drop> AsyncWrite for OriginStream<R> {
 
     ghost writes_in_order = { λ _ _ _ _ _ _ _. tt };
 
-    fn poll_write(&mut self, _cx: &mut Context<'_>, buf: &[u8]) -> Poll<io::Result<usize>> {
+    fn poll_write(&mut self, cx: &mut Context<'_>, buf: &[u8]) -> Poll<io::Result<usize>> {
         self.has_written = true;
-        Poll::Ready(self.write(buf))
+        let done = self.write(buf);
+        if was_interrupted(&done) {
+            return cx.yield_now();
+        }
+        Poll::Ready(self.told(done))
     }
 
     fn poll_flush(&mut self, _cx: &mut Context<'_>) -> Poll<io::Result<()>> {

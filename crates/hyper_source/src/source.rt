@@ -1,41 +1,58 @@
 //! A source that fetches from origins.
 
-ghost use Rattle.std.specs.Prelude.{◌≡◌, IfOk, IfErr};
-ghost use Rattle.hyper_source.specs.Fetches.{AnswersLost};
+ghost use Rattle.std.specs.Prelude.{◌≡◌, IsTrue, IfOk, IfErr};
+ghost use Rattle.edge_types.specs.Answered.{failed};
+ghost use Rattle.hyper_source.specs.Fetches.{AnswersLost, HasControl, IsNotStored, control_asked};
+ghost use Rattle.hyper_source.specs.Heads as heads;
+ghost use Rattle.hyper_source.specs.Heads.{EndsByClose};
 
+use crate::bounded::{OriginGate, end_of, gate_of, gates_of};
+use crate::deadline::Deadline;
+use crate::edge_name::{EdgeName, capability_for, device_of};
 use crate::executors::IdleExecutors;
-use crate::fields::{content_type_of, control_of};
+use crate::fields::{content_type_of, control_for};
 use crate::gathered::Lost;
+use crate::head::is_coded;
 use crate::origin::{Origin, address_of};
 use crate::origin_stream::OriginStream;
-use crate::round_trip::round_trip;
+use crate::pool::Pool;
+use crate::reach::{Reach, lost_by};
+use crate::round_trip::{Response, round_trip};
 use bytes::Bytes;
 use edge_types::{Answer, NoMemory, Octets, PageUrl, SharedBytes};
 use fetch_workers::Source;
-use http::header::HOST;
+use http::header::{ACCEPT_ENCODING, CONNECTION, HOST};
+use http::request::Builder;
 use http::response::Parts;
 use http::{Error, Request};
 use http_body_util::Empty;
+use origin_health::Bounds;
 use std::alloc::{AllocGlobal, Global};
 use std::hash::RandomState;
 use std::net::{Net, SocketAddr, TcpStream};
 use std::random::RandomSource;
+use std::sync::atomic::{AtomicBool, Ordering};
 use std::sync::{Arc, Wait};
-use std::time::{Clock, Duration, Instant};
+use std::time::{Clock, Duration};
 use std::{io, str};
 use surrogate_headers::own_capability;
 
-/// A source that fetches from origins over HTTP: for each URL one connection and one `GET`, which names the
-/// host and says what this edge can do, and nothing of the client.
+// The field that names those through whom a request goes.
+const LOOP: &str = "cdn-loop";
+
+/// A source that fetches from origins over HTTP: for each URL one `GET`, which names the host and says what
+/// this edge can do, by its name if it has one, and nothing of the client. Each has a connection of its own,
+/// unless some are kept (`keeping`).
 ///
 /// An answer can't be fetched, and is a failed one, if no origin has the URL's authority, if the
-/// socket or HTTP fails (also by the time limit), if the body ends before its length or is
+/// socket or HTTP fails (also by the time limit), if the body ends before its length, is coded or
 /// longer than `MAX_BODY`, and if no answer may have the status.
 ///
 /// A content type that no answer may have counts as empty; several lines of `Surrogate-Control` count
-/// as one, joined by `, `.
+/// as one, joined by `, `. An answer that only the close of its connection ends is never to be stored.
 ///
-/// Source: RFC 9110, "GET" and "Host and :authority"; Edge Architecture Specification 1.0,
+/// Source: RFC 9110, "GET", "Host and :authority" and "Accept-Encoding"; RFC 9112,
+/// "Message Body Length"; Edge Architecture Specification 1.0,
 /// "Surrogate-Capability Request Header" and "Surrogate-Control Header"; our profile.
 #[derive(Drop)]
 pub struct HyperSource {
@@ -43,6 +60,10 @@ pub struct HyperSource {
     limit: Option<Duration>,
     keys: RandomState,
     executors: IdleExecutors,
+    name: Option<EdgeName>,
+    pool: Pool,
+    // Of each address, where fetches are bounded.
+    gates: Vec<OriginGate>,
 }
 
 impl HyperSource {
@@ -62,27 +83,160 @@ impl HyperSource {
             limit,
             keys: RandomState::new(rt)?,
             executors: IdleExecutors::new(alloc),
+            name: None,
+            pool: Pool::new(alloc, 0),
+            gates: Vec::new(alloc),
         })
     }
 
-    // What the URL's origin answers.
-    fn asked<R>(&self, rt: &R, alloc: Global, url: &PageUrl) -> Result<(Parts, Vec<u8>), Lost>
+    /// The same source for an edge with this name: its requests say so by `cdn-loop`, so that an edge knows
+    /// its own, and origins address it by this name in place of `own_device`.
+    ///
+    /// Source: RFC 8586, "The CDN-Loop Request Header Field".
+    pub fn named(self, name: EdgeName) -> HyperSource {
+        let mut source = self;
+        source.name = Some(name);
+        source
+    }
+
+    /// The same source, which keeps idle connections to origins, at most this many to each address, for some
+    /// seconds: a later fetch uses one of them. No two fetches use one at a time.
+    ///
+    /// What an origin sends unasked, after the look for it and before the response, is taken as the
+    /// response: so connections should be kept only to origins that are trusted.
+    ///
+    /// Source: RFC 9112, "Persistence".
+    pub fn keeping(self, alloc: Global, most: u16) -> HyperSource {
+        let mut source = self;
+        source.pool = Pool::new(alloc, most);
+        source
+    }
+
+    /// The same source with these bounds for the fetches to each address. A fetch that is one too many, or is to
+    /// an origin that rests, isn't made: its answer is a failed one at once.
+    pub fn bounded(self, alloc: Global, bounds: Bounds) -> Result<HyperSource, NoMemory> {
+        let mut source = self;
+        source.gates = gates_of(alloc, source.origins.as_slice(), bounds)?;
+        Ok(source)
+    }
+
+    // What the URL's origin answers, if it may be asked.
+    fn asked<R>(&self, rt: &R, alloc: Global, url: &PageUrl) -> Response
     where
         R: Wait + Net<Stream = TcpStream> + Clock + RandomSource + AllocGlobal + Clone + Drop,
     {
         let Some(address) = address_of(self.origins.as_slice(), url.authority()) else {
             return Err(Lost::Fault);
         };
-        let request = request_of(alloc, url)?;
-        let Ok(io) = connected(rt, address, self.limit) else {
+        let Some(gate) = gate_of(self.gates.as_slice(), address) else {
+            return self.fetched(rt, alloc, url, address, None);
+        };
+        let reach = Reach::new(alloc)?;
+        let told = reach.share()?;
+        let Some(permit) = gate.permit(rt) else {
             return Err(Lost::Fault);
         };
+        let got = reach.judged(self.fetched(rt, alloc, url, address, Some(told)));
+        gate.ended(rt, permit, end_of(&got));
+        got
+    }
+
+    // What comes for a URL, over a connection that was kept, or a new one that may tell of the origin.
+    fn fetched<R>(
+        &self,
+        rt: &R,
+        alloc: Global,
+        url: &PageUrl,
+        address: SocketAddr,
+        reach: Option<Reach>,
+    ) -> Response
+    where
+        R: Wait + Net<Stream = TcpStream> + Clock + RandomSource + AllocGlobal + Clone + Drop,
+    {
+        let Ok(deadline) = Deadline::after(rt, self.limit) else {
+            return Err(Lost::Fault);
+        };
+        if let Some(came) = self.asked_over_idle(rt, alloc, url, address, deadline) {
+            return came;
+        }
+        match OriginStream::connected(rt, address, deadline) {
+            Ok(io) => self.asked_over(rt, alloc, url, address, io.telling(reach)),
+            Err(error) => Err(lost_by(&error)),
+        }
+    }
+
+    // The same over a connection that was kept: nothing if there is none, or if it ends before the first byte of
+    // the response, as one that the origin closes while the request is on its way.
+    fn asked_over_idle<R>(
+        &self,
+        rt: &R,
+        alloc: Global,
+        url: &PageUrl,
+        address: SocketAddr,
+        deadline: Deadline,
+    ) -> Option<Response>
+    where
+        R: Wait + Net<Stream = TcpStream> + Clock + RandomSource + AllocGlobal + Clone + Drop,
+    {
+        let idle = self.pool.take(rt, address)?;
+        let heard = Arc::new(alloc, AtomicBool::new(false)).ok()?;
+        let told = Arc::try_clone(&heard).ok()?;
+        let io = OriginStream::over(rt, idle.socket, deadline, Some(told)).ok()?;
+        let came = self.asked_over(rt, alloc, url, address, io);
+        if matches!(came, Err(Lost::Fault)) && !heard.load(Ordering::SeqCst) {
+            return None;
+        }
+        Some(came)
+    }
+
+    // The same over this connection, which is kept if it may be.
+    fn asked_over<R>(
+        &self,
+        rt: &R,
+        alloc: Global,
+        url: &PageUrl,
+        address: SocketAddr,
+        io: OriginStream<R>,
+    ) -> Response
+    where
+        R: Wait + Net<Stream = TcpStream> + Clock + RandomSource + AllocGlobal + Clone + Drop,
+    {
+        let request = self.request_of(alloc, url)?;
         let Some(mut executor) = self.executors.take(rt) else {
             return Err(Lost::Fault);
         };
-        let got = round_trip(rt, alloc, &mut executor, self.keys, io, request);
+        let (came, open) = round_trip(rt, alloc, &mut executor, self.keys, io, request);
         self.executors.leave(rt, executor);
-        got
+        if let Some(io) = open {
+            self.pool.leave(rt, address, io.into_socket());
+        }
+        came
+    }
+
+    // The request for a URL: it says nothing of the client.
+    fn request_of(&self, alloc: Global, url: &PageUrl) -> Result<Request<Empty<Bytes>>, Lost> {
+        let Some((authority, target)) = parts_of(url) else {
+            return Err(Lost::Fault);
+        };
+        let request = Request::get(alloc, target)
+            .header(HOST, authority)
+            .header(own_capability().0, capability_for(&self.name));
+        let request = self
+            .for_connection(request)
+            .header(ACCEPT_ENCODING, "identity");
+        match identified(request, &self.name).body(Empty::new()) {
+            Ok(request) => Ok(request),
+            Err(Error::OutOfMemory) => Err(Lost::NoMemory),
+            Err(_) => Err(Lost::Fault),
+        }
+    }
+
+    // The request with what is to become of its connection.
+    fn for_connection(&self, request: Builder) -> Builder {
+        if self.pool.keeps() {
+            return request;
+        }
+        request.header(CONNECTION, "close")
     }
 }
 
@@ -97,37 +251,46 @@ where
     ghost names_url = { λ _ _ _ named. named };
 
     fn fetch(&self, rt: &R, alloc: Global, url: &PageUrl) -> Result<Arc<Answer>, NoMemory> {
-        let answer = answered(alloc, url, self.asked(rt, alloc, url))?;
+        let came = self.asked(rt, alloc, url);
+        let answer = answered(alloc, url, device_of(&self.name), came)?;
         Ok(Arc::new(alloc, answer)?)
     }
 }
 
-// The answer that a fetch results in: a failed one if it got no response.
-fn answered(
-    alloc: Global,
-    url: &PageUrl,
-    came: Result<(Parts, Vec<u8>), Lost>,
-) -> Result<Answer, NoMemory>
+// The answer that a fetch results in, for a device: a failed one if it got no response.
+fn answered(alloc: Global, url: &PageUrl, device: &[u8], came: Response) -> Result<Answer, NoMemory>
     ensures url { IfOk result (λ answer. answer.url ≡ url.now) }
     ensures lost { IfErr came (λ lost. AnswersLost lost url.now result) }
 {
     match came {
-        Ok((head, body)) => answer_of(alloc, url, &head, body),
-        Err(Lost::Fault) => Ok(Answer::failed(url.share()?)),
+        Ok((head, body)) => answer_of(alloc, url, device, &head, body),
+        Err(Lost::Fault | Lost::Unreachable) => Ok(Answer::failed(url.share()?)),
         Err(Lost::NoMemory) => Err(NoMemory),
     }
 }
 
 // The answer that a response makes; a failed one if no answer may be like that.
-fn answer_of(alloc: Global, url: &PageUrl, head: &Parts, body: Vec<u8>) -> Result<Answer, NoMemory>
-    ensures { IfOk result (λ answer. answer.url ≡ url.now) }
+fn answer_of(
+    alloc: Global,
+    url: &PageUrl,
+    device: &[u8],
+    head: &Parts,
+    body: Vec<u8>,
+) -> Result<Answer, NoMemory>
+    ensures url { IfOk result (λ answer. answer.url ≡ url.now) }
+    ensures coded { IsTrue (heads.is_coded head.now.headers) → IfOk result (λ answer. answer ≡ failed url.now) }
+    ensures framed { ¬ (EndsByClose head.now) → IfOk result (λ answer. HasControl answer.reply (control_asked head.now.headers device.now)) }
+    ensures unframed { EndsByClose head.now → IfOk result (λ answer. IsNotStored answer.reply) }
 {
     let fields = &head.headers;
+    if is_coded(fields) {
+        return Ok(Answer::failed(url.share()?));
+    }
     let got = Answer::got(
         url.share()?,
         head.status.as_u16(),
         Octets::copy_of(alloc, content_type_of(fields))?,
-        control_of(alloc, fields)?,
+        control_for(alloc, head, device)?,
         SharedBytes::of(body)?,
     );
     match got {
@@ -136,36 +299,11 @@ fn answer_of(alloc: Global, url: &PageUrl, head: &Parts, body: Vec<u8>) -> Resul
     }
 }
 
-// A connection to an origin, for a fetch that has to end by the limit, if there is one.
-fn connected<R>(rt: &R, address: SocketAddr, limit: Option<Duration>) -> io::Result<OriginStream<R>>
-where
-    R: Net<Stream = TcpStream> + Clock + Clone + Drop,
-{
-    let Some(limit) = limit else {
-        let socket = TcpStream::connect(rt, &address)?;
-        return Ok(OriginStream::new(socket, rt.clone()?, None));
-    };
-    let Some(deadline) = Instant::now(rt)?.checked_add(limit) else {
-        return Err(io::ErrorKind::InvalidInput.into());
-    };
-    let socket = TcpStream::connect_timeout(rt, &address, limit)?;
-    Ok(OriginStream::new(socket, rt.clone()?, Some(deadline)))
-}
-
-// The request for a URL: it says nothing of the client.
-fn request_of(alloc: Global, url: &PageUrl) -> Result<Request<Empty<Bytes>>, Lost> {
-    let Some((authority, target)) = parts_of(url) else {
-        return Err(Lost::Fault);
-    };
-    let (name, value) = own_capability();
-    let request = Request::get(alloc, target)
-        .header(HOST, authority)
-        .header(name, value)
-        .body(Empty::new());
-    match request {
-        Ok(request) => Ok(request),
-        Err(Error::OutOfMemory) => Err(Lost::NoMemory),
-        Err(_) => Err(Lost::Fault),
+// The request with the edge's name, if it has one.
+fn identified(request: Builder, name: &Option<EdgeName>) -> Builder {
+    match name {
+        Some(name) => request.header(LOOP, name.as_bytes()),
+        None => request,
     }
 }
 

@@ -1,0 +1,100 @@
+//! Addresses whose fetches are bounded: so many in flight to one, and none to one that rests.
+
+ghost use Rattle.std.specs.Prelude.{◌≡◌, ◌≢◌, IfOk, MatchOption, MatchResult, All};
+ghost use Rattle.std.specs.declared.net.socket_addr.SocketAddr.{SocketAddr};
+ghost use Rattle.origin_health.specs.declared.standing.FetchEnd.TheVariants as ends;
+ghost use Rattle.hyper_source.specs.Bounded as spec;
+
+use crate::gathered::Lost;
+use crate::origin::Origin;
+use edge_types::NoMemory;
+use origin_health::{Bounds, FetchEnd, Leave, OriginHealth, Permit};
+use std::alloc::Global;
+use std::net::SocketAddr;
+use std::sync::{Mutex, Wait};
+use std::time::Clock;
+
+/// What fetches to one address ask before they begin, and tell when they have ended. Nobody holds its lock while
+/// fetching.
+#[derive(Drop)]
+pub(crate) struct OriginGate {
+    address: SocketAddr,
+    health: Mutex<OriginHealth>,
+}
+
+impl OriginGate {
+    /// Leave to make a fetch now; none where it is one too many, or the origin rests.
+    pub(crate) fn permit<R: Wait + Clock>(&self, rt: &R) -> Option<Permit> {
+        let leave = self.health.lock(rt).may_fetch(millis(rt));
+        match leave {
+            Leave::Granted(permit) => Some(permit),
+            Leave::TooMany | Leave::Rests => None,
+        }
+    }
+
+    /// The fetch has ended.
+    pub(crate) fn ended<R: Wait + Clock>(&self, rt: &R, permit: Permit, end: FetchEnd) {
+        self.health.lock(rt).ended(permit, end, millis(rt));
+    }
+}
+
+/// A gate for each address of these origins.
+pub(crate) fn gates_of(
+    alloc: Global,
+    origins: &[Origin],
+    bounds: Bounds,
+) -> Result<Vec<OriginGate>, NoMemory>
+    ensures { IfOk result (λ gates. All (λ origin. spec.HasGate gates.items origin.address) origins.now) }
+{
+    let mut gates = Vec::new(alloc);
+    for origin in origins {
+        add_gate(&mut gates, origin.address, bounds)?;
+    }
+    Ok(gates)
+}
+
+// Adds the gate of an address, unless it is there.
+fn add_gate(
+    gates: &mut Vec<OriginGate>,
+    address: SocketAddr,
+    bounds: Bounds,
+) -> Result<(), NoMemory>
+    ensures added { IfOk result (λ _. spec.HasGate gates.new.items address) }
+    ensures kept { (other : SocketAddr) → spec.HasGate gates.old.items other → spec.HasGate gates.new.items other }
+{
+    if gate_of(gates.as_slice(), address).is_some() {
+        return Ok(());
+    }
+    gates.push(OriginGate {
+        address,
+        health: Mutex::new(OriginHealth::new(bounds)),
+    })?;
+    Ok(())
+}
+
+/// The gate of an address; none where fetches aren't bounded.
+pub(crate) fn gate_of(gates: &[OriginGate], address: SocketAddr) -> Option<&OriginGate>
+    ensures { MatchOption result (All (λ gate. gate.address ≢ address) gates.now) (λ gate. (gate.now.address ≡ address) × spec.HasGate gates.now address) }
+{
+    gates.iter().find(|gate| gate.address == address)
+}
+
+/// What a fetch says of its origin: any response, that it answers.
+pub(crate) fn end_of<T>(came: &Result<T, Lost>) -> FetchEnd
+    ensures { MatchResult came.now (λ _. result ≡ ends.Answered) (λ lost. result ≡ spec.end_of lost) }
+{
+    match came {
+        Ok(_) => FetchEnd::Answered,
+        Err(Lost::Unreachable) => FetchEnd::Unreachable,
+        Err(Lost::Fault | Lost::NoMemory) => FetchEnd::Other,
+    }
+}
+
+// The machine's monotonic clock, in milliseconds: nobody sets it, as they may set that of the day. 0 where it can't be
+// read.
+fn millis<R: Clock>(rt: &R) -> u64 {
+    match rt.monotonic() {
+        Ok(time) => u64::try_from(time.as_millis()).unwrap_or(u64::MAX),
+        Err(_) => 0,
+    }
+}
