@@ -1,4 +1,5 @@
 pub mod Head
+pub mod Passed
 pub mod Frames
 pub mod Sent
 pub mod Laws

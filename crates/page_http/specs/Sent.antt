@@ -36,14 +36,16 @@ unassembled = own 502 (codes "The page could not be assembled.\n") []
 
 -- the statuses of refusals
 abbrev pub IsRefusal : ℕ → Type 0
-IsRefusal status = (status ≡ 400) ⊎ ((status ≡ 405) ⊎ (status ≡ 503))
+IsRefusal status = (status ≡ 400) ⊎ ((status ≡ 405) ⊎ ((status ≡ 508) ⊎ (status ≡ 503)))
 
--- what a refusal sends: 405 says which method is served (RFC 9110, sections 15.5.1, 15.5.6, 15.6.4)
+-- what a refusal sends: 405 says which method is served, 508 that the request goes in a circle (RFC 9110, sections
+-- 15.5.1, 15.5.6, 15.6.4; RFC 5842, section 7.2)
 abbrev pub refusal : ℕ → Sent
 refusal status =
     if status == 400 then own 400 (codes "The request can't be read.\n") [] else (
-    if status == 405 then own 405 (codes "Only GET is served.\n") (field (codes "allow") (codes "GET") ∷ []) else
-    own 503 (codes "The edge has no room for the page.\n") [])
+    if status == 405 then own 405 (codes "Only GET is served.\n") (field (codes "allow") (codes "GET") ∷ []) else (
+    if status == 508 then own 508 (codes "The request has passed this edge before.\n") [] else
+    own 503 (codes "The edge has no room for the page.\n") []))
 
 -- a status under which no body is sent (RFC 9110, sections 15.3.5 and 15.4.5)
 abbrev pub is_bodiless : ℕ → Bool

@@ -8,9 +8,11 @@ mod body;
 mod field;
 mod head;
 pub mod laws;
+mod passed;
 mod response;
 
 pub use body::EdgeBody;
 pub use field::Field;
 pub use head::{HeadFault, answer_head};
+pub use passed::has_passed;
 pub use response::{refusal_of, response_of};

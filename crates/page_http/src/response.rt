@@ -44,12 +44,12 @@ pub fn response_of(alloc: Global, outcome: Arc<Outcome>) -> Result<Response<Edge
 const UNASSEMBLED: &str = "The page could not be assembled.\n";
 
 /// Makes the response for a refusal: 400 for a head that can't be read, 405 for a method that isn't
-/// served, with the one that is, and 503 for a lack of room.
+/// served, with the one that is, 508 for a request that has passed the edge before, and 503 for a lack of room.
 ///
 /// The only refusal of the call itself is out of memory.
 ///
-/// Source: RFC 9110, "400 Bad Request", "405 Method Not Allowed", "503 Service Unavailable"; the
-/// texts are our profile.
+/// Source: RFC 9110, "400 Bad Request", "405 Method Not Allowed", "503 Service Unavailable"; RFC 5842, "508 Loop
+/// Detected"; the texts are our profile.
 pub fn refusal_of(alloc: Global, status: u16) -> Result<Response<EdgeBody>, NoMemory>
     requires { spec.IsRefusal status }
     ensures { IfOk result (λ response. spec.sent response ≡ spec.refusal status) }
@@ -57,6 +57,7 @@ pub fn refusal_of(alloc: Global, status: u16) -> Result<Response<EdgeBody>, NoMe
     match status {
         400 => own_response(alloc, StatusCode::BAD_REQUEST, UNREADABLE),
         405 => only_get(alloc),
+        508 => own_response(alloc, StatusCode::LOOP_DETECTED, LOOP),
         _ => own_response(alloc, StatusCode::SERVICE_UNAVAILABLE, NO_ROOM),
     }
 }
@@ -64,6 +65,8 @@ pub fn refusal_of(alloc: Global, status: u16) -> Result<Response<EdgeBody>, NoMe
 const UNREADABLE: &str = "The request can't be read.\n";
 
 const ONLY_GET: &str = "Only GET is served.\n";
+
+const LOOP: &str = "The request has passed this edge before.\n";
 
 const NO_ROOM: &str = "The edge has no room for the page.\n";
 

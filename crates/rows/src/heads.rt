@@ -46,6 +46,14 @@ fn push_asked(line: &mut Line, url: &PageUrl, request: &Request) {
     }
 }
 
+/// A row is an edge's name and, after a space, the lines of a head, with a bar before each.
+pub fn has_passed(alloc: Global, row: &[u8], line: &mut Line) -> Option<()> {
+    let (name, lines) = pair(row);
+    let fields = fields(alloc, lines)?;
+    line.debug(&page_http::has_passed(name, fields.as_slice()));
+    Some(())
+}
+
 /// A row is two bytes as numbers; those in this range that may be in a host are printed.
 pub fn hosts(alloc: Global, row: &[u8], line: &mut Line) -> Option<()> {
     let (first, last) = pair(row);

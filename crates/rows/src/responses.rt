@@ -92,7 +92,7 @@ fn next_frame(rt: &HostRuntime, body: &mut EdgeBody) -> Option<Bytes> {
 pub fn refusal_of(rt: &HostRuntime, row: &[u8], line: &mut Line) -> Option<()> {
     let status: u16 = number(row)?;
     match status {
-        400 | 405 | 503 => {
+        400 | 405 | 503 | 508 => {
             let response = page_http::refusal_of(rt.alloc(), status).ok()?;
             push_response(rt, line, response)
         }
