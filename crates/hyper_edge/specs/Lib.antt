@@ -1,5 +1,6 @@
 pub mod Opening
 pub mod Staff
+pub mod PageTime
 pub mod Roster
 pub mod Responses
 pub mod Records

@@ -17,6 +17,10 @@ AsksNothing target fields = (url : List ℕ) (request : Request) → ¬ (Asks ta
 abbrev pub NamesSomeHost : List Field → Type 0
 NamesSomeHost fields = (host : List ℕ) × NamesHost fields host
 
+-- a page was asked for, and what is missing is room for it
+abbrev pub WantsRoom : List ℕ → List Field → Type 0
+WantsRoom method fields = (method ≡ served) × NamesSomeHost fields
+
 -- the page at a URL, as it follows from answers that the source gave: its outcome over them alone, and
 -- so over every table that agrees with them, is what is sent
 pub record TellsPageAt (gives : List ℕ → Answered → Type 0) (url : List ℕ) (request : Request) (levels : ℕ) (response : Sent) : Type 0 where

@@ -1,5 +1,5 @@
 -- When connections may be accepted, when one more thread is wanted, and when failed accepts end a server.
-use Rattle.std.specs.Prelude.{ℕ, ◌≡◌, ◌+◌, ◌-◌, ◌^◌, ◌<◌, ◌≤◌, min, max, false, true}
+use Rattle.std.specs.Prelude.{ℕ, ◌≡◌, ◌+◌, ◌-◌, ◌*◌, ◌^◌, ◌<◌, ◌≤◌, min, max, false, true}
 use Rattle.hyper_edge.specs.declared.roster.Capacity.{Capacity}
 use Rattle.hyper_edge.specs.declared.roster.Roster.{Roster}
 use Rattle.hyper_edge.specs.Staff as staff
@@ -10,6 +10,8 @@ opened count capacity = record {
   left = count;
   begun = 0;
   failed = 0;
+  pause = 1;
+  resting = false;
   held = 0;
   room = max capacity.connections 1;
   accepting = staff.nobody capacity.threads true;
@@ -45,11 +47,20 @@ begun roster = record roster { left = roster.left - 1; begun = min (roster.begun
 
 -- it has failed, and is still to be made
 abbrev pub given_back : Roster → Roster
-given_back roster = record roster { left = min (roster.left + 1) (2 ^ 64 - 1); begun = roster.begun - 1; failed = min (roster.failed + 1) (2 ^ 32 - 1) }
+given_back roster = record roster { left = min (roster.left + 1) (2 ^ 64 - 1); begun = roster.begun - 1 }
 
--- it has succeeded: there is one more connection, which one more thread serves, and failures are counted from 0 again
+-- the failure counts: nobody accepts until a pause is over, and the next one is twice as long, up to a second
+abbrev pub failed_once : Roster → Roster
+failed_once roster = record (given_back roster) { failed = min (roster.failed + 1) (2 ^ 32 - 1); pause = min (roster.pause * 2) 1000; resting = true }
+
+-- the pause is over
+abbrev pub after_pause : Roster → Roster
+after_pause roster = record roster { resting = false }
+
+-- it has succeeded: there is one more connection, which one more thread serves, and failures are counted from 0 again,
+-- the next pause being the shortest
 abbrev pub succeeded : Roster → Roster
-succeeded roster = record roster { begun = roster.begun - 1; failed = 0; held = min (roster.held + 1) (2 ^ 32 - 1); accepting = staff.begun roster.accepting }
+succeeded roster = record roster { begun = roster.begun - 1; failed = 0; pause = 1; held = min (roster.held + 1) (2 ^ 32 - 1); accepting = staff.begun roster.accepting }
 
 -- one thread fewer serves what it accepted
 abbrev pub has_served : Roster → Roster

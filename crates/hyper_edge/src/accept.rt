@@ -2,6 +2,7 @@
 
 use crate::signals::{Pause, Signals};
 use std::sync::Arc;
+use std::time::Duration;
 
 /// What accepts connections, from any number of threads at once, and tells when one that waits can go on.
 pub trait Accept<R> {
@@ -10,6 +11,9 @@ pub trait Accept<R> {
 
     /// Waits for a connection. `None` means that the accept failed.
     fn accept(&self, rt: &R) -> Option<Self::Io>;
+
+    /// Waits for so long, since an accept has failed and the next one would fail too. By default it doesn't.
+    fn rest(&self, _rt: &R, _pause: Duration) {}
 
     /// Whether connections are kept for further requests. By default they aren't.
     fn keeps(&self) -> bool {

@@ -104,13 +104,17 @@ impl<R: Clock + Drop> ClientStream<R> {
         Ok(())
     }
 
-    // Only the first read of a request may block. Over a connection that isn't kept, what comes after the request is
-    // never read.
+    // Only the first read of a request may block, and only while there are threads to spare. Over a connection that
+    // isn't kept, what comes after the request is never read.
     fn read(&mut self, buf: &mut [u8]) -> io::Result<usize>
         ensures { ReadsAtMost result buf.new }
     {
         match self.exchange.stage {
-            Stage::Accepted | Stage::Kept | Stage::Idle => {}
+            Stage::Accepted | Stage::Kept | Stage::Idle => {
+                if !self.may_wait.load(Ordering::SeqCst) {
+                    self.blocks_no_more()?;
+                }
+            }
             Stage::Asking => {
                 self.exchange.in_time(&self.rt)?;
                 self.blocks_no_more()?;

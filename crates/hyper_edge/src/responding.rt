@@ -1,11 +1,11 @@
 //! From the head of a request to its response.
 
-ghost use Rattle.std.specs.Prelude.{◌≡◌, ◌⊎◌, IfOk};
+ghost use Rattle.std.specs.Prelude.{◌≡◌, ◌⊎◌, IfOk, IfSome, MatchOption};
 ghost use Rattle.page_http.specs.Sent.{IsRefusal, refusal, sent};
 ghost use Rattle.hyper_edge.specs.Responses as spec;
 
 use edge_types::{Answer, NoMemory, PageUrl, Request};
-use fetch_workers::{Assembling, OpenGate, Source};
+use fetch_workers::{AssembleFault, Assembling, OpenGate, Source};
 use http::Response;
 use page_http::{EdgeBody, Field, HeadFault, answer_head, refusal_of, response_of};
 use std::alloc::Global;
@@ -16,8 +16,8 @@ use std::thread::Threads;
 /// source.
 ///
 /// `method`, `target` and `fields` are as in `answer_head`. Any method other than `GET` gets 405, a
-/// head that doesn't ask for a page 400. Without enough memory or threads, the response is 503; a page's
-/// fault is 502.
+/// head that doesn't ask for a page 400. Without enough memory the response is 503; a page's fault is 502. Where
+/// no thread can be started that is to fetch for the page, it is assembled by this one.
 ///
 /// The only refusal is running out of memory for the response itself.
 ///
@@ -75,15 +75,40 @@ where
     ensures { IfOk result (λ responded.
         spec.Responds (S.gives source.now) head.now.method.now head.now.target.now head.now.fields.now how.levels (sent responded.response)) }
 {
-    match answer_head(alloc, head.method, head.target, head.fields) {
-        Ok((url, request)) => paged(rt, alloc, source, url, request, how),
-        Err(HeadFault::Method) => refused(alloc, 405),
-        Err(HeadFault::Unreadable) => refused(alloc, 400),
-        Err(HeadFault::NoMemory) => no_room(alloc),
+    if let Some(responded) = tried(rt, alloc, source, head, how)? {
+        return Ok(responded);
+    }
+    let alone = Assembling::new(how.ahead, 1, how.levels);
+    match tried(rt, alloc, source, head, alone)? {
+        Some(responded) => Ok(responded),
+        None => no_room(alloc),
     }
 }
 
-// What is sent for a page that is asked for: the page, if there is room for it.
+// The response to the head of a request; `None` where a thread that is wanted for its page can't be started.
+fn tried<R, S>(
+    rt: &R,
+    alloc: Global,
+    source: &S,
+    head: &RequestHead<'_>,
+    how: Assembling,
+) -> Result<Option<Responded>, NoMemory>
+where
+    R: Wait + Threads + Sync,
+    S: Source<R> + Sync,
+    ensures { IfOk result (λ tried. MatchOption tried (spec.WantsRoom head.now.method.now head.now.fields.now) (λ responded.
+        spec.Responds (S.gives source.now) head.now.method.now head.now.target.now head.now.fields.now how.levels (sent responded.response))) }
+{
+    match answer_head(alloc, head.method, head.target, head.fields) {
+        Ok((url, request)) => paged(rt, alloc, source, url, request, how),
+        Err(HeadFault::Method) => Ok(Some(refused(alloc, 405)?)),
+        Err(HeadFault::Unreadable) => Ok(Some(refused(alloc, 400)?)),
+        Err(HeadFault::NoMemory) => Ok(Some(no_room(alloc)?)),
+    }
+}
+
+// What is sent for a page that is asked for: the page, if there is room for it. `None` where a thread that is wanted
+// for it can't be started.
 fn paged<R, S>(
     rt: &R,
     alloc: Global,
@@ -91,25 +116,26 @@ fn paged<R, S>(
     url: PageUrl,
     request: Request,
     how: Assembling,
-) -> Result<Responded, NoMemory>
+) -> Result<Option<Responded>, NoMemory>
 where
     R: Wait + Threads + Sync,
     S: Source<R> + Sync,
-    ensures { IfOk result (λ responded.
+    ensures { IfOk result (λ made. IfSome made (λ responded.
         (sent responded.response ≡ refusal 503)
-        ⊎ spec.TellsPageAt (S.gives source.now) url request how.levels (sent responded.response)) }
+        ⊎ spec.TellsPageAt (S.gives source.now) url request how.levels (sent responded.response))) }
 {
     match how.assemble(rt, alloc, source, &OpenGate, url, request) {
-        Ok(page) => Ok(Responded {
+        Ok(page) => Ok(Some(Responded {
             response: response_of(alloc, page.outcome)?,
             log: page.log,
-        }),
-        Err(_) => no_room(alloc),
+        })),
+        Err(AssembleFault::NoThread) => Ok(None),
+        Err(AssembleFault::NoMemory | AssembleFault::Torn) => Ok(Some(no_room(alloc)?)),
     }
 }
 
-// A refusal, which rests on no answer.
-fn refused(alloc: Global, status: u16) -> Result<Responded, NoMemory>
+/// A refusal, which rests on no answer.
+pub(crate) fn refused(alloc: Global, status: u16) -> Result<Responded, NoMemory>
     requires { IsRefusal status }
     ensures { IfOk result (λ responded. sent responded.response ≡ refusal status) }
 {

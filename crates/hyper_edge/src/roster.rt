@@ -5,6 +5,7 @@ ghost use Rattle.std.specs.Prelude.{◌≡◌, ◌↔◌, ◌<◌, None, Some, I
 ghost use Rattle.hyper_edge.specs.Roster as spec;
 ghost use Rattle.hyper_edge.specs.Staff.{HasSpare, WantsThread};
 ghost use Rattle.hyper_edge.specs.declared.roster.Admission.TheVariants as admission;
+ghost use Rattle.hyper_edge.specs.declared.roster.AfterFailure.TheVariants as after;
 ghost use Rattle.hyper_edge.specs.declared.roster.ServeEnd.TheVariants as ended;
 ghost use Rattle.hyper_edge.specs.declared.roster.Work.TheVariants as kind;
 
@@ -12,6 +13,9 @@ use crate::staff::Staff;
 
 /// This many failed accepts in succession end a server.
 pub(crate) const MAX_FAILED: u32 = 16;
+
+// The longest pause after a failed accept, in milliseconds.
+const MAX_PAUSE: u32 = 1_000;
 
 /// How many clients a server serves.
 #[derive(Clone, Copy, Debug, PartialEq, Eq)]
@@ -36,12 +40,23 @@ pub enum ServeEnd {
 pub(crate) enum Admission {
     /// It may, and its accept is counted.
     Accepts,
-    /// Not now: as many others accept as there is room for connections.
+    /// Not now: as many others accept as there is room for connections, or an accept has failed just now.
     Waits,
     /// There is no room for any connection.
     IsFull,
     /// No more accepts are begun.
     IsOver,
+}
+
+/// What follows from a failed accept.
+#[derive(Clone, Copy, Debug, PartialEq, Eq)]
+pub(crate) enum AfterFailure {
+    /// It was one failure too many: no more accepts are made.
+    Ends,
+    /// Nobody accepts until the thread has rested for so many milliseconds.
+    Rests(u32),
+    /// The same failure was told by another thread, which rests.
+    Waits,
 }
 
 /// What a thread is started for.
@@ -59,8 +74,11 @@ pub(crate) struct Roster {
     // How many accepts nobody has begun yet, and how many have been begun and haven't ended.
     left: u64,
     begun: u32,
-    // The accepts that have failed since the last that succeeded.
+    // The accepts that have failed since the last that succeeded, each after a pause; how many milliseconds the next
+    // pause takes; and whether one is under way.
     failed: u32,
+    pause: u32,
+    resting: bool,
     // How many connections were accepted and haven't ended, and how many there may be.
     held: u32,
     room: u32,
@@ -77,6 +95,8 @@ impl Roster {
             left: count,
             begun: 0,
             failed: 0,
+            pause: 1,
+            resting: false,
             held: 0,
             room: capacity.connections.max(1),
             accepting: Staff::new(capacity.threads, true),
@@ -84,17 +104,21 @@ impl Roster {
         }
     }
 
-    /// Lets a thread accept, if there is an accept left to make and room for the connection. A thread that waits in an
-    /// accept has already counted it: so nobody waits once all are made, nor is one more connection accepted than
-    /// there is room for.
+    /// Lets a thread accept, if there is an accept left to make, no pause under way, and room for the connection. A
+    /// thread that waits in an accept has already counted it: so nobody waits once all are made, nor is one more
+    /// connection accepted than there is room for.
     pub(crate) fn may_accept(&mut self) -> Admission
         ensures over { ¬ (spec.IsOpen self.old) → (result ≡ admission.IsOver) × (self.new ≡ self.old) }
-        ensures accepts { spec.IsOpen self.old → spec.HasRoom self.old → (result ≡ admission.Accepts) × (self.new ≡ spec.begun self.old) }
-        ensures full { spec.IsOpen self.old → ¬ (spec.HasRoom self.old) → self.old.begun ≡ 0 → (result ≡ admission.IsFull) × (self.new ≡ self.old) }
-        ensures waits { spec.IsOpen self.old → ¬ (spec.HasRoom self.old) → 0 < self.old.begun → (result ≡ admission.Waits) × (self.new ≡ self.old) }
+        ensures rests { spec.IsOpen self.old → IsTrue self.old.resting → (result ≡ admission.Waits) × (self.new ≡ self.old) }
+        ensures accepts { spec.IsOpen self.old → IsFalse self.old.resting → spec.HasRoom self.old → (result ≡ admission.Accepts) × (self.new ≡ spec.begun self.old) }
+        ensures full { spec.IsOpen self.old → IsFalse self.old.resting → ¬ (spec.HasRoom self.old) → self.old.begun ≡ 0 → (result ≡ admission.IsFull) × (self.new ≡ self.old) }
+        ensures waits { spec.IsOpen self.old → IsFalse self.old.resting → ¬ (spec.HasRoom self.old) → 0 < self.old.begun → (result ≡ admission.Waits) × (self.new ≡ self.old) }
     {
         if !self.is_open() {
             return Admission::IsOver;
+        }
+        if self.resting {
+            return Admission::Waits;
         }
         if !self.has_room() {
             return if self.begun == 0 {
@@ -116,6 +140,7 @@ impl Roster {
             (¬ (WantsThread (spec.succeeded self.old).accepting) × (self.new ≡ spec.succeeded self.old)) }
     {
         self.failed = 0;
+        self.pause = 1;
         self.begun = self.begun.saturating_sub(1);
         self.held = self.held.saturating_add(1);
         self.accepting.begins();
@@ -162,15 +187,35 @@ impl Roster {
         self.held = self.held.saturating_sub(1);
     }
 
-    /// An accept has failed, and is still to be made. Returns true if it was one failure too many.
-    pub(crate) fn accept_failed(&mut self) -> bool
-        ensures given_back { self.new ≡ spec.given_back self.old }
-        ensures failed { IsTrue result ↔ spec.HasFailed self.new }
+    /// An accept has failed, and is still to be made. It counts where no pause is under way: what fails several threads
+    /// at once is one failure.
+    pub(crate) fn accept_failed(&mut self) -> AfterFailure
+        ensures again { IsTrue self.old.resting → (result ≡ after.Waits) × (self.new ≡ spec.given_back self.old) }
+        ensures counts { IsFalse self.old.resting → self.new ≡ spec.failed_once self.old }
+        ensures ends { IsFalse self.old.resting → spec.HasFailed self.new → result ≡ after.Ends }
+        ensures rests { IsFalse self.old.resting → ¬ (spec.HasFailed self.new) → result ≡ after.Rests self.old.pause }
     {
         self.left = self.left.saturating_add(1);
         self.begun = self.begun.saturating_sub(1);
+        if self.resting {
+            return AfterFailure::Waits;
+        }
+        let pause = self.pause;
         self.failed = self.failed.saturating_add(1);
-        self.has_failed()
+        self.pause = pause.saturating_mul(2).min(MAX_PAUSE);
+        self.resting = true;
+        if self.has_failed() {
+            AfterFailure::Ends
+        } else {
+            AfterFailure::Rests(pause)
+        }
+    }
+
+    /// The pause is over.
+    pub(crate) fn accepts_again(&mut self)
+        ensures { self.new ≡ spec.after_pause self.old }
+    {
+        self.resting = false;
     }
 
     /// Counts one more thread, if one was asked for, and says for what.

@@ -7,14 +7,14 @@ use crate::executor::Executor;
 use crate::handover::Handover;
 use crate::journal::Journal;
 use crate::parking::ParkingPlace;
-use crate::roster::{Admission, Capacity, Roster, ServeEnd};
+use crate::roster::{Admission, AfterFailure, Capacity, Roster, ServeEnd};
 use crate::runtime::ServerRuntime;
 use crate::serving::{Serving, Session};
 use crate::shared_roster::SharedRoster;
 use fetch_workers::Source;
 use futures::Future;
 use std::sync::Arc;
-use std::time::Instant;
+use std::time::{Duration, Instant};
 
 /// What the threads share that serve the connections of an acceptor.
 #[derive(Drop)]
@@ -110,9 +110,7 @@ where
     {
         let rt = self.serving.rt;
         let Some(io) = self.acceptor.accept(rt) else {
-            if self.roster.accept_failed(rt) {
-                self.acceptor.end(rt);
-            }
+            self.goes_on_after_failure();
             return;
         };
         self.roster.accepted(rt, self.acceptor);
@@ -122,6 +120,22 @@ where
             None => self.roster.ended(rt),
         }
         self.roster.served(rt, self.acceptor);
+    }
+
+    // After a failed accept. What it lacked, as a file descriptor, an idle connection may hold, and others may give back
+    // within a moment.
+    fn goes_on_after_failure(&self) {
+        let rt = self.serving.rt;
+        match self.roster.accept_failed(rt) {
+            AfterFailure::Ends => self.acceptor.end(rt),
+            AfterFailure::Rests(millis) => {
+                self.end_idle();
+                self.acceptor
+                    .rest(rt, Duration::from_millis(u64::from(millis)));
+                self.roster.accepts_again(rt);
+            }
+            AfterFailure::Waits => {}
+        }
     }
 
     // Goes on with a connection that was parked, if one can go on within a moment.
@@ -170,13 +184,19 @@ where
 
     // Ends the connection that has been idle for longest; if there is none, waits.
     fn make_room(&self) {
-        let rt = self.serving.rt;
-        match self.parked.take_idle(rt) {
-            Some(idle) => {
-                drop(idle);
-                self.roster.ended(rt);
-            }
-            None => self.roster.wait_for_room(rt),
+        if !self.end_idle() {
+            self.roster.wait_for_room(self.serving.rt);
         }
+    }
+
+    // Ends the connection that has been idle for longest. Returns false if there is none.
+    fn end_idle(&self) -> bool {
+        let rt = self.serving.rt;
+        let Some(idle) = self.parked.take_idle(rt) else {
+            return false;
+        };
+        drop(idle);
+        self.roster.ended(rt);
+        true
     }
 }

@@ -1,16 +1,19 @@
 //! What answers the requests of a connection.
 
-ghost use Rattle.std.specs.Prelude.{◌≡◌, map, IfOk};
+ghost use Rattle.std.specs.Prelude.{◌≡◌, false, map, IfOk, MatchOption};
+ghost use Rattle.page_http.specs.Passed.{has_passed};
 ghost use Rattle.hyper_edge.specs.Lines.{line, lines_of};
 ghost use Rattle.hyper_edge.specs.Methods.{answered_as};
 
 use crate::date::DateClock;
-use crate::responding::{RequestHead, Responded, no_room, respond_with_log};
+use crate::exchange::deadline;
+use crate::page_time::WithinTime;
+use crate::responding::{RequestHead, Responded, no_room, refused, respond_with_log};
 use edge_types::NoMemory;
 use fetch_workers::{Assembling, Source};
 use http::header::HeaderValue;
 use http::{HeaderMap, Request, Uri};
-use page_http::Field;
+use page_http::{Field, has_passed};
 use std::alloc::Global;
 use std::borrow::CowStr;
 use std::hash::RandomState;
@@ -18,7 +21,7 @@ use std::io;
 use std::random::RandomSource;
 use std::sync::{Arc, Wait};
 use std::thread::Threads;
-use std::time::Clock;
+use std::time::{Clock, Duration};
 
 /// What answers requests for pages from a source, with a runtime of its own.
 #[derive(Drop)]
@@ -27,7 +30,11 @@ pub struct EdgeService<S, R> {
     alloc: Global,
     source: Arc<S>,
     how: Assembling,
+    // How long a page may take.
+    limit: Option<Duration>,
     answers_head: bool,
+    // The name by which the edge knows a request that it has sent itself.
+    name: Option<Vec<u8>>,
     // The hash keys of the maps of fields.
     keys: RandomState,
 }
@@ -49,7 +56,9 @@ impl<S: Drop, R: Drop> EdgeService<S, R> {
             alloc,
             source,
             how,
+            limit: None,
             answers_head: false,
+            name: None,
             keys,
         })
     }
@@ -59,6 +68,24 @@ impl<S: Drop, R: Drop> EdgeService<S, R> {
     /// Source: RFC 9110, "HEAD".
     pub fn answering_head(mut self) -> EdgeService<S, R> {
         self.answers_head = true;
+        self
+    }
+
+    /// The same, and a page has so long from its request's head on: what is asked for later fails at once, as if it
+    /// couldn't be fetched. A fetch that is under way then has its own limit. `None` means no limit.
+    ///
+    /// Our profile.
+    pub fn limited_to(mut self, limit: Option<Duration>) -> EdgeService<S, R> {
+        self.limit = limit;
+        self
+    }
+
+    /// The same, and a request that has passed an edge of this name before is answered 508, without a fetch. So an edge
+    /// that is its own origin ends its own requests at once.
+    ///
+    /// Source: RFC 8586, "The CDN-Loop Request Header Field".
+    pub fn named(mut self, name: Vec<u8>) -> EdgeService<S, R> {
+        self.name = Some(name);
         self
     }
 
@@ -74,7 +101,7 @@ impl<S: Drop, R: Drop> EdgeService<S, R> {
 impl<S, R> EdgeService<S, R>
 where
     S: Source<R> + Sync,
-    R: Wait + Threads + Sync,
+    R: Wait + Threads + Clock + Sync,
 {
     /// The response to a request, from a copy of its head; 503 if there is no room for the copy.
     pub(crate) fn answer<B>(&self, request: &Request<B>) -> Result<Responded, NoMemory> {
@@ -82,6 +109,9 @@ where
         let Ok(fields) = fields_of(alloc, request.headers()) else {
             return no_room(alloc);
         };
+        if is_loop(self.name.as_deref(), fields.as_slice()) {
+            return refused(alloc, 508);
+        }
         let Ok(target) = target_of(alloc, request.uri()) else {
             return no_room(alloc);
         };
@@ -90,7 +120,11 @@ where
             target: target.as_bytes(),
             fields: fields.as_slice(),
         };
-        respond_with_log(&self.rt, alloc, &*self.source, &head, self.how)
+        let source = WithinTime {
+            source: &*self.source,
+            until: deadline(&self.rt, self.limit).ok().flatten(),
+        };
+        respond_with_log(&self.rt, alloc, &source, &head, self.how)
     }
 }
 
@@ -109,6 +143,16 @@ fn answered_as(method: &[u8], answers_head: bool) -> &[u8]
         b"GET".as_slice()
     } else {
         method
+    }
+}
+
+// Whether a request with these lines was sent by an edge of this name.
+fn is_loop(name: Option<&[u8]>, fields: &[Field<'_>]) -> bool
+    ensures { MatchOption name.entry (result ≡ false) (λ name. result ≡ has_passed name.now fields.now) }
+{
+    match name {
+        Some(name) => has_passed(name, fields),
+        None => false,
     }
 }
 

@@ -1,7 +1,7 @@
 //! A roster that threads share.
 
 use crate::accept::Accept;
-use crate::roster::{Admission, Roster, ServeEnd, Work};
+use crate::roster::{Admission, AfterFailure, Roster, ServeEnd, Work};
 use std::sync::{Condvar, CondvarTimeouts, Mutex, Wait};
 use std::time::{Clock, Duration};
 
@@ -46,13 +46,18 @@ impl SharedRoster {
         acceptor.set_may_wait(roster.may_wait());
     }
 
-    pub(crate) fn accept_failed(&self, rt: &impl Wait) -> bool {
+    pub(crate) fn accept_failed(&self, rt: &impl Wait) -> AfterFailure {
         let mut roster = self.roster.lock(rt);
-        let is_over = roster.accept_failed();
+        let what_follows = roster.accept_failed();
         let is_done = roster.is_done();
         drop(roster);
         self.tell(is_done);
-        is_over
+        what_follows
+    }
+
+    pub(crate) fn accepts_again(&self, rt: &impl Wait) {
+        self.roster.lock(rt).accepts_again();
+        self.room.notify_all();
     }
 
     /// If the connection is an idle one, it may be what makes room.

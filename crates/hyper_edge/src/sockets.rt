@@ -4,19 +4,24 @@ use crate::accept::Accept;
 use crate::client_stream::{ClientStream, PATIENCE_MILLIS};
 use crate::exchange::Limits;
 use crate::signals::{Pause, Readiness, Signals};
-use libc::net::{EPOLL_CTL_ADD, EPOLL_CTL_MOD, EPOLLIN, EPOLLONESHOT, EPOLLOUT, EPOLLRDHUP};
+use libc::net::{
+    EPOLL_CTL_ADD, EPOLL_CTL_MOD, EPOLLIN, EPOLLONESHOT, EPOLLOUT, EPOLLRDHUP, listen,
+};
 use mio::Poll;
 use os::EpollEvent;
 use std::alloc::AllocGlobal;
-use std::io;
 use std::net::{Net, Shutdown, TcpListener, TcpStream};
 use std::os::fd::{AsRawFd, OwnedFd};
 use std::sync::Arc;
 use std::sync::atomic::{AtomicBool, Ordering};
 use std::time::{Clock, Duration};
+use std::{io, thread};
 
 // For how many milliseconds at most a thread waits for one of the sockets that are watched.
 const TICK_MILLIS: i32 = 100;
+
+// How many clients may wait to be accepted, unless the system's own limit is lower.
+const QUEUE: i32 = 1_024;
 
 /// Sockets of a listener, with limits of time.
 #[derive(Drop)]
@@ -43,6 +48,8 @@ impl Sockets {
         let same = TcpStream::from(OwnedFd::from(listener.try_clone()?));
         same.set_write_timeout(Some(Duration::from_millis(PATIENCE_MILLIS)))?;
         same.set_nodelay(true)?;
+        // Where that is refused, the queue that std has asked for stays.
+        let _ = listen(listener.as_raw_fd(), QUEUE);
         Ok(Sockets {
             listener,
             same,
@@ -72,6 +79,10 @@ impl<R: Clock + AllocGlobal + Clone + Drop + Send> Accept<R> for Sockets {
         let rt = rt.clone().ok()?;
         let may_wait = self.may_wait.clone().ok()?;
         ClientStream::new(rt.alloc(), socket, rt, self.limits, may_wait).ok()
+    }
+
+    fn rest(&self, rt: &R, pause: Duration) {
+        thread::sleep(rt, pause);
     }
 
     fn keeps(&self) -> bool {

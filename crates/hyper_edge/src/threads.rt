@@ -28,7 +28,8 @@ use tokio::io::{AsyncRead, AsyncWrite};
 /// No more than `capacity.connections` connections are accepted that haven't ended. Where there is no room for one
 /// more, the one that has been kept without a further request for longest is ended.
 ///
-/// A failed accept is skipped, and doesn't add to `count`; sixteen in succession end the server.
+/// A failed accept is skipped, and doesn't add to `count`. After one nobody accepts for a moment, from a millisecond up
+/// to a second, twice as long each time; sixteen in succession end the server.
 ///
 /// Where the acceptor keeps connections, each serves one request after another.
 ///

@@ -1,13 +1,12 @@
 -- The relation is put together of what each step found.
 use Rattle.std.proofs.Common.{rules, ◌≡◌, inl, inr}
-use Rattle.std.proofs.lemmas.Result.{IfOk-weaker}
 use Rattle.page_http.specs.Head.{served}
 use Rattle.hyper_edge.specs.Responses as spec
 use Rattle.hyper_edge.proofs.Heads.{is_served}
-use Rattle.hyper_edge.proofs.responding.respond_with_log.Goals as goal
+use Rattle.hyper_edge.proofs.responding.tried.Goals as goal
 
-pub returns-in-Err-Unreadable : goal.returns-in-Err-Unreadable
-returns-in-Err-Unreadable g c =
+pub returns-in_ok-refused-in-Err-Unreadable : goal.returns-in_ok-refused-in-Err-Unreadable
+returns-in_ok-refused-in-Err-Unreadable g c =
     let get : c.args.head.now.method.now ≡ served = is_served c.args.head.now.method.now (search rules) in
     let nothing : spec.AsksNothing c.args.head.now.target.now c.args.head.now.fields.now = c.in-Err-Unreadable.ensures.unreadable (search rules) in
-    IfOk-weaker c.refused-in-Err-Unreadable.result _ _ (λ responded same. inr (get, inl (nothing, same))) c.refused-in-Err-Unreadable.ensures
+    inr (get, inl (nothing, c.in_ok-refused-in-Err-Unreadable.ensures))

@@ -1,0 +1,44 @@
+//! The time that a page may take.
+
+ghost use Rattle.hyper_edge.specs.PageTime.{GivesInTime, names_url};
+
+use edge_types::{Answer, NoMemory, PageUrl};
+use fetch_workers::Source;
+use std::alloc::Global;
+use std::sync::Arc;
+use std::time::{Clock, Instant};
+
+/// A source as one page sees it: once the page's time is over, each fetch fails at once. What the source has ready
+/// costs no time, so it is still given.
+#[derive(Drop)]
+pub(crate) struct WithinTime<'a, S> {
+    pub source: &'a S,
+    /// When the page's time is over; `None` means never.
+    pub until: Option<Instant>,
+}
+
+impl<'a, S> WithinTime<'a, S> {
+    fn is_over(&self, clock: &impl Clock) -> bool {
+        match (self.until, Instant::now(clock)) {
+            (Some(until), Ok(now)) => until < now,
+            _ => false,
+        }
+    }
+}
+
+impl<'a, R: Clock, S: Source<R>> Source<R> for WithinTime<'a, S> {
+    ghost gives = { λ it. GivesInTime (S.gives it.source.now) };
+
+    ghost names_url = { λ it. names_url (S.gives it.source.now) (S.names_url it.source.now) };
+
+    fn fetch(&self, rt: &R, alloc: Global, url: &PageUrl) -> Result<Arc<Answer>, NoMemory> {
+        if self.is_over(rt) {
+            return Ok(Arc::new(alloc, Answer::failed(url.share()?))?);
+        }
+        self.source.fetch(rt, alloc, url)
+    }
+
+    fn ready(&self, rt: &R, alloc: Global, url: &PageUrl) -> Result<Option<Arc<Answer>>, NoMemory> {
+        self.source.ready(rt, alloc, url)
+    }
+}
