@@ -1,16 +1,21 @@
 -- Origins that words name, one more at a time.
-use Rattle.std.proofs.Common.{◌≡◌, ◌<◌, ◌+◌, ◌||◌, ℕ, zero, suc, Bool, true, false, bytes_eq, List, [], ◌∷◌, ◌++◌, map, take, get_or, length, Some, Bor, refl, subst, ap, sym, ◌∙◌, arith}
+use Rattle.std.proofs.Common.{◌≡◌, ◌<◌, ◌+◌, ◌||◌, ℕ, zero, suc, Bool, true, false, bytes_eq, List, [], ◌∷◌, ◌++◌, map, take, get_or, length, Some, None, Bor, inl, inr, refl, subst, ap, sym, ◌∙◌, arith}
 use Rattle.std.specs.List.{list_any}
 use Rattle.std.proofs.lemmas.Bool.{or_from, or_parts}
-use Rattle.std.proofs.Math.Bool.{or-false}
-use Rattle.std.proofs.lemmas.List.{map_more, map_push, take-map}
+use Rattle.std.proofs.Math.Bool.{or-false, or-true}
+use Rattle.std.proofs.lemmas.List.{get_or-map, length-map, map_more, map_push, take-map}
 use Rattle.std.proofs.lemmas.List.Folds.{list_any-append}
 use Rattle.clap.proofs.WalkLemmas.{list_any-map}
 use Rattle.clap.specs.Words.{Text}
-use Rattle.std.specs.declared.net.socket_addr.SocketAddr.{SocketAddr}
 use Rattle.edge_setup.specs.declared.setup.Origin.{Origin}
-use Rattle.edge_setup.specs.Words.{AreOrigins, NamesOrigin, SayNoOrigins, authorities, stands_twice}
-use Rattle.edge_setup.specs.Origins.{IsNoOrigin, has}
+use Rattle.edge_setup.specs.declared.origin.OriginFault.{OriginFault}
+use Rattle.edge_setup.specs.declared.origin.OriginFault.TheVariants as fault
+use Rattle.edge_setup.specs.declared.origin.Place.{Place}
+use Rattle.edge_setup.specs.OriginWord.{authority_fault, is_authority, IsFaultOf, IsPlace}
+use Rattle.edge_types.specs.Halves.{around}
+use Rattle.std.specs.Str.{byte}
+use Rattle.edge_setup.specs.Words.{AreOrigins, IsOriginFault, NamesOrigin, SayNoOrigins, authorities, stands_twice}
+use Rattle.edge_setup.specs.Origins.{has}
 
 -- what words say
 abbrev texts : List (Bor Text) → List Text
@@ -18,7 +23,7 @@ texts words = map (λ w. w.now) words
 
 -- ---- one word more
 
-origins_more : (words : List Text) (origins : List Origin) (word : Text) (origin : Origin) → AreOrigins words origins → NamesOrigin word origin.authority.items origin.address
+origins_more : (words : List Text) (origins : List Origin) (word : Text) (origin : Origin) → AreOrigins words origins → NamesOrigin word origin.authority.items origin.place
     → AreOrigins (words ++ word ∷ []) (origins ++ origin ∷ [])
 origins_more [] [] word origin are named = (named, tt)
 origins_more [] (o ∷ os) word origin are named = absurd are
@@ -27,7 +32,7 @@ origins_more (w ∷ ws) (o ∷ os) word origin are named = (are.0, origins_more 
 
 -- one word more, and the origin that it is
 pub origins_next : (words : List (Bor Text)) (i : ℕ) (d : Bor Text) (origins : List Origin) (origin : Origin) → i < length words → AreOrigins (texts (take i words)) origins
-    → NamesOrigin (get_or words i d).now origin.authority.items origin.address → AreOrigins (texts (take (i + 1) words)) (origins ++ origin ∷ [])
+    → NamesOrigin (get_or words i d).now origin.authority.items origin.place → AreOrigins (texts (take (i + 1) words)) (origins ++ origin ∷ [])
 origins_next words i d origins origin within are named =
     subst (λ (ws : List Text). AreOrigins ws (origins ++ origin ∷ [])) (sym (map_more (λ (w : Bor Text). w.now) words i d within))
     (origins_more (texts (take i words)) origins (get_or words i d).now origin are named)
@@ -60,21 +65,42 @@ once_next origins origin once new = twice_next origins origin ∙ or_from (stand
 
 -- ---- words that say no origins
 
-no_origin_there : (words : List (Bor Text)) (i : ℕ) (d : Bor Text) (origins : List Origin) → i < length words → IsNoOrigin (get_or words i d).now → AreOrigins (texts words) origins → ⊥
-no_origin_there [] i d origins within none are = let past : i < 0 = within in absurd (omega arith)
-no_origin_there (w ∷ ws) i d [] within none are = absurd are
-no_origin_there (w ∷ ws) zero d (o ∷ os) within none are = none o.authority.items o.address are.0
-no_origin_there (w ∷ ws) (suc i) d (o ∷ os) within none are = no_origin_there ws i d os (omega arith) none are.1
-
--- one of the words is no origin
-pub none_named : (words : List (Bor Text)) (i : ℕ) (d : Bor Text) → i < length words → IsNoOrigin (get_or words i d).now → SayNoOrigins (Some (texts words))
-none_named words i d within none origins said = no_origin_there words i d origins within none said.0
-
--- what stands before the first `=` is one text
+-- what stands before the first `=` is one text, and so is what stands after it
 same_half : (h k : Text × Text) → Some h ≡ Some k → h.0 ≡ k.0
 same_half h k same = let is : h ≡ k = cc in ap (λ (halves : Text × Text). halves.0) is
 
-same_authority : (word a b : Text) (s t : SocketAddr) → NamesOrigin word a s → NamesOrigin word b t → a ≡ b
+last_half : (h k : Text × Text) → Some h ≡ Some k → h.1 ≡ k.1
+last_half h k same = let is : h ≡ k = cc in ap (λ (halves : Text × Text). halves.1) is
+
+-- a word with a fault names no origin
+no_origin_by : (word : Text) (f : OriginFault) → IsFaultOf word f → (authority : Text) (place : Place) → NamesOrigin word authority place → ⊥
+no_origin_by word f (inl form) authority place names =
+    let none : around (byte "=") word ≡ None = form.1 in
+    let cut : around (byte "=") word ≡ Some (authority, names.last) = names.cut in
+    absurd (cc)
+no_origin_by word f (inr (inl bad)) authority place names =
+    bad.1.3 place (subst (λ (t : Text). IsPlace t place) (last_half (authority, names.last) (bad.1.0, bad.1.1) (sym names.cut ∙ bad.1.2)) names.named)
+no_origin_by word f (inr (inr bad)) authority place names =
+    let same : authority ≡ bad.0 = same_half (authority, names.last) (bad.0, bad.1) (sym names.cut ∙ bad.2) in
+    let is : is_authority bad.0 ≡ true = subst (λ (a : Text). is_authority a ≡ true) same names.written in
+    let none : authority_fault bad.0 ≡ None = rw is refl in
+    let some : authority_fault bad.0 ≡ Some f = bad.3 in
+    absurd (cc)
+
+no_origin_there : (words : List (Bor Text)) (i : ℕ) (d : Bor Text) (f : OriginFault) (origins : List Origin) → i < length words → IsFaultOf (get_or words i d).now f → AreOrigins (texts words) origins → ⊥
+no_origin_there [] i d f origins within none are = let past : i < 0 = within in absurd (omega arith)
+no_origin_there (w ∷ ws) i d f [] within none are = absurd are
+no_origin_there (w ∷ ws) zero d f (o ∷ os) within none are = no_origin_by w.now f none o.authority.items o.place are.0
+no_origin_there (w ∷ ws) (suc i) d f (o ∷ os) within none are = no_origin_there ws i d f os (omega arith) none are.1
+
+-- one of the words is no origin
+pub none_named : (words : List (Bor Text)) (i : ℕ) (d : Bor Text) (f : OriginFault) → i < length words → IsFaultOf (get_or words i d).now f → SayNoOrigins (Some (texts words)) × IsOriginFault (Some (texts words)) f
+none_named words i d f within bad =
+    let at : get_or (texts words) i [] ≡ (get_or words i d).now = get_or-map (λ (w : Bor Text). w.now) words i d [] within in
+    let there : i < length (texts words) = rw (length-map words (λ (w : Bor Text). w.now)) within in
+    (λ origins said. no_origin_there words i d f origins within bad said.0, inr (i, there, subst (λ (word : Text). IsFaultOf word f) (sym at) bad))
+
+same_authority : (word a b : Text) (s t : Place) → NamesOrigin word a s → NamesOrigin word b t → a ≡ b
 same_authority word a b s t x y = same_half (a, x.last) (b, y.last) (sym x.cut ∙ y.cut)
 
 -- words are the same authorities, however they are read
@@ -85,7 +111,7 @@ same_authorities [] (x ∷ xs) ys are also = absurd are
 same_authorities (w ∷ ws) [] ys are also = absurd are
 same_authorities (w ∷ ws) (x ∷ xs) [] are also = absurd also
 same_authorities (w ∷ ws) (x ∷ xs) (y ∷ ys) are also =
-    rw (same_authority w x.authority.items y.authority.items x.address y.address are.0 also.0, same_authorities ws xs ys are.1 also.1) refl
+    rw (same_authority w x.authority.items y.authority.items x.place y.place are.0 also.0, same_authorities ws xs ys are.1 also.1) refl
 
 -- the first words are the first origins
 are_taken : (n : ℕ) (words : List Text) (origins : List Origin) → AreOrigins words origins → AreOrigins (take n words) (take n origins)
@@ -116,12 +142,22 @@ new_there words n all origins origin are once first =
     let fresh : stands_twice (authorities (origins ++ origin ∷ [])) ≡ false = rw (← same, ← taken) (once_taken n (authorities all) once) in
     (or_parts (stands_twice (authorities origins)) (has origin.authority.items origins) (sym (twice_next origins origin) ∙ fresh)).1
 
--- one of the words has an authority of the ones before it
-pub twice_named : (words : List (Bor Text)) (i : ℕ) (d : Bor Text) (origins : List Origin) (origin : Origin) → i < length words → AreOrigins (texts (take i words)) origins
-    → NamesOrigin (get_or words i d).now origin.authority.items origin.address → has origin.authority.items origins ≡ true → SayNoOrigins (Some (texts words))
-twice_named words i d origins origin within are named stands all said =
+-- where one of the words has an authority of the ones before it, they say none
+not_twice : (words : List (Bor Text)) (i : ℕ) (d : Bor Text) (origins : List Origin) (origin : Origin) → i < length words → AreOrigins (texts (take i words)) origins
+    → NamesOrigin (get_or words i d).now origin.authority.items origin.place → has origin.authority.items origins ≡ true → SayNoOrigins (Some (texts words))
+not_twice words i d origins origin within are named stands all said =
     let first = origins_next words i d origins origin within are named in
     let taken = take-map (λ (w : Bor Text). w.now) (i + 1) words in
     let new = new_there (texts words) (i + 1) all origins origin said.0 said.1 (subst (λ (ws : List Text). AreOrigins ws (origins ++ origin ∷ [])) (sym taken) first) in
     let no : true ≡ false = sym stands ∙ new in
     absurd (cc)
+
+-- one of the words has an authority of the ones before it
+pub twice_named : (words : List (Bor Text)) (i : ℕ) (d : Bor Text) (origins : List Origin) (origin : Origin) → i < length words → AreOrigins (texts (take i words)) origins
+    → NamesOrigin (get_or words i d).now origin.authority.items origin.place → has origin.authority.items origins ≡ true → SayNoOrigins (Some (texts words)) × IsOriginFault (Some (texts words)) fault.Twice
+twice_named words i d origins origin within are named stands =
+    let more = origins_next words i d origins origin within are named in
+    let taken = take-map (λ (w : Bor Text). w.now) (i + 1) words in
+    let first = subst (λ (ws : List Text). AreOrigins ws (origins ++ origin ∷ [])) (sym taken) more in
+    let twice : stands_twice (authorities (origins ++ origin ∷ [])) ≡ true = twice_next origins origin ∙ rw stands (or-true (stands_twice (authorities origins))) in
+    (not_twice words i d origins origin within are named stands, inl (refl, (i + 1, origins ++ origin ∷ [], first, twice)))

@@ -1,7 +1,7 @@
 -- The subcommand `serve`, by `clap`'s definitions of commands.
 use Rattle.std.specs.Prelude.{codes}
 use Rattle.clap.specs.Words.{App, new_app, with_rule}
-use Rattle.edge_setup.specs.Numbers.{ahead, capacity, client_timeout, connections, keep_alive, levels, numeric_option, threads, timeout, workers}
+use Rattle.edge_setup.specs.Numbers.{ahead, capacity, client_timeout, connections, keep_alive, levels, numeric_option, origin_fetches, origin_keep_alive, origin_rest, page_timeout, threads, timeout, workers}
 use Rattle.edge_setup.specs.Rules.{named_flag, named_option, repeated, wanted}
 
 -- where the server listens, and which origins it asks
@@ -18,11 +18,20 @@ with_pages command = with_rule (with_rule (with_rule (with_rule command
     (numeric_option levels))
     (numeric_option capacity)
 
+-- how origins are asked
+abbrev pub with_fetching : App → App
+with_fetching command = with_rule (with_rule (with_rule (with_rule (with_rule (with_rule command
+    (numeric_option timeout))
+    (numeric_option page_timeout))
+    (numeric_option origin_keep_alive))
+    (numeric_option origin_fetches))
+    (numeric_option origin_rest))
+    (named_option (codes "name"))
+
 -- how connections are served
 abbrev pub with_serving : App → App
-with_serving command = with_rule (with_rule (with_rule (with_rule (with_rule (with_rule command
+with_serving command = with_rule (with_rule (with_rule (with_rule (with_rule command
     (named_option (codes "accept")))
-    (numeric_option timeout))
     (numeric_option client_timeout))
     (numeric_option keep_alive))
     (numeric_option threads))
@@ -34,4 +43,4 @@ with_flags command = with_rule (with_rule command (named_flag (codes "head"))) (
 
 -- the subcommand `serve`
 abbrev pub serve_command : App
-serve_command = with_flags (with_serving (with_pages (with_addresses (new_app (codes "serve")))))
+serve_command = with_flags (with_serving (with_fetching (with_pages (with_addresses (new_app (codes "serve"))))))

@@ -39,6 +39,22 @@ capacity = record { name = codes "capacity"; least = 1; most = 1024; default = c
 abbrev pub timeout : Numeric
 timeout = record { name = codes "timeout"; least = 0; most = 86400000; default = codes "10000"; refusal = codes "error: --timeout takes milliseconds, from 0 to 86400000" }
 
+-- the milliseconds that a page may take, at most a day
+abbrev pub page_timeout : Numeric
+page_timeout = record { name = codes "page-timeout"; least = 0; most = 86400000; default = codes "0"; refusal = codes "error: --page-timeout takes milliseconds, from 0 to 86400000" }
+
+-- the connections to each origin that are kept while nobody fetches over them
+abbrev pub origin_keep_alive : Numeric
+origin_keep_alive = record { name = codes "origin-keep-alive"; least = 0; most = 1024; default = codes "0"; refusal = codes "error: --origin-keep-alive takes a number from 0 to 1024" }
+
+-- the fetches that may be in flight to each origin
+abbrev pub origin_fetches : Numeric
+origin_fetches = record { name = codes "origin-fetches"; least = 0; most = 65535; default = codes "0"; refusal = codes "error: --origin-fetches takes a number from 0 to 65535" }
+
+-- the seconds that an origin rests after failures, at most a day
+abbrev pub origin_rest : Numeric
+origin_rest = record { name = codes "origin-rest"; least = 0; most = 86400; default = codes "0"; refusal = codes "error: --origin-rest takes seconds, from 0 to 86400" }
+
 -- the milliseconds that a client may take, at most a day
 abbrev pub client_timeout : Numeric
 client_timeout = record { name = codes "client-timeout"; least = 0; most = 86400000; default = codes "60000"; refusal = codes "error: --client-timeout takes milliseconds, from 0 to 86400000" }

@@ -1,5 +1,5 @@
 -- What the options of `serve` mean, by the rows of `clap`'s matches.
-use Rattle.std.specs.Prelude.{◌≡◌, ◌≤◌, ℕ, Bool, false, ◌||◌, bytes_eq, List, [], ◌∷◌, map, codes, Option, Some, None, IsSome}
+use Rattle.std.specs.Prelude.{◌≡◌, ◌⊎◌, ◌≤◌, ℕ, ◌<◌, Bool, true, false, ◌&&◌, ◌||◌, bytes_eq, nat_le, List, [], ◌∷◌, map, take, length, get_or, codes, Option, Some, None, option_map, IsSome, if◌then◌else◌}
 use Rattle.std.specs.Str.{byte}
 use Rattle.std.specs.List.{list_any}
 use Rattle.std.specs.Option.{option_map_or}
@@ -8,8 +8,15 @@ use Rattle.std.specs.declared.net.socket_addr.SocketAddr.{SocketAddr}
 use Rattle.clap.specs.Words.{Row, Text, all_of, first_of}
 use Rattle.edge_types.specs.Halves.{around}
 use Rattle.decimals.specs.Decimal.{decimal_of}
-use Rattle.edge_setup.specs.Numbers.{Numeric, ahead, capacity, client_timeout, connections, keep_alive, levels, said_of, threads, timeout, workers}
+use Rattle.edge_setup.specs.Numbers.{Numeric, ahead, capacity, client_timeout, connections, keep_alive, levels, origin_fetches, origin_keep_alive, origin_rest, page_timeout, said_of, threads, timeout, workers}
+use Rattle.surrogate_headers.specs.Token.{is_token}
+use Rattle.edge_setup.specs.OriginWord.{is_authority, IsFaultOf, IsPlace}
+use Rattle.edge_setup.specs.OriginWord.{refusal_of as origin_refusal}
+use Rattle.edge_setup.specs.declared.origin.OriginFault.{OriginFault}
+use Rattle.edge_setup.specs.declared.origin.OriginFault.TheVariants as origin_fault
+use Rattle.edge_setup.specs.declared.origin.Place.{Place}
 use Rattle.edge_setup.specs.declared.setup.Origin.{Origin}
+use Rattle.edge_setup.specs.declared.setup.Fetching.{Fetching}
 use Rattle.edge_setup.specs.declared.setup.Pages.{Pages}
 use Rattle.edge_setup.specs.declared.setup.Serving.{Serving}
 use Rattle.edge_setup.specs.declared.setup.Setup.{Setup}
@@ -33,6 +40,13 @@ accepts_of (Some word) = decimal_of word most_accepts
 abbrev pub is_set : Option Text → Bool
 is_set word = option_map_or (λ w. bytes_eq w (codes "true")) word false
 
+-- ---- names
+
+-- the edge's name that a word writes: a token of at most 64 bytes; without a word it has none
+abbrev pub name_of : Option Text → Option (Option Text)
+name_of None = Some None
+name_of (Some word) = if is_token word && nat_le (length word) 64 then Some (Some word) else None
+
 -- ---- addresses
 
 -- the word is an address, by std's grammar
@@ -40,18 +54,19 @@ abbrev pub IsAddress : Option Text → SocketAddr → Type 0
 IsAddress None address = ⊥
 IsAddress (Some word) address = IsSocketText word address
 
--- the word is an authority and an address, with its first `=` between them
-pub record NamesOrigin (word : Text) (authority : List ℕ) (address : SocketAddr) : Type 0 where
+-- the word is an authority and a place, with its first `=` between them
+pub record NamesOrigin (word : Text) (authority : List ℕ) (place : Place) : Type 0 where
   pub last : Text
   pub cut : around (byte "=") word ≡ Some (authority, last)
-  pub named : IsSocketText last address
+  pub written : is_authority authority ≡ true
+  pub named : IsPlace last place
 
 -- the words name these origins, in order
 abbrev pub AreOrigins : List Text → List Origin → Type 0
 AreOrigins [] [] = Unit {0}
 AreOrigins [] (o ∷ os) = ⊥
 AreOrigins (w ∷ ws) [] = ⊥
-AreOrigins (w ∷ ws) (o ∷ os) = NamesOrigin w o.authority.items o.address × AreOrigins ws os
+AreOrigins (w ∷ ws) (o ∷ os) = NamesOrigin w o.authority.items o.place × AreOrigins ws os
 
 -- a text comes twice among these
 abbrev pub stands_twice : List Text → Bool
@@ -71,6 +86,19 @@ SayOrigins (Some words) origins = AreOrigins words origins × (stands_twice (aut
 abbrev pub SayNoOrigins : Option (List Text) → Type 0
 SayNoOrigins words = (origins : List Origin) → SayOrigins words origins → ⊥
 
+-- the first words name an authority twice
+abbrev pub NameTwice : List Text → Type 0
+NameTwice words = (n : ℕ) × (origins : List Origin) × AreOrigins (take n words) origins × (stands_twice (authorities origins) ≡ true)
+
+-- this is wrong with one of the words
+abbrev pub IsFaultIn : List Text → OriginFault → Type 0
+IsFaultIn words f = (n : ℕ) × (n < length words) × IsFaultOf (get_or words n []) f
+
+-- this is wrong with the words of the option
+abbrev pub IsOriginFault : Option (List Text) → OriginFault → Type 0
+IsOriginFault None f = ⊥
+IsOriginFault (Some words) f = ((f ≡ origin_fault.Twice) × NameTwice words) ⊎ IsFaultIn words f
+
 -- ---- the options
 
 -- how pages are assembled and kept
@@ -80,10 +108,17 @@ pub record SaysPages (rows : List Row) (pages : Pages) : Type 0 where
   pub levels_are : said_of levels rows ≡ Some pages.levels
   pub capacity_is : said_of capacity rows ≡ Some pages.capacity
 
+-- how origins are asked
+pub record SaysFetching (rows : List Row) (fetching : Fetching) : Type 0 where
+  pub timeout_is : said_of timeout rows ≡ Some fetching.timeout
+  pub page_timeout_is : said_of page_timeout rows ≡ Some fetching.page_timeout
+  pub origin_keep_alive_is : said_of origin_keep_alive rows ≡ Some fetching.origin_keep_alive
+  pub origin_fetches_are : said_of origin_fetches rows ≡ Some fetching.origin_fetches
+  pub origin_rest_is : said_of origin_rest rows ≡ Some fetching.origin_rest
+
 -- how connections are served
 pub record SaysServing (rows : List Row) (serving : Serving) : Type 0 where
   pub accepts_are : accepts_of (first_of (codes "accept") rows) ≡ Some serving.accept
-  pub timeout_is : said_of timeout rows ≡ Some serving.timeout
   pub client_timeout_is : said_of client_timeout rows ≡ Some serving.client_timeout
   pub keep_alive_is : said_of keep_alive rows ≡ Some serving.keep_alive
   pub threads_are : said_of threads rows ≡ Some serving.threads
@@ -96,22 +131,29 @@ pub record SaysSetup (rows : List Row) (setup : Setup) : Type 0 where
   pub listen_is : IsAddress (first_of (codes "listen") rows) setup.listen
   pub origins_are : SayOrigins (all_of (codes "origin") rows) setup.origins.items
   pub pages_are : SaysPages rows setup.pages
+  pub fetching_is : SaysFetching rows setup.fetching
   pub serving_is : SaysServing rows setup.serving
+  pub name_is : name_of (first_of (codes "name") rows) ≡ Some (option_map (λ name. name.items) setup.name)
 
 -- the value of an option is invalid
 abbrev pub IsWrong : List Row → Named → Type 0
 IsWrong rows named.Listen = (address : SocketAddr) → IsAddress (first_of (codes "listen") rows) address → ⊥
-IsWrong rows named.Origin = SayNoOrigins (all_of (codes "origin") rows)
+IsWrong rows (named.Origin fault) = SayNoOrigins (all_of (codes "origin") rows) × IsOriginFault (all_of (codes "origin") rows) fault
 IsWrong rows named.Workers = said_of workers rows ≡ None
 IsWrong rows named.Ahead = said_of ahead rows ≡ None
 IsWrong rows named.Levels = said_of levels rows ≡ None
 IsWrong rows named.Capacity = said_of capacity rows ≡ None
-IsWrong rows named.Accept = accepts_of (first_of (codes "accept") rows) ≡ None
 IsWrong rows named.Timeout = said_of timeout rows ≡ None
+IsWrong rows named.PageTimeout = said_of page_timeout rows ≡ None
+IsWrong rows named.OriginKeepAlive = said_of origin_keep_alive rows ≡ None
+IsWrong rows named.OriginFetches = said_of origin_fetches rows ≡ None
+IsWrong rows named.OriginRest = said_of origin_rest rows ≡ None
+IsWrong rows named.Accept = accepts_of (first_of (codes "accept") rows) ≡ None
 IsWrong rows named.ClientTimeout = said_of client_timeout rows ≡ None
 IsWrong rows named.KeepAlive = said_of keep_alive rows ≡ None
 IsWrong rows named.Threads = said_of threads rows ≡ None
 IsWrong rows named.Connections = said_of connections rows ≡ None
+IsWrong rows named.Name = name_of (first_of (codes "name") rows) ≡ None
 
 -- the values of these options are valid
 abbrev pub HasAddress : List Row → Type 0
@@ -126,8 +168,14 @@ HasAccepts rows = IsSome (accepts_of (first_of (codes "accept") rows))
 abbrev pub HasPages : List Row → Type 0
 HasPages rows = Has workers rows × Has ahead rows × Has levels rows × Has capacity rows
 
+abbrev pub HasFetching : List Row → Type 0
+HasFetching rows = Has timeout rows × Has page_timeout rows × Has origin_keep_alive rows × Has origin_fetches rows × Has origin_rest rows
+
 abbrev pub HasServing : List Row → Type 0
-HasServing rows = HasAccepts rows × Has timeout rows × Has client_timeout rows × Has keep_alive rows × Has threads rows × Has connections rows
+HasServing rows = HasAccepts rows × Has client_timeout rows × Has keep_alive rows × Has threads rows × Has connections rows
+
+abbrev pub HasName : List Row → Type 0
+HasName rows = IsSome (name_of (first_of (codes "name") rows))
 
 -- the values of the options that are read before this one are valid
 abbrev pub AreValidBefore : List Row → Named → Type 0
@@ -136,13 +184,18 @@ AreValidBefore rows named.Workers = HasAddress rows
 AreValidBefore rows named.Ahead = HasAddress rows × Has workers rows
 AreValidBefore rows named.Levels = HasAddress rows × Has workers rows × Has ahead rows
 AreValidBefore rows named.Capacity = HasAddress rows × Has workers rows × Has ahead rows × Has levels rows
-AreValidBefore rows named.Accept = HasAddress rows × HasPages rows
-AreValidBefore rows named.Timeout = HasAddress rows × HasPages rows × HasAccepts rows
-AreValidBefore rows named.ClientTimeout = HasAddress rows × HasPages rows × HasAccepts rows × Has timeout rows
-AreValidBefore rows named.KeepAlive = HasAddress rows × HasPages rows × HasAccepts rows × Has timeout rows × Has client_timeout rows
-AreValidBefore rows named.Threads = HasAddress rows × HasPages rows × HasAccepts rows × Has timeout rows × Has client_timeout rows × Has keep_alive rows
-AreValidBefore rows named.Connections = HasAddress rows × HasPages rows × HasAccepts rows × Has timeout rows × Has client_timeout rows × Has keep_alive rows × Has threads rows
-AreValidBefore rows named.Origin = HasAddress rows × HasPages rows × HasServing rows
+AreValidBefore rows named.Timeout = HasAddress rows × HasPages rows
+AreValidBefore rows named.PageTimeout = HasAddress rows × HasPages rows × Has timeout rows
+AreValidBefore rows named.OriginKeepAlive = HasAddress rows × HasPages rows × Has timeout rows × Has page_timeout rows
+AreValidBefore rows named.OriginFetches = HasAddress rows × HasPages rows × Has timeout rows × Has page_timeout rows × Has origin_keep_alive rows
+AreValidBefore rows named.OriginRest = HasAddress rows × HasPages rows × Has timeout rows × Has page_timeout rows × Has origin_keep_alive rows × Has origin_fetches rows
+AreValidBefore rows named.Accept = HasAddress rows × HasPages rows × HasFetching rows
+AreValidBefore rows named.ClientTimeout = HasAddress rows × HasPages rows × HasFetching rows × HasAccepts rows
+AreValidBefore rows named.KeepAlive = HasAddress rows × HasPages rows × HasFetching rows × HasAccepts rows × Has client_timeout rows
+AreValidBefore rows named.Threads = HasAddress rows × HasPages rows × HasFetching rows × HasAccepts rows × Has client_timeout rows × Has keep_alive rows
+AreValidBefore rows named.Connections = HasAddress rows × HasPages rows × HasFetching rows × HasAccepts rows × Has client_timeout rows × Has keep_alive rows × Has threads rows
+AreValidBefore rows named.Name = HasAddress rows × HasPages rows × HasFetching rows × HasServing rows
+AreValidBefore rows (named.Origin fault) = HasAddress rows × HasPages rows × HasFetching rows × HasServing rows × HasName rows
 
 -- this is the first option, in the order of reading, whose value is invalid
 pub record IsFirstWrong (rows : List Row) (option : Named) : Type 0 where
@@ -152,17 +205,22 @@ pub record IsFirstWrong (rows : List Row) (option : Named) : Type 0 where
 -- the line for an option whose words are no use
 abbrev pub refusal_of : Named → Text
 refusal_of named.Listen = codes "error: --listen takes an address with a port, as 127.0.0.1:8080"
-refusal_of named.Origin = codes "error: --origin takes AUTHORITY=ADDR, each authority once, as a.test=127.0.0.1:8080"
+refusal_of (named.Origin fault) = origin_refusal fault
 refusal_of named.Workers = workers.refusal
 refusal_of named.Ahead = ahead.refusal
 refusal_of named.Levels = levels.refusal
 refusal_of named.Capacity = capacity.refusal
-refusal_of named.Accept = codes "error: --accept takes a number below 2 to the power of 64"
 refusal_of named.Timeout = timeout.refusal
+refusal_of named.PageTimeout = page_timeout.refusal
+refusal_of named.OriginKeepAlive = origin_keep_alive.refusal
+refusal_of named.OriginFetches = origin_fetches.refusal
+refusal_of named.OriginRest = origin_rest.refusal
+refusal_of named.Accept = codes "error: --accept takes a number below 2 to the power of 64"
 refusal_of named.ClientTimeout = client_timeout.refusal
 refusal_of named.KeepAlive = keep_alive.refusal
 refusal_of named.Threads = threads.refusal
 refusal_of named.Connections = connections.refusal
+refusal_of named.Name = codes "error: --name takes 1 to 64 letters, digits and marks of a token, as edge-1"
 
 -- why the options are refused
 abbrev pub IsRefusedBy : List Row → SetupFault → Type 0

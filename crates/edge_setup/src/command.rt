@@ -2,10 +2,11 @@
 ghost use Rattle.std.specs.Prelude.{◌≡◌, false, IfOk};
 ghost use Rattle.clap.specs.Words.{app_of};
 ghost use Rattle.clap.specs.declared.builder.command.Command.TheViews.{out-Command as fields_of};
-ghost use Rattle.edge_setup.specs.Command.{serve_command, with_addresses, with_flags, with_pages, with_serving};
+ghost use Rattle.edge_setup.specs.Command.{serve_command, with_addresses, with_fetching, with_flags, with_pages, with_serving};
 
 use crate::number::{
-    AHEAD, CAPACITY, CLIENT_TIMEOUT, CONNECTIONS, KEEP_ALIVE, LEVELS, THREADS, TIMEOUT, WORKERS,
+    AHEAD, CAPACITY, CLIENT_TIMEOUT, CONNECTIONS, KEEP_ALIVE, LEVELS, ORIGIN_FETCHES,
+    ORIGIN_KEEP_ALIVE, ORIGIN_REST, PAGE_TIMEOUT, THREADS, TIMEOUT, WORKERS,
 };
 use crate::options::{flag, option, with_option};
 use clap::{ArgAction, Command};
@@ -21,6 +22,7 @@ pub fn serve_command<'a>(alloc: Global) -> Result<Command<'a>, AllocError>
     );
     let command = with_addresses(alloc, command)?;
     let command = with_pages(alloc, command)?;
+    let command = with_fetching(alloc, command)?;
     let command = with_serving(alloc, command)?;
     with_flags(alloc, command)
 }
@@ -63,19 +65,41 @@ fn with_pages<'a>(alloc: Global, command: Command<'a>) -> Result<Command<'a>, Al
     with_option(command, capacity)
 }
 
+// How origins are asked.
+fn with_fetching<'a>(alloc: Global, command: Command<'a>) -> Result<Command<'a>, AllocError>
+    ensures app { IfOk result (λ more. app_of more ≡ with_fetching (app_of command.entry)) }
+    ensures local { IfOk result (λ more. (fields_of more).has_globals ≡ (fields_of command.entry).has_globals) }
+{
+    let timeout = TIMEOUT.arg(alloc);
+    let page_timeout = PAGE_TIMEOUT.arg(alloc);
+    let origin_keep_alive = ORIGIN_KEEP_ALIVE.arg(alloc);
+    let origin_fetches = ORIGIN_FETCHES.arg(alloc);
+    let origin_rest = ORIGIN_REST.arg(alloc);
+    let name = option(
+        alloc,
+        "name",
+        "TOKEN",
+        "The edge's name: a request that has passed it before is refused",
+    );
+    let command = with_option(command, timeout)?;
+    let command = with_option(command, page_timeout)?;
+    let command = with_option(command, origin_keep_alive)?;
+    let command = with_option(command, origin_fetches)?;
+    let command = with_option(command, origin_rest)?;
+    with_option(command, name)
+}
+
 // How connections are served.
 fn with_serving<'a>(alloc: Global, command: Command<'a>) -> Result<Command<'a>, AllocError>
     ensures app { IfOk result (λ more. app_of more ≡ with_serving (app_of command.entry)) }
     ensures local { IfOk result (λ more. (fields_of more).has_globals ≡ (fields_of command.entry).has_globals) }
 {
     let accept = option(alloc, "accept", "N", "Ends after this many connections");
-    let timeout = TIMEOUT.arg(alloc);
     let client_timeout = CLIENT_TIMEOUT.arg(alloc);
     let keep_alive = KEEP_ALIVE.arg(alloc);
     let threads = THREADS.arg(alloc);
     let connections = CONNECTIONS.arg(alloc);
     let command = with_option(command, accept)?;
-    let command = with_option(command, timeout)?;
     let command = with_option(command, client_timeout)?;
     let command = with_option(command, keep_alive)?;
     let command = with_option(command, threads)?;

@@ -76,6 +76,46 @@ pub(crate) const TIMEOUT: NumericOption = NumericOption {
     refusal: "error: --timeout takes milliseconds, from 0 to 86400000",
 };
 
+/// The milliseconds that a page may take, at most a day.
+pub(crate) const PAGE_TIMEOUT: NumericOption = NumericOption {
+    name: "page-timeout",
+    help: "Milliseconds after which nothing more is fetched for a page; 0 for no limit",
+    least: 0,
+    most: 86_400_000,
+    default: "0",
+    refusal: "error: --page-timeout takes milliseconds, from 0 to 86400000",
+};
+
+/// The connections to each origin that are kept while nobody fetches over them.
+pub(crate) const ORIGIN_KEEP_ALIVE: NumericOption = NumericOption {
+    name: "origin-keep-alive",
+    help: "Idle connections that are kept to each origin's address, from 0 to 1024; 0 to fetch once over each",
+    least: 0,
+    most: 1_024,
+    default: "0",
+    refusal: "error: --origin-keep-alive takes a number from 0 to 1024",
+};
+
+/// The fetches that may be in flight to each origin.
+pub(crate) const ORIGIN_FETCHES: NumericOption = NumericOption {
+    name: "origin-fetches",
+    help: "Fetches that may be in flight to each origin's address, further ones fail; 0 for no bound",
+    least: 0,
+    most: 65_535,
+    default: "0",
+    refusal: "error: --origin-fetches takes a number from 0 to 65535",
+};
+
+/// The seconds that an origin rests after failures, at most a day.
+pub(crate) const ORIGIN_REST: NumericOption = NumericOption {
+    name: "origin-rest",
+    help: "Seconds for which an origin isn't asked after five failures in succession; 0 to ask on",
+    least: 0,
+    most: 86_400,
+    default: "0",
+    refusal: "error: --origin-rest takes seconds, from 0 to 86400",
+};
+
 /// The milliseconds that a client may take, at most a day.
 pub(crate) const CLIENT_TIMEOUT: NumericOption = NumericOption {
     name: "client-timeout",

@@ -5,18 +5,20 @@ ghost use Rattle.edge_setup.specs.Words.{refusal_of};
 ghost use Rattle.edge_setup.specs.declared.setup.SetupFault.TheVariants as fault;
 
 use crate::number::{
-    AHEAD, CAPACITY, CLIENT_TIMEOUT, CONNECTIONS, KEEP_ALIVE, LEVELS, THREADS, TIMEOUT, WORKERS,
+    AHEAD, CAPACITY, CLIENT_TIMEOUT, CONNECTIONS, KEEP_ALIVE, LEVELS, ORIGIN_FETCHES,
+    ORIGIN_KEEP_ALIVE, ORIGIN_REST, PAGE_TIMEOUT, THREADS, TIMEOUT, WORKERS,
 };
+use crate::origin::{OriginFault, Place};
 use std::alloc::AllocError;
 use std::net::SocketAddr;
 
-/// An authority, and the address at which it is asked.
+/// An authority, and where it is asked.
 #[derive(Drop)]
 pub struct Origin {
-    /// The host, with `:port` where that isn't 80, or `*` for every other authority.
+    /// The host, with `:port` where that isn't 80, as URLs have it; or `*` for every other authority.
     pub authority: Vec<u8>,
     /// Where it listens.
-    pub address: SocketAddr,
+    pub place: Place,
 }
 
 /// How pages are assembled and kept.
@@ -32,13 +34,26 @@ pub struct Pages {
     pub capacity: u16,
 }
 
+/// How origins are asked.
+#[derive(Clone, Copy)]
+pub struct Fetching {
+    /// The milliseconds that a fetch may take; 0 means no limit.
+    pub timeout: u32,
+    /// The milliseconds that a page may take until nothing more is fetched for it; 0 means no limit.
+    pub page_timeout: u32,
+    /// The most idle connections that are kept to each address; 0 means that each fetch has its own.
+    pub origin_keep_alive: u16,
+    /// The most fetches that are in flight to each address; 0 means no bound.
+    pub origin_fetches: u16,
+    /// The seconds for which an address isn't asked after five failures in succession; 0 means that it is asked on.
+    pub origin_rest: u32,
+}
+
 /// How connections are served.
 #[derive(Clone, Copy)]
 pub struct Serving {
     /// The server ends after this many connections.
     pub accept: u64,
-    /// The milliseconds that a fetch may take; 0 means no limit.
-    pub timeout: u32,
     /// The milliseconds that a client may take; 0 means no limit.
     pub client_timeout: u32,
     /// The seconds that a connection is kept for its client's next request; 0 means that none is kept.
@@ -62,8 +77,12 @@ pub struct Setup {
     pub origins: Vec<Origin>,
     /// How pages are assembled and kept.
     pub pages: Pages,
+    /// How origins are asked.
+    pub fetching: Fetching,
     /// How connections are served.
     pub serving: Serving,
+    /// The edge's name among others, a token of at most 64 bytes, where it has one.
+    pub name: Option<Vec<u8>>,
 }
 
 /// The options of `serve` whose values may be invalid.
@@ -71,8 +90,8 @@ pub struct Setup {
 pub enum Named {
     /// `--listen`: not an address.
     Listen,
-    /// `--origin`: not an authority with an address, or an authority given twice.
-    Origin,
+    /// `--origin`: this is wrong with its words.
+    Origin(OriginFault),
     /// `--workers`: not a number within the limits.
     Workers,
     /// `--ahead`: not a number within the limits.
@@ -81,10 +100,18 @@ pub enum Named {
     Levels,
     /// `--capacity`: not a number within the limits.
     Capacity,
-    /// `--accept`: not a number within the limits.
-    Accept,
     /// `--timeout`: not a number within the limits.
     Timeout,
+    /// `--page-timeout`: not a number within the limits.
+    PageTimeout,
+    /// `--origin-keep-alive`: not a number within the limits.
+    OriginKeepAlive,
+    /// `--origin-fetches`: not a number within the limits.
+    OriginFetches,
+    /// `--origin-rest`: not a number within the limits.
+    OriginRest,
+    /// `--accept`: not a number within the limits.
+    Accept,
     /// `--client-timeout`: not a number within the limits.
     ClientTimeout,
     /// `--keep-alive`: not a number within the limits.
@@ -93,6 +120,8 @@ pub enum Named {
     Threads,
     /// `--connections`: not a number within the limits.
     Connections,
+    /// `--name`: not a token, or too long.
+    Name,
 }
 
 impl Named {
@@ -102,19 +131,23 @@ impl Named {
     {
         match self {
             Named::Listen => "error: --listen takes an address with a port, as 127.0.0.1:8080",
-            Named::Origin => {
-                "error: --origin takes AUTHORITY=ADDR, each authority once, as a.test=127.0.0.1:8080"
-            }
+            Named::Origin(fault) => fault.refusal(),
             Named::Workers => WORKERS.refusal,
             Named::Ahead => AHEAD.refusal,
             Named::Levels => LEVELS.refusal,
             Named::Capacity => CAPACITY.refusal,
-            Named::Accept => "error: --accept takes a number below 2 to the power of 64",
             Named::Timeout => TIMEOUT.refusal,
+            Named::PageTimeout => PAGE_TIMEOUT.refusal,
+            Named::OriginKeepAlive => ORIGIN_KEEP_ALIVE.refusal,
+            Named::OriginFetches => ORIGIN_FETCHES.refusal,
+            Named::OriginRest => ORIGIN_REST.refusal,
+            Named::Accept => "error: --accept takes a number below 2 to the power of 64",
             Named::ClientTimeout => CLIENT_TIMEOUT.refusal,
             Named::KeepAlive => KEEP_ALIVE.refusal,
             Named::Threads => THREADS.refusal,
             Named::Connections => CONNECTIONS.refusal,
+            Named::Name =>
+                "error: --name takes 1 to 64 letters, digits and marks of a token, as edge-1",
         }
     }
 }

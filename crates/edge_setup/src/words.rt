@@ -1,18 +1,20 @@
 //! What the options of `serve` ask for.
-ghost use Rattle.std.specs.Prelude.{◌≡◌, option_map, IfOk, MatchOption, MatchResult};
+ghost use Rattle.std.specs.Prelude.{◌≡◌, option_map, IfOk, None, Some, MatchOption, MatchResult};
 ghost use Rattle.std.specs.declared.net.socket_addr.SocketAddr.{SocketAddr};
 ghost use Rattle.clap.specs.Words.{first_of, found_of, rows_of};
-ghost use Rattle.edge_setup.specs.Words.{accepts_of, is_set, IsAddress, HasAddress, HasPages, IsFirstWrong, IsRefusedBy, IsWithin, SaysPages, SaysServing, SaysSetup};
+ghost use Rattle.edge_setup.specs.Words.{accepts_of, is_set, name_of, IsAddress, HasAddress, HasFetching, HasPages, IsFirstWrong, IsRefusedBy, IsWithin, SaysFetching, SaysPages, SaysServing, SaysSetup};
 
 use crate::number::{
-    AHEAD, CAPACITY, CLIENT_TIMEOUT, CONNECTIONS, KEEP_ALIVE, LEVELS, THREADS, TIMEOUT, WORKERS,
+    AHEAD, CAPACITY, CLIENT_TIMEOUT, CONNECTIONS, KEEP_ALIVE, LEVELS, ORIGIN_FETCHES,
+    ORIGIN_KEEP_ALIVE, ORIGIN_REST, PAGE_TIMEOUT, THREADS, TIMEOUT, WORKERS,
 };
 use crate::origins::origins_of;
-use crate::setup::{Named, Pages, Serving, Setup, SetupFault};
+use crate::setup::{Fetching, Named, Pages, Serving, Setup, SetupFault};
 use clap::ArgMatches;
 use decimals::decimal_of;
-use std::alloc::Global;
+use std::alloc::{AllocError, Global};
 use std::net::SocketAddr;
+use surrogate_headers::is_token;
 
 /// The value of an option.
 pub(crate) fn word_of<'a>(matches: &ArgMatches<'a>, name: &str) -> Option<&'a str>
@@ -28,6 +30,33 @@ fn accepts_of(word: Option<&str>) -> Option<u64>
     match word {
         Some(word) => decimal_of(word.as_bytes(), u64::MAX),
         None => Some(u64::MAX),
+    }
+}
+
+// The longest name of an edge.
+const MAX_NAME: usize = 64;
+
+// The name that a word writes, where there is one; `None` if it is none.
+fn name_of(word: Option<&str>) -> Option<Option<&str>>
+    ensures { option_map (λ name. option_map (λ n. n.now) name) result ≡ name_of (option_map (λ w. w.now) word.entry) }
+{
+    let Some(name) = word else {
+        return Some(None);
+    };
+    if is_token(name.as_bytes()) && name.len() <= MAX_NAME {
+        Some(Some(name))
+    } else {
+        None
+    }
+}
+
+// A copy of a name.
+fn copy_of(alloc: Global, name: Option<&str>) -> Result<Option<Vec<u8>>, AllocError>
+    ensures { IfOk result (λ copy. option_map (λ c. c.items) copy ≡ option_map (λ n. n.now) name.entry) }
+{
+    match name {
+        Some(name) => Ok(Some(name.as_bytes().to_vec(alloc)?)),
+        None => Ok(None),
     }
 }
 
@@ -62,14 +91,29 @@ fn pages_of(matches: &ArgMatches<'_>) -> Result<Pages, Named>
     })
 }
 
+// How origins are asked.
+fn fetching_of(matches: &ArgMatches<'_>) -> Result<Fetching, Named>
+    ensures { let rows = rows_of (found_of matches.now) in
+        MatchResult result (SaysFetching rows) (λ option. HasAddress rows → HasPages rows → IsFirstWrong rows option) }
+{
+    Ok(Fetching {
+        timeout: TIMEOUT.u32_of(matches).ok_or(Named::Timeout)?,
+        page_timeout: PAGE_TIMEOUT.u32_of(matches).ok_or(Named::PageTimeout)?,
+        origin_keep_alive: ORIGIN_KEEP_ALIVE
+            .u16_of(matches)
+            .ok_or(Named::OriginKeepAlive)?,
+        origin_fetches: ORIGIN_FETCHES.u16_of(matches).ok_or(Named::OriginFetches)?,
+        origin_rest: ORIGIN_REST.u32_of(matches).ok_or(Named::OriginRest)?,
+    })
+}
+
 // How connections are served.
 fn serving_of(matches: &ArgMatches<'_>) -> Result<Serving, Named>
     ensures { let rows = rows_of (found_of matches.now) in
-        MatchResult result (SaysServing rows) (λ option. HasAddress rows → HasPages rows → IsFirstWrong rows option) }
+        MatchResult result (SaysServing rows) (λ option. HasAddress rows → HasPages rows → HasFetching rows → IsFirstWrong rows option) }
 {
     Ok(Serving {
         accept: accepts_of(word_of(matches, "accept")).ok_or(Named::Accept)?,
-        timeout: TIMEOUT.u32_of(matches).ok_or(Named::Timeout)?,
         client_timeout: CLIENT_TIMEOUT.u32_of(matches).ok_or(Named::ClientTimeout)?,
         keep_alive: KEEP_ALIVE.u32_of(matches).ok_or(Named::KeepAlive)?,
         threads: THREADS.u16_of(matches).ok_or(Named::Threads)?,
@@ -89,14 +133,19 @@ pub fn setup_of(alloc: Global, matches: &ArgMatches<'_>) -> Result<Setup, SetupF
 {
     let listen = address_of(word_of(matches, "listen")).ok_or(Named::Listen)?;
     let pages = pages_of(matches)?;
+    let fetching = fetching_of(matches)?;
     let serving = serving_of(matches)?;
-    let Some(origins) = origins_of(alloc, matches)? else {
-        return Err(SetupFault::Wrong(Named::Origin));
+    let name = name_of(word_of(matches, "name")).ok_or(Named::Name)?;
+    let origins = match origins_of(alloc, matches)? {
+        Ok(origins) => origins,
+        Err(fault) => return Err(SetupFault::Wrong(Named::Origin(fault))),
     };
     Ok(Setup {
         listen,
         origins,
         pages,
+        fetching,
         serving,
+        name: copy_of(alloc, name)?,
     })
 }
