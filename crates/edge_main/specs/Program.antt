@@ -11,7 +11,7 @@ use Rattle.edge_case.specs.Bytes.{IsInput}
 use Rattle.edge_case.specs.Run.{IsNoCase, Prints, PrintsPart}
 use Rattle.edge_main.specs.Status.{status_of}
 use Rattle.edge_main.specs.declared.status.Status.{Status}
-use Rattle.edge_main.specs.declared.status.Status.TheVariants.{Page, PageFault, Served, Checked, FaultFound, Usage, BadOrder, BadOption, NotText, BadCase, NoMemory, InputOutput}
+use Rattle.edge_main.specs.declared.status.Status.TheVariants.{Page, PageFault, Served, Checked, FaultFound, Usage, BadOrder, BadOption, NotText, BadCase, NoMemory, InputOutput, AddressInUse, AddressDenied, UnknownHost}
 use Rattle.plan_runner.specs.declared.events.Event.{Event}
 use Rattle.edge_setup.specs.declared.check.Checking.{Checking}
 use Rattle.edge_setup.specs.declared.setup.Setup.{Setup}
@@ -51,6 +51,9 @@ Ends words input before after Usage = ⊥
 Ends words input before after BadOrder = ⊥
 Ends words input before after (BadOption option) = ⊥
 Ends words input before after NotText = ⊥
+Ends words input before after AddressInUse = ⊥
+Ends words input before after AddressDenied = ⊥
+Ends words input before after UnknownHost = ⊥
 
 -- a page's fault was printed, and the words ask for its reason, in this text
 pub record AsksWhyOf (words : List Text) (input before after : Option (List ℕ)) (text : List ℕ) : Type 0 where

@@ -1,8 +1,10 @@
 -- The server that the options of `serve` ask for.
-use Rattle.std.specs.Prelude.{◌≡◌, ◌*◌, ◌==◌, ℕ, Option, Some, None, option_map, if◌then◌else◌}
+use Rattle.std.specs.Prelude.{◌≡◌, ◌*◌, ◌==◌, ℕ, Option, Some, None, option_map, MatchOption, if◌then◌else◌}
 use Rattle.std.specs.Duration.{as_nanos}
 use Rattle.std.specs.declared.time.Duration.{Duration}
+use Rattle.edge_setup.specs.declared.setup.Fetching.{Fetching}
 use Rattle.edge_setup.specs.declared.setup.Setup.{Setup}
+use Rattle.origin_health.specs.declared.health.Bounds.{Bounds}
 use Rattle.edge_main.specs.declared.server.Server.{Server}
 
 -- how many nanoseconds a limit has, if there is one
@@ -17,17 +19,35 @@ limit_of millis = if millis == 0 then None else Some (millis * 1_000_000)
 abbrev pub idle_of : ℕ → Option ℕ
 idle_of seconds = if seconds == 0 then None else Some (seconds * 1_000_000_000)
 
+-- so many fetches at once; 0 means that there is no bound
+abbrev pub bound_of : ℕ → Option ℕ
+bound_of count = if count == 0 then None else Some count
+
+-- neither the fetches at once nor a rest are asked for
+pub record IsUnbounded (fetching : Fetching) : Type 0 where
+  pub any_fetches : fetching.origin_fetches ≡ 0
+  pub no_rest : fetching.origin_rest ≡ 0
+
+-- so many fetches at once, and a rest of so many seconds, in milliseconds
+pub record AreBounds (fetching : Fetching) (bounds : Bounds) : Type 0 where
+  pub fetches_are : bounds.most_in_flight ≡ bound_of fetching.origin_fetches
+  pub rest_is : bounds.rest ≡ fetching.origin_rest * 1_000
+
 -- each part is what its option asks for
 pub record IsServerOf (setup : Setup) (server : Server) : Type 0 where
   pub listen_is : server.listen ≡ setup.listen
   pub origins_are : server.origins ≡ setup.origins
-  pub fetch_is : nanos_of server.fetch ≡ limit_of setup.serving.timeout
+  pub fetch_is : nanos_of server.fetches.limit ≡ limit_of setup.fetching.timeout
+  pub idle_origins_are : server.fetches.idle ≡ setup.fetching.origin_keep_alive
+  pub bounds_are : MatchOption server.fetches.bounds (IsUnbounded setup.fetching) (AreBounds setup.fetching)
+  pub name_is : server.name ≡ setup.name
   pub request_is : nanos_of server.clients.request ≡ limit_of setup.serving.client_timeout
   pub response_is : nanos_of server.clients.response ≡ limit_of setup.serving.client_timeout
   pub idle_is : nanos_of server.clients.idle ≡ idle_of setup.serving.keep_alive
   pub workers_are : server.pages.workers ≡ setup.pages.workers
   pub ahead_is : server.pages.ahead ≡ setup.pages.ahead
   pub levels_are : server.pages.levels ≡ setup.pages.levels
+  pub page_is : nanos_of server.page ≡ limit_of setup.fetching.page_timeout
   pub capacity_is : server.capacity ≡ setup.pages.capacity
   pub threads_are : server.at_once.threads ≡ setup.serving.threads
   pub connections_are : server.at_once.connections ≡ setup.serving.connections

@@ -18,7 +18,7 @@ use Rattle.template_check.specs.declared.reporting.ReportFault.TheVariants as re
 use Rattle.edge_main.specs.declared.asked.Refusal.{Refusal}
 use Rattle.edge_main.specs.declared.asked.Refusal.TheVariants as refusal
 use Rattle.edge_main.specs.declared.status.Status.{Status}
-use Rattle.edge_main.specs.declared.status.Status.TheVariants.{Page, PageFault, Served, Checked, FaultFound, Usage, BadOrder, BadOption, NotText, BadCase, NoMemory, InputOutput}
+use Rattle.edge_main.specs.declared.status.Status.TheVariants.{Page, PageFault, Served, Checked, FaultFound, Usage, BadOrder, BadOption, NotText, BadCase, NoMemory, InputOutput, AddressInUse, AddressDenied, UnknownHost}
 
 -- the exit status
 abbrev pub code_of : Status → ℕ
@@ -34,6 +34,9 @@ code_of NotText = 2
 code_of BadCase = 3
 code_of NoMemory = 4
 code_of InputOutput = 5
+code_of AddressInUse = 5
+code_of AddressDenied = 5
+code_of UnknownHost = 5
 
 -- the line on standard error, if the program itself writes one
 abbrev pub line_of : Status → Option (List ℕ)
@@ -49,6 +52,9 @@ line_of NotText = Some (codes "error: a word of the command line isn't UTF-8")
 line_of BadCase = Some (codes "bad case text")
 line_of NoMemory = Some (codes "no memory")
 line_of InputOutput = Some (codes "input or output failed")
+line_of AddressInUse = Some (codes "error: the address of --listen is in use: another process listens there")
+line_of AddressDenied = Some (codes "error: permission for the address of --listen is denied: a port below 1024 takes the right to it (CAP_NET_BIND_SERVICE)")
+line_of UnknownHost = None
 
 -- how the program ends after a case that was run
 abbrev pub status_of : Result CaseEnd CaseFault → Status
@@ -69,6 +75,12 @@ serving_status (Err status) = status
 abbrev pub failed_as : IoErrorKind → Status
 failed_as io.OutOfMemory = NoMemory
 failed_as _ = InputOutput
+
+-- how it ends where it can't listen: an address that another process has, and one that it may not have, are told apart
+abbrev pub listening_status : IoErrorKind → Status
+listening_status io.AddrInUse = AddressInUse
+listening_status io.PermissionDenied = AddressDenied
+listening_status kind = failed_as kind
 
 -- how it ends where not everything could be reported of a template
 abbrev pub unreported_as : ReportFault → Status

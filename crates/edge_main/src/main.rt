@@ -9,6 +9,7 @@ mod asked;
 mod checking;
 mod command_line;
 pub mod laws;
+mod open_files;
 mod options;
 mod program;
 mod server;

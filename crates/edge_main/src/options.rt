@@ -1,12 +1,13 @@
 //! The server that the options of `serve` ask for.
-ghost use Rattle.std.specs.Prelude.{◌≡◌};
+ghost use Rattle.std.specs.Prelude.{◌≡◌, MatchOption};
 ghost use Rattle.edge_setup.specs.Words.{IsWithin};
-ghost use Rattle.edge_main.specs.Server.{IsServerOf, idle_of, limit_of, nanos_of};
+ghost use Rattle.edge_main.specs.Server.{AreBounds, IsServerOf, IsUnbounded, idle_of, limit_of, nanos_of};
 
-use crate::server::Server;
-use edge_setup::Setup;
+use crate::server::{Fetches, Server};
+use edge_setup::{Fetching, Setup};
 use fetch_workers::Assembling;
 use hyper_edge::{Capacity, Limits};
+use hyper_source::Bounds;
 use std::time::Duration;
 
 // A limit of this many milliseconds; 0 means no limit.
@@ -31,6 +32,24 @@ fn idle_of(seconds: u32) -> Option<Duration>
     }
 }
 
+// When an address may be asked: 0 fetches in flight mean that there is no bound, and a rest is in milliseconds.
+fn bounds_of(fetching: Fetching) -> Option<Bounds>
+    ensures { MatchOption result (IsUnbounded fetching) (AreBounds fetching) }
+{
+    if fetching.origin_fetches == 0 && fetching.origin_rest == 0 {
+        return None;
+    }
+    let most_in_flight = if fetching.origin_fetches == 0 {
+        None
+    } else {
+        Some(u32::from(fetching.origin_fetches))
+    };
+    Some(Bounds {
+        most_in_flight,
+        rest: u64::from(fetching.origin_rest) * 1_000,
+    })
+}
+
 /// The server of a setup.
 pub(crate) fn server_of(setup: Setup) -> Server
     requires { IsWithin setup.pages }
@@ -40,19 +59,27 @@ pub(crate) fn server_of(setup: Setup) -> Server
         listen,
         origins,
         pages,
+        fetching,
         serving,
+        name,
     } = setup;
     let client = limit_of(serving.client_timeout);
     Server {
         listen,
         origins,
-        fetch: limit_of(serving.timeout),
+        fetches: Fetches {
+            limit: limit_of(fetching.timeout),
+            idle: fetching.origin_keep_alive,
+            bounds: bounds_of(fetching),
+        },
+        name,
         clients: Limits {
             request: client,
             response: client,
             idle: idle_of(serving.keep_alive),
         },
         pages: Assembling::new(pages.ahead, pages.workers, pages.levels),
+        page: limit_of(fetching.page_timeout),
         capacity: usize::from(pages.capacity),
         at_once: Capacity {
             threads: serving.threads,

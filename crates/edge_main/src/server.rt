@@ -4,8 +4,20 @@ ghost use Rattle.std.specs.Prelude.{◌≤◌};
 use edge_setup::Origin;
 use fetch_workers::Assembling;
 use hyper_edge::{Capacity, Limits};
+use hyper_source::Bounds;
 use std::net::SocketAddr;
 use std::time::Duration;
+
+/// How origins are asked.
+#[derive(Clone, Copy)]
+pub(crate) struct Fetches {
+    /// How long a fetch may take.
+    pub limit: Option<Duration>,
+    /// How many idle connections are kept to each address.
+    pub idle: u16,
+    /// When an address may be asked, where that is bounded.
+    pub bounds: Option<Bounds>,
+}
 
 /// A server that is to run.
 #[derive(Drop)]
@@ -14,12 +26,16 @@ pub(crate) struct Server {
     pub listen: SocketAddr,
     /// Which origins it asks.
     pub origins: Vec<Origin>,
-    /// How long a fetch may take.
-    pub fetch: Option<Duration>,
+    /// How it asks them.
+    pub fetches: Fetches,
+    /// The edge's name among others, where it has one.
+    pub name: Option<Vec<u8>>,
     /// How long a client may take.
     pub clients: Limits,
     /// How pages are assembled.
     pub pages: Assembling,
+    /// How long a page may take until nothing more is fetched for it.
+    pub page: Option<Duration>,
     /// How many answers each shard of the cache keeps.
     pub capacity: usize,
     /// How many threads serve clients, and how many connections may be open at once.

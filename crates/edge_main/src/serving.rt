@@ -1,17 +1,18 @@
 //! The server: pages over a cache that all clients share, what origins answer, and the machine's clock.
 ghost use Rattle.std.specs.Prelude.{◌≤◌};
 
-use crate::server::Server;
+use crate::open_files::{Numbers, Unreached, open_files_limit};
+use crate::server::{Fetches, Server};
 use crate::status::Status;
-use edge_setup::Origin;
+use edge_setup::{Origin, Place};
 use fetch_workers::{Assembling, Cache};
 use hyper_edge::{
     EdgeService, Journal, Limits, RequestRecord, ServeEnd, ServerRuntime, Sockets, serve_accepts,
 };
-use hyper_source::HyperSource;
+use hyper_source::{EdgeName, HyperSource};
 use std::alloc::AllocGlobal;
 use std::io::{Eprint, Print};
-use std::net::{Net, SocketAddr, TcpListener, TcpStream};
+use std::net::{Net, SocketAddr, TcpListener, TcpStream, ToSocketAddrs};
 use std::random::RandomSource;
 use std::sync::Arc;
 use std::time::{Clock, Duration};
@@ -26,20 +27,29 @@ where
     R: ServerRuntime + Print + Eprint + Send + Sync,
     R: Net<Stream = TcpStream, Listener = TcpListener>,
 {
+    warn_of_files(rt, Numbers::of(&server));
     let Server {
         listen,
         origins,
-        fetch,
+        fetches,
+        name,
         clients,
         pages,
+        page,
         capacity,
         at_once,
         accept,
         answers_head,
         logs,
     } = server;
-    let source = source_of(rt, origins, fetch)?;
-    let mut service = service_of(rt, source, capacity, pages)?;
+    let mut source = source_of(rt, origins, fetches)?;
+    if let Some(name) = &name {
+        source = named(rt, source, name.as_slice())?;
+    }
+    let mut service = service_of(rt, source, capacity, pages)?.limited_to(page);
+    if let Some(name) = name {
+        service = service.named(name);
+    }
     if answers_head {
         service = service.answering_head();
     }
@@ -49,30 +59,83 @@ where
     Ok(serve_accepts(rt, &sockets, &service, &log, at_once, accept))
 }
 
+// Says which number can't be reached for want of open files. The server runs all the same: it may never need as many.
+fn warn_of_files(rt: &impl Eprint, numbers: Numbers) {
+    let Some(limit) = open_files_limit() else {
+        return;
+    };
+    let wanted = numbers.wanted();
+    let Numbers {
+        connections,
+        threads,
+        workers,
+    } = numbers;
+    // If standard error can't be written, nobody reads it.
+    let _ = match numbers.unreached(limit) {
+        Some(Unreached::Connections(most)) => eprintln!(rt;
+            "warning: --connections {connections} can't be reached, only {most}: {limit} files may be open, and {wanted} may be needed (ulimit -n)"
+        ),
+        Some(Unreached::Fetches) => eprintln!(rt;
+            "warning: --threads {threads} with --workers {workers} can't be reached: {limit} files may be open, and {wanted} may be needed (ulimit -n)"
+        ),
+        None => Ok(()),
+    };
+}
+
 // What accepts connections, and where it listens.
-fn listening<R>(rt: &R, listen: SocketAddr, clients: Limits) -> io::Result<(Sockets, SocketAddr)>
+fn listening<R>(
+    rt: &R,
+    listen: SocketAddr,
+    clients: Limits,
+) -> Result<(Sockets, SocketAddr), Status>
 where
     R: AllocGlobal + Net<Stream = TcpStream, Listener = TcpListener>,
 {
-    let listener = TcpListener::bind(rt, listen)?;
+    let listener = match TcpListener::bind(rt, listen) {
+        Ok(listener) => listener,
+        Err(error) => return Err(Status::of_listening(error)),
+    };
     let address = listener.local_addr()?;
     Ok((Sockets::new(rt, listener, clients)?, address))
 }
 
+// Where an origin listens: of a host that is named, the first address that the system knows now.
+fn address_of<R: Net + Eprint>(rt: &R, place: &Place) -> Result<SocketAddr, Status> {
+    match place {
+        Place::Address(address) => Ok(*address),
+        Place::Host(host, port) => looked_up(rt, text(host.as_slice()), *port),
+    }
+}
+
+// The first address of a host that the system knows.
+fn looked_up<R: Net + Eprint>(rt: &R, host: &str, port: u16) -> Result<SocketAddr, Status> {
+    match (host, port).to_socket_addrs(rt) {
+        Ok(mut found) => match found.next() {
+            Some(address) => Ok(address),
+            None => Err(unknown(rt, host)),
+        },
+        Err(error) if error.kind() == io::ErrorKind::OutOfMemory => Err(Status::NoMemory),
+        Err(_) => Err(unknown(rt, host)),
+    }
+}
+
+// Reports the host that has no address.
+fn unknown(rt: &impl Eprint, host: &str) -> Status {
+    // If standard error can't be written, only the status says it.
+    let _ = eprintln!(rt; "error: --origin: the system knows no address of {host}");
+    Status::UnknownHost
+}
+
 // What fetches from the origins.
-fn source_of<R>(
-    rt: &R,
-    origins: Vec<Origin>,
-    fetch: Option<Duration>,
-) -> Result<HyperSource, Status>
+fn source_of<R>(rt: &R, origins: Vec<Origin>, fetches: Fetches) -> Result<HyperSource, Status>
 where
-    R: RandomSource + AllocGlobal,
+    R: RandomSource + AllocGlobal + Net + Eprint,
 {
     let alloc = rt.alloc();
     let mut asked = Vec::new(alloc);
     for origin in origins {
-        let authority = origin.authority;
-        let address = origin.address;
+        let Origin { authority, place } = origin;
+        let address = address_of(rt, &place)?;
         if asked
             .push(hyper_source::Origin { authority, address })
             .is_err()
@@ -80,7 +143,19 @@ where
             return Err(Status::NoMemory);
         }
     }
-    Ok(HyperSource::new(rt, alloc, asked, fetch)?)
+    let source = HyperSource::new(rt, alloc, asked, fetches.limit)?.keeping(alloc, fetches.idle);
+    let Some(bounds) = fetches.bounds else {
+        return Ok(source);
+    };
+    Ok(source.bounded(alloc, bounds)?)
+}
+
+// The same, for an edge with a name.
+fn named(rt: &impl AllocGlobal, source: HyperSource, name: &[u8]) -> Result<HyperSource, Status> {
+    match EdgeName::of(rt.alloc(), name)? {
+        Some(name) => Ok(source.named(name)),
+        None => Ok(source),
+    }
 }
 
 // What answers requests.

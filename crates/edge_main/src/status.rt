@@ -2,7 +2,7 @@
 ghost use Rattle.std.specs.Prelude.{◌≡◌, option_map};
 ghost use Rattle.std.specs.IoError.{error_kind};
 ghost use Rattle.std.specs.Process.{exit_status};
-ghost use Rattle.edge_main.specs.Status.{code_of, failed_as, help_status, line_of, serving_status, status_of, unreported_as};
+ghost use Rattle.edge_main.specs.Status.{code_of, failed_as, help_status, line_of, listening_status, serving_status, status_of, unreported_as};
 ghost use Rattle.edge_main.specs.declared.status.Status.TheVariants as ends;
 
 use edge_case::{CaseEnd, CaseFault};
@@ -40,6 +40,12 @@ pub(crate) enum Status {
     NoMemory,
     /// A read or a write failed.
     InputOutput,
+    /// Another process listens where the server is to listen.
+    AddressInUse,
+    /// The user may not listen there.
+    AddressDenied,
+    /// The system knows no address of an origin; it was reported which one.
+    UnknownHost,
 }
 
 impl Status {
@@ -67,6 +73,17 @@ impl Status {
         }
     }
 
+    /// The status where the server can't listen.
+    pub(crate) fn of_listening(error: io::Error) -> Status
+        ensures { result ≡ listening_status (error_kind error) }
+    {
+        match error.kind() {
+            io::ErrorKind::AddrInUse => Status::AddressInUse,
+            io::ErrorKind::PermissionDenied => Status::AddressDenied,
+            _ => Status::from(error),
+        }
+    }
+
     /// The status after printing help, by how that ended.
     pub(crate) fn of_help(printed: io::Result<()>) -> Status
         ensures { result ≡ help_status printed }
@@ -87,11 +104,15 @@ impl Status {
             Status::Usage | Status::BadOrder | Status::BadOption(_) | Status::NotText => 2,
             Status::BadCase => 3,
             Status::NoMemory => 4,
-            Status::InputOutput => 5,
+            Status::InputOutput
+            | Status::AddressInUse
+            | Status::AddressDenied
+            | Status::UnknownHost => 5,
         })
     }
 
-    /// The line for standard error, if there is one; on usage `clap` writes its own text.
+    /// The line for standard error, if there is one; on usage `clap` writes its own text, and a host that has no
+    /// address was reported with its name.
     pub(crate) fn line(self) -> Option<&'static str>
         ensures { option_map (λ line. line.now) result ≡ line_of self }
     {
@@ -104,12 +125,19 @@ impl Status {
             Status::BadCase => Some("bad case text"),
             Status::NoMemory => Some("no memory"),
             Status::InputOutput => Some("input or output failed"),
+            Status::AddressInUse => Some(
+                "error: the address of --listen is in use: another process listens there",
+            ),
+            Status::AddressDenied => Some(
+                "error: permission for the address of --listen is denied: a port below 1024 takes the right to it (CAP_NET_BIND_SERVICE)",
+            ),
             Status::Page
             | Status::PageFault
             | Status::Served
             | Status::Checked
             | Status::FaultFound
-            | Status::Usage => None,
+            | Status::Usage
+            | Status::UnknownHost => None,
         }
     }
 }
