@@ -1,3 +1,4 @@
+pub mod ChosenLemmas
 pub mod ElementLemmas
 pub mod MessageLemmas
 pub mod OpenLemmas

@@ -5,6 +5,7 @@ pub mod Checking
 pub mod Refusals
 pub mod Laws
 pub mod Warnings
+pub mod Chosen
 pub mod Warned
 pub mod Messages
 pub mod Report

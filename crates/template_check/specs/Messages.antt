@@ -170,3 +170,4 @@ warning_words warning.UnknownVariable = codes "no variable has this name: there 
 warning_words warning.NoReference = codes "this `$(` begins no reference: it stands as it is"
 warning_words warning.TagInText = codes "this is text and no tag: a tag begins with `<esi:`, in small letters and without spaces"
 warning_words warning.IdleName = codes "no include can ask for this inline: name it by a path, such as /box, or by an `http:` URL"
+warning_words warning.ChosenSource = codes "a reader may choose the host or the folder of this `src` or `alt`, by `//`, `\\` or `..`: put the reference behind a `?`, or choose by <esi:when>"

@@ -23,6 +23,7 @@ use Rattle.esi_vars.specs.Reading.{reference_at}
 use Rattle.template_check.specs.declared.warned.Warned.{Warned}
 use Rattle.template_check.specs.declared.warning.Warning.{Warning}
 use Rattle.template_check.specs.declared.warning.Warning.TheVariants as warning
+use Rattle.template_check.specs.Chosen.{source_warning}
 use Rattle.template_check.specs.Warnings.{is_of}
 
 -- ---- references
@@ -91,6 +92,18 @@ warning_in (Some value) = value_warning value
 abbrev pub attribute_warning : Tag → KnownAttribute → Option Warning
 attribute_warning tag attribute = warning_in (value_of attribute tag.attributes)
 
+-- the warning about an attribute that a reader may point at another host or folder
+abbrev choice_in : Option (List ℕ) → Option Warning
+choice_in None = None
+choice_in (Some source) = source_warning source
+
+abbrev pub choice_warning : Tag → KnownAttribute → Option Warning
+choice_warning tag attribute = choice_in (value_of attribute tag.attributes)
+
+-- the warnings about a source of an include
+abbrev pub source_warnings : ℕ → Tag → KnownAttribute → List Warned
+source_warnings place tag attribute = warned place (attribute_warning tag attribute) ++ warned place (choice_warning tag attribute)
+
 -- the warning about an inline's name: that it doesn't denote a URL that is fetched; names are tried at one page, since
 -- relative ones denote a URL at any page
 abbrev by_url : Option (List ℕ) → Option Warning
@@ -113,7 +126,7 @@ inline_warning tag = of_name (value_of known.Name tag.attributes)
 
 -- references are replaced in the sources of an include and read in the test of a `when`; an inline has a name
 abbrev values_by : ElementName → ℕ → Tag → List Warned
-values_by element.Include place tag = warned place (attribute_warning tag known.Src) ++ warned place (attribute_warning tag known.Alt)
+values_by element.Include place tag = source_warnings place tag known.Src ++ source_warnings place tag known.Alt
 values_by element.When place tag = warned place (attribute_warning tag known.Test)
 values_by element.Inline place tag = warned place (inline_warning tag)
 values_by _ place tag = []

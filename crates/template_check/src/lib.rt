@@ -3,10 +3,12 @@
 //! `report` prints what `check` finds, a fault, and what `warnings` collects, likely mistakes that aren't faults. A
 //! fault has the place that `template` of `esi_tree` reports and a reason; `position_of` makes a line and a column of a
 //! place. `specs/Reasons.antt` says which reason a text has at a place, `specs/OpenElements.antt` which elements are
-//! open there, `specs/Warned.antt` which warnings a text gets, and `specs/Positions.antt` what a line and a column are.
+//! open there, `specs/Warned.antt` which warnings a text gets, `specs/Chosen.antt` which sources a reader may choose,
+//! and `specs/Positions.antt` what a line and a column are.
 #![tactic(auto)]
 
 mod checker;
+mod chosen;
 mod elements;
 pub mod laws;
 mod message;

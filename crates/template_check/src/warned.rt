@@ -4,6 +4,7 @@ ghost use Rattle.std.specs.Prelude.{◌≡◌, ◌≤◌, ◌<◌, ◌+◌, ◌^
 ghost use Rattle.esi_vars.specs.Shown.{shown_reference};
 ghost use Rattle.template_check.specs.Warned as spec;
 
+use crate::chosen::source_warning;
 use crate::warning::Warning;
 use edge_types::{NoMemory, PageUrl, after_ws};
 use esi_scanner::{ElementName, Kind, KnownAttribute, ScanFault, Span, Tag, Token, scan};
@@ -155,6 +156,20 @@ fn attribute_warning(
     }
 }
 
+// The warning about an attribute's source whose host or folder a reader may choose, if the tag has it.
+fn choice_warning(
+    alloc: Global,
+    tag: &Tag,
+    attribute: KnownAttribute,
+) -> Result<Option<Warning>, NoMemory>
+    ensures { IfOk result (λ found. found ≡ spec.choice_warning tag.now attribute) }
+{
+    match tag.attributes.value(attribute) {
+        Some(source) => source_warning(alloc, source),
+        None => Ok(None),
+    }
+}
+
 // A page at which the names of inlines are tried: relative ones denote a URL at any page.
 const SOME_PAGE: &[u8] = b"http://localhost/";
 
@@ -181,6 +196,22 @@ fn inline_warning(alloc: Global, tag: &Tag) -> Result<Option<Warning>, NoMemory>
     }
 }
 
+// Adds the warnings about a source of an include.
+fn add_source(
+    alloc: Global,
+    found: &mut Vec<Warned>,
+    place: usize,
+    tag: &Tag,
+    attribute: KnownAttribute,
+) -> Result<(), NoMemory>
+    ensures { OnOk result (found.new.items ≡ found.old.items ++ spec.source_warnings place tag.now attribute) }
+{
+    let of_references = attribute_warning(alloc, tag, attribute)?;
+    let of_choice = choice_warning(alloc, tag, attribute)?;
+    add(found, place, of_references)?;
+    add(found, place, of_choice)
+}
+
 // Adds the warnings about the values in which references are replaced, and about names.
 fn add_values(
     alloc: Global,
@@ -192,10 +223,8 @@ fn add_values(
 {
     match tag.name {
         ElementName::Include => {
-            let of_source = attribute_warning(alloc, tag, KnownAttribute::Src)?;
-            let of_other = attribute_warning(alloc, tag, KnownAttribute::Alt)?;
-            add(found, place, of_source)?;
-            add(found, place, of_other)
+            add_source(alloc, found, place, tag, KnownAttribute::Src)?;
+            add_source(alloc, found, place, tag, KnownAttribute::Alt)
         }
         ElementName::When => {
             let of_test = attribute_warning(alloc, tag, KnownAttribute::Test)?;

@@ -31,6 +31,8 @@ pub enum Warning {
     TagInText,
     /// An inline's name that doesn't denote a URL that the edge fetches: no include can reach it.
     IdleName,
+    /// A `src` or `alt` with bytes before any `?` that a reader writes: they may name another host or folder.
+    ChosenSource,
 }
 
 impl Warning {
@@ -57,7 +59,8 @@ impl Warning {
             | Warning::UnknownVariable
             | Warning::NoReference
             | Warning::TagInText
-            | Warning::IdleName => false,
+            | Warning::IdleName
+            | Warning::ChosenSource => false,
         }
     }
 }
@@ -175,6 +178,9 @@ impl fmt::Display for Warning {
             }
             Warning::IdleName => {
                 "no include can ask for this inline: name it by a path, such as /box, or by an `http:` URL"
+            }
+            Warning::ChosenSource => {
+                "a reader may choose the host or the folder of this `src` or `alt`, by `//`, `\\` or `..`: put the reference behind a `?`, or choose by <esi:when>"
             }
         })
     }
