@@ -2,6 +2,7 @@
 Each process is ended by its own id."""
 import os
 import re
+import resource
 import socket
 import subprocess
 import sys
@@ -119,12 +120,47 @@ class Wires:
                 pass
 
 
-class Edge:
-    """An edge, with the options of `serve` after `--listen`."""
+def threads_of_this_user():
+    count = 0
+    for pid in filter(str.isdigit, os.listdir("/proc")):
+        try:
+            if os.stat("/proc/" + pid).st_uid == os.getuid():
+                count += len(os.listdir("/proc/%s/task" % pid))
+        except OSError:
+            pass
+    return count
 
-    def __init__(self, *options):
+
+def limit_threads(count):
+    """Lets this process have so many threads. Root has no such limit, and becomes somebody who runs nothing else."""
+    if os.getuid() == 0:
+        resource.setrlimit(resource.RLIMIT_NPROC, (count, count))
+        os.setgroups([])
+        os.setgid(65533)
+        os.setuid(65533)
+    else:
+        most = threads_of_this_user() - 1 + count
+        resource.setrlimit(resource.RLIMIT_NPROC, (most, most))
+
+
+class Edge:
+    """An edge, with the options of `serve` after `--listen`, which may have so many files open, and threads."""
+
+    def __init__(self, *options, files=None, threads=None):
         words = ["esi_edge", "serve", "--listen", "127.0.0.1:0", *options]
-        self.process = subprocess.Popen(words, executable=PROGRAM, stdin=subprocess.DEVNULL, stdout=subprocess.PIPE, stderr=subprocess.PIPE)
+
+        def limited():
+            if files:
+                resource.setrlimit(resource.RLIMIT_NOFILE, (files, files))
+            if threads:
+                limit_threads(threads)
+
+        # By its descriptor, since whom the process becomes may not reach the program by its path.
+        with open(PROGRAM, "rb") as program:
+            self.process = subprocess.Popen(
+                words, executable="/proc/self/fd/%d" % program.fileno(), pass_fds=[program.fileno()], preexec_fn=limited,
+                stdin=subprocess.DEVNULL, stdout=subprocess.PIPE, stderr=subprocess.PIPE
+            )
         line = self.process.stdout.readline()
         found = re.fullmatch(rb"listening on 127\.0\.0\.1:([1-9][0-9]*)\n", line)
         if not found:
@@ -154,9 +190,17 @@ class Edge:
         return self.process.wait(PATIENCE)
 
 
-def before(origin, *options):
+def ended(*words, preexec_fn=None):
+    """How `serve` ended with these words: its status, and what it said on standard output and standard error."""
+    run = subprocess.run(
+        ["esi_edge", "serve", *words], executable=PROGRAM, stdin=subprocess.DEVNULL, capture_output=True, timeout=PATIENCE, preexec_fn=preexec_fn
+    )
+    return run.returncode, run.stdout, run.stderr
+
+
+def before(origin, *options, **limits):
     """An edge that asks this origin for everything."""
-    return Edge("--origin", "*=" + origin.at, *options)
+    return Edge("--origin", "*=" + origin.at, *options, **limits)
 
 
 def client(edge, sent=b"", ends=False):
@@ -199,6 +243,12 @@ def get(edge, target, host="a.test", fields="", method="GET"):
 def wire(text):
     """A text with `|` for the end of a line."""
     return text.replace("|", "\r\n").encode()
+
+
+def sized(head, body):
+    """What an origin sends with the length of its body, without which an answer isn't kept: the lines of the head,
+    with `|` between them, and the body."""
+    return wire("%s|content-length: %d||" % (head, len(body))) + body.encode()
 
 
 # A template, of a text on one line, as its origin sends it, to the end of the connection.

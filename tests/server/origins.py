@@ -1,4 +1,6 @@
 """What origins are asked, and what becomes of what they send."""
+import signal
+import threading
 import time
 
 from harness import PAGE, PLAIN, TRY, UNASSEMBLED, Edge, Origin, Wires, before, get, same, told, wire
@@ -53,15 +55,15 @@ def origins_are_asked_by_authority():
 
 
 def an_origin_is_asked_for_the_url_alone():
-    """It is asked for the URL, with the host and the edge's capability and with nothing of the client. Each line
-    of Surrogate-Control counts."""
+    """It is asked for the URL, with the host and the edge's capability, for a body that isn't coded and an end of
+    the connection, and with nothing of the client. Each line of Surrogate-Control counts."""
     answer = wire('HTTP/1.1 200 OK|content-length: 27|content-type: text/html|surrogate-control: max-age=60|surrogate-control: content="ESI/1.0"||')
     with Wires({"/x?q=1": answer + b"1<esi:comment text='here'/>"}) as origin, Wires({}) as silent:
         with Edge("--origin", "b.test=" + silent.at, "--origin", "a.test=" + origin.at, "--origin", "*=" + silent.at) as edge:
             for _ in range(2):
                 got = get(edge, "/x?q=1", fields="Cookie: a=1\r\nUser-Agent: x\r\n")
                 same("what the client gets", (200, "text/html", b"1"), (got.status, got.fields.get("content-type"), got.body))
-            wanted = wire('GET /x?q=1 HTTP/1.1|host: a.test|surrogate-capability: edge1="Surrogate/1.0 ESI/1.0"||')
+            wanted = wire('GET /x?q=1 HTTP/1.1|host: a.test|surrogate-capability: edge1="Surrogate/1.0 ESI/1.0"|connection: close|accept-encoding: identity||')
             same("what the origin is asked, once", [wanted], origin.heads)
 
 
@@ -82,6 +84,59 @@ def what_is_no_answer_is_a_failed_one():
         for text, wanted in rows:
             origin.texts["/p"] = wire(text)
             same(text, wanted, told(edge))
+
+
+def coded_answers_are_failed_ones():
+    """An answer in a coding that the edge doesn't read is none, in whichever line and letters the coding stands."""
+    kept = "HTTP/1.1 200 OK|surrogate-control: max-age=60|content-length: 1"
+    codings = ("gzip", "Identity, GZIP", "br,", "identity|content-encoding: zstd")
+    with Wires({}) as origin, before(origin) as edge:
+        for k, coding in enumerate(codings):
+            origin.texts["/%d" % k] = wire(kept + "|content-encoding: %s||1" % coding)
+            for _ in range(2):
+                same(coding, UNASSEMBLED, told(edge, "/%d" % k))
+        same("asked again, since none was kept", 2 * len(codings), len(origin.heads))
+        for k, coding in enumerate(("identity", "IDENTITY , identity", "")):
+            origin.texts["/plain%d" % k] = wire(kept + "|content-encoding: %s||1" % coding)
+            same(repr(coding), (200, b"1"), told(edge, "/plain%d" % k))
+        origin.texts["/chunks"] = wire("HTTP/1.1 200 OK|transfer-encoding: gzip, chunked||1|1|0||")
+        same("chunks of a coding", UNASSEMBLED, told(edge, "/chunks"))
+
+
+def what_only_the_close_ends_is_not_kept():
+    """An answer without a length or chunks is used, and asked for each time; with either it is asked for once."""
+    kept = "HTTP/1.%d 200 OK|surrogate-control: max-age=60"
+    rows = (
+        (kept % 1 + "||1", 2),
+        (kept % 0 + "||1", 2),
+        (kept % 1 + "|content-length: 1||1", 1),
+        (kept % 0 + "|content-length: 1||1", 1),
+        (kept % 1 + "|transfer-encoding: chunked||1|1|0||", 1),
+    )
+    for text, times in rows:
+        with Wires({"/p": wire(text)}) as origin, before(origin) as edge:
+            same(text, [(200, b"1")] * 2, [told(edge), told(edge)])
+            same("times that it was asked for, of %s" % text, times, len(origin.heads))
+
+
+def an_edge_that_was_stopped_goes_on():
+    """A signal that stops the edge while it waits for an origin, and one that lets it go on: it gets the answer."""
+
+    def late(_):
+        time.sleep(0.4)
+        return wire("HTTP/1.1 200 OK|content-length: 1||1")
+
+    with Wires({"/p": late}) as origin, before(origin) as edge:
+        for _ in range(3):
+            asking = threading.Thread(target=lambda: came.append(told(edge)))
+            came = []
+            asking.start()
+            for _ in range(3):
+                time.sleep(0.05)
+                edge.process.send_signal(signal.SIGSTOP)
+                edge.process.send_signal(signal.SIGCONT)
+            asking.join()
+            same("what came", [(200, b"1")], came)
 
 
 def a_fragment_cut_short_is_none():
@@ -143,6 +198,9 @@ TESTS = (
     origins_are_asked_by_authority,
     an_origin_is_asked_for_the_url_alone,
     what_is_no_answer_is_a_failed_one,
+    coded_answers_are_failed_ones,
+    what_only_the_close_ends_is_not_kept,
+    an_edge_that_was_stopped_goes_on,
     a_fragment_cut_short_is_none,
     an_origin_goes_and_comes_back,
     a_hanging_origin_is_given_up,

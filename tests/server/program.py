@@ -1,8 +1,8 @@
 """The options of `serve`, its end and its log."""
+import ctypes
 import re
-import subprocess
 
-from harness import PATIENCE, PLAIN, PROGRAM, TEMPLATE, Edge, Origin, before, exchange, get, same
+from harness import PLAIN, TEMPLATE, Edge, Origin, before, ended, exchange, get, same
 
 
 def the_edge_ends_after_its_connections():
@@ -48,24 +48,66 @@ def usage_is_told():
     here = ["--listen", "127.0.0.1:0"]
     rows = [[], ["--listen"], ["--listen", "127.0.0.1"], ["--listen", "localhost:80"], ["--listen", "127.0.0.1:65536"]]
     rows += [here + words for words in (
-        here, ["more"], ["--origin"], ["--origin", "a.test"], ["--origin", "a.test=b.test:80"], ["--origin", "a.test="],
+        here, ["more"], ["--origin"], ["--origin", "a.test"], ["--origin", "a.test=b.test"], ["--origin", "a.test="],
         ["--origin", "a.test=127.0.0.1:80", "--origin", "a.test=127.0.0.1:81"], ["--origin", "*=127.0.0.1:80", "--origin", "*=127.0.0.1:80"],
         ["--workers", "0"], ["--workers", "17"], ["--workers", "four"], ["--workers", "2", "--workers", "2"],
         ["--ahead", "257"], ["--ahead=-1"], ["--levels", "0"], ["--levels", "9"], ["--capacity", "0"], ["--capacity", "1025"],
         ["--accept", "18446744073709551616"], ["--accept", "+1"], ["--accept", ""], ["--timeout", "1s"], ["--timeout", "86400001"],
+        ["--page-timeout", "x"], ["--page-timeout", "86400001"], ["--origin-keep-alive", "1025"], ["--origin-keep-alive=-1"],
+        ["--origin-fetches", "65536"], ["--origin-rest", "5s"], ["--origin-rest", "86401"],
+        ["--name", ""], ["--name", "a b"], ["--name", "a/b"], ["--name", "n" * 65], ["--name", "a", "--name", "b"],
         ["--client-timeout", "-"], ["--client-timeout", "86400001"], ["--keep-alive", "5s"], ["--keep-alive", "86401"],
         ["--threads", "0"], ["--threads", "65"], ["--connections", "0"], ["--connections", "65537"], ["--head", "x"], ["--head=yes"], ["--log", "x"], ["--log=yes"],
     )]
     for words in rows:
-        ended = subprocess.run(["esi_edge", "serve", *words], executable=PROGRAM, stdin=subprocess.DEVNULL, capture_output=True, timeout=PATIENCE)
-        came = (ended.returncode, ended.stdout, ended.stderr != b"")
-        same(" ".join(words), (2, b"", True), came)
+        status, printed, said = ended(*words)
+        same(" ".join(words), (2, b"", True), (status, printed, said != b""))
+
+
+def what_an_origin_is_instead_is_told():
+    """A word of --origin whose authority no URL has, or that has no address: status 2, and what to write."""
+    rows = (
+        ("a.test", b"takes AUTHORITY=ADDR"), ("News.Example=127.0.0.1:80", b"in lower case"), ("a.test:80=127.0.0.1:80", b"without `:80`"),
+        ("http://a.test=127.0.0.1:80", b"only the host"), ("a.test/=127.0.0.1:80", b"only the host"), ("a test=127.0.0.1:80", b"only the host"),
+        ("a.test =127.0.0.1:80", b"only the host"), ("=127.0.0.1:80", b"only the host"), ("me@a.test=127.0.0.1:80", b"only the host"),
+        ("*.example=127.0.0.1:80", b"`*` alone"), ("a.test=127.0.0.1", b"takes an address with a port"), ("a.test=127.0.0.1:65536", b"takes an address with a port"),
+        ("a.test=:80", b"takes an address with a port"), ("a.test=b test:80", b"takes an address with a port"), ("a.test=http://b.test:80", b"takes an address with a port"),
+    )
+    for word, wanted in rows:
+        status, printed, said = ended("--listen", "127.0.0.1:0", "--origin", word)
+        same(word, (2, b"", True), (status, printed, said.startswith(b"error: --origin ") and wanted in said and said.count(b"\n") == 1))
+    twice = ["--origin", "a.test=127.0.0.1:80", "--origin", "a.test=127.0.0.1:81"]
+    same("twice", (2, b"", b"error: --origin takes each authority once\n"), ended("--listen", "127.0.0.1:0", *twice))
+
+
+def the_name_of_a_host_is_looked_up():
+    """An origin by the name of its host: `127.1` is no address by std's grammar, and any system knows it. One that
+    the system doesn't know: status 5, and its name."""
+    with Origin(PLAIN) as origin, Edge("--origin", "a.test=127.1:%d" % origin.port) as edge:
+        same("a page", (200, b"[12345678]"), (get(edge, "/p").status, get(edge, "/p").body))
+    long = "x" * 64 + ".test"
+    said = b"error: --origin: the system knows no address of %s\n" % long.encode()
+    same("an unknown host", (5, b"", said), ended("--listen", "127.0.0.1:0", "--origin", "a.test=%s:80" % long))
+
+
+def numbers_that_no_files_are_left_for_are_told():
+    """With a limit of open files below what may be needed: a line that names the number, and the edge serves."""
+    rows = (
+        (["--connections", "2000"], 1024, b"warning: --connections 2000 can't be reached, only 480: 1024 files may be open, and 2544 may be needed (ulimit -n)\n"),
+        ([], 100, b"warning: --threads 64 with --workers 4 can't be reached: 100 files may be open, and 608 may be needed (ulimit -n)\n"),
+        ([], 607, b"warning: --connections 64 can't be reached, only 63: 607 files may be open, and 608 may be needed (ulimit -n)\n"),
+        ([], 608, b""),
+    )
+    for words, files, said in rows:
+        with Origin(PLAIN) as origin, Edge("--origin", "a.test=" + origin.at, *words, files=files) as edge:
+            same("a page with %d" % files, b"[12345678]", get(edge, "/p").body)
+            same("standard error with %d" % files, said, edge.end())
 
 
 def limits_are_taken():
     """The largest and the smallest of each number, an address of IPv6, and a thousand origins."""
-    most = ["--workers", "16", "--ahead", "256", "--levels", "8", "--capacity", "1024", "--timeout", "86400000", "--client-timeout", "86400000", "--keep-alive", "86400", "--threads", "64", "--connections", "65536", "--head"]
-    least = ["--workers", "1", "--ahead", "0", "--levels", "1", "--capacity", "1", "--timeout", "0", "--client-timeout", "0", "--keep-alive", "0", "--threads", "1", "--connections", "1"]
+    most = ["--workers", "16", "--ahead", "256", "--levels", "8", "--capacity", "1024", "--timeout", "86400000", "--page-timeout", "86400000", "--origin-keep-alive", "1024", "--origin-fetches", "65535", "--origin-rest", "86400", "--name", "n" * 64, "--client-timeout", "86400000", "--keep-alive", "86400", "--threads", "64", "--connections", "65536", "--head"]
+    least = ["--workers", "1", "--ahead", "0", "--levels", "1", "--capacity", "1", "--timeout", "0", "--page-timeout", "0", "--origin-keep-alive", "0", "--origin-fetches", "0", "--origin-rest", "0", "--name", "~", "--client-timeout", "0", "--keep-alive", "0", "--threads", "1", "--connections", "1"]
     many = [word for at in range(1000) for word in ("--origin", "%d.test=127.0.0.1:80" % at)]
     for words in (most, least, many, ["--accept", "18446744073709551615"], ["--origin", "a.test=[::1]:80", "--origin", "b.test=127.0.0.1:80"]):
         with Origin(PLAIN) as origin, before(origin, *words) as edge:
@@ -73,17 +115,35 @@ def limits_are_taken():
 
 
 def a_used_port_is_told():
-    """A port that somebody listens on: status 5, and the line for input and output."""
+    """A port that somebody listens on: status 5, and a line that says so."""
     with Origin() as origin:
-        words = ["esi_edge", "serve", "--listen", origin.at]
-        ended = subprocess.run(words, executable=PROGRAM, stdin=subprocess.DEVNULL, capture_output=True, timeout=PATIENCE)
-        same("a used port", (5, b"", b"input or output failed\n"), (ended.returncode, ended.stdout, ended.stderr))
+        said = b"error: the address of --listen is in use: another process listens there\n"
+        same("a used port", (5, b"", said), ended("--listen", origin.at))
+
+
+def without_low_ports():
+    """Takes CAP_NET_BIND_SERVICE from what this process will run, where it has it (PR_CAPBSET_DROP)."""
+    ctypes.CDLL(None).prctl(24, 10, 0, 0, 0)
+
+
+def a_port_that_is_not_permitted_is_told():
+    """A port below 1024 without the right to it: status 5, and a line that says so. Where the system gives such
+    ports to everybody, none is refused."""
+    with open("/proc/sys/net/ipv4/ip_unprivileged_port_start") as file:
+        if int(file.read()) < 2:
+            return
+    status, printed, said = ended("--listen", "127.0.0.1:1", preexec_fn=without_low_ports)
+    same("port 1", (5, b"", True), (status, printed, said.startswith(b"error: permission for the address of --listen is denied: ")))
 
 
 TESTS = (
     the_edge_ends_after_its_connections,
     requests_are_told,
     usage_is_told,
+    what_an_origin_is_instead_is_told,
+    the_name_of_a_host_is_looked_up,
+    numbers_that_no_files_are_left_for_are_told,
     limits_are_taken,
     a_used_port_is_told,
+    a_port_that_is_not_permitted_is_told,
 )

@@ -2,7 +2,7 @@
 import threading
 import time
 
-from harness import PAGE, PATIENCE, Origin, Wires, before, get, same, told, wire
+from harness import PAGE, PATIENCE, Origin, Wires, before, get, same, sized, told, wire
 
 
 class Meeting:
@@ -75,11 +75,11 @@ def two_workers_fetch_at_one_time():
 def as_many_fetch_at_once_as_are_missing():
     """A page of 20 fragments, of which some are kept: how many are missing, the workers, and the most that are
     fetched at once."""
-    kept = "HTTP/1.1 200 OK|surrogate-control: max-age=600||%d"
-    page = wire('HTTP/1.1 200 OK|surrogate-control: max-age=600, content="ESI/1.0"||P' + "".join("<esi:include src='/%d'/>" % i for i in range(20)))
+    kept = "HTTP/1.1 200 OK|surrogate-control: max-age=600"
+    page = sized(kept + ', content="ESI/1.0"', "P" + "".join("<esi:include src='/%d'/>" % i for i in range(20)))
     for missing, workers, most in ((0, 4, 0), (1, 4, 1), (2, 4, 2), (20, 1, 1), (20, 4, 4), (20, 16, 16)):
         meeting = Meeting(min(missing, workers))
-        texts = {"/%d" % i: wire("HTTP/1.1 200 OK||%d" % i if i < missing else kept % i) for i in range(20)}
+        texts = {"/%d" % i: sized("HTTP/1.1 200 OK" if i < missing else kept, "%d" % i) for i in range(20)}
         texts["/p"] = page
         wanted = (200, b"P" + b"".join(b"%d" % i for i in range(20)))
         with Wires(texts) as origin, before(origin, "--workers", str(workers), "--ahead", "256") as edge:
@@ -92,16 +92,16 @@ def as_many_fetch_at_once_as_are_missing():
 
 def pages_share_what_is_kept():
     """A page that is asked for twice, all of whose answers are kept, costs its fetches once."""
-    head = "HTTP/1.1 200 OK|surrogate-control: max-age=60%s||"
-    esi, plain = head % ', content="ESI/1.0"', head % ""
+    plain = "HTTP/1.1 200 OK|surrogate-control: max-age=60"
+    esi = plain + ', content="ESI/1.0"'
     include = "<esi:include src='%s'/>"
-    stored = {"/p": esi + "P" + include % "/x" + include % "/y" + include % "/z", "/x": plain + "1", "/y": esi + "2" + include % "/x", "/z": plain + "3"}
-    tried = esi + "<esi:try><esi:attempt>%s</esi:attempt><esi:except>%s</esi:except></esi:try>" % (include % "/x", include % "/z")
+    page, part = "P" + include % "/x" + include % "/y" + include % "/z", "2" + include % "/x"
+    stored = {"/p": sized(esi, page), "/x": sized(plain, "1"), "/y": sized(esi, part), "/z": sized(plain, "3")}
+    tried = "<esi:try><esi:attempt>%s</esi:attempt><esi:except>%s</esi:except></esi:try>" % (include % "/x", include % "/z")
     # Whether an except that isn't needed is fetched is left to the workers.
-    rows = ((stored, b"P1213", 4), ({"/p": tried, "/x": plain + "1", "/z": plain + "9"}, b"1", None))
+    rows = ((stored, b"P1213", 4), ({"/p": sized(esi, tried), "/x": sized(plain, "1"), "/z": sized(plain, "9")}, b"1", None))
     for workers in (1, 2, 16):
         for texts, wanted, fetches in rows:
-            texts = {path: wire(text) for path, text in texts.items()}
             with Wires(texts) as origin, before(origin, "--workers", str(workers)) as edge:
                 same("first", (200, wanted), told(edge))
                 first = len(origin.heads)

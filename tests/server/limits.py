@@ -1,0 +1,163 @@
+"""What the edge does where it runs out of something: the time of a page, threads, open files; and for a request that
+goes in a circle."""
+import resource
+import socket
+import subprocess
+import time
+
+from harness import PATIENCE, PLAIN, PROGRAM, Edge, Origin, Wires, Wrong, before, client, get, same, told, wire
+
+# After how many seconds a slow answer comes.
+SLOWLY = 0.4
+ALTERNATIVE = "<esi:try><esi:attempt><esi:include src='%s'/></esi:attempt><esi:except>late</esi:except></esi:try>"
+
+
+def slow(text, seconds=SLOWLY):
+    """An answer that comes after a while."""
+
+    def send(_):
+        time.sleep(seconds)
+        return wire("HTTP/1.1 200 OK|content-length: %d||" % len(text)) + text.encode()
+
+    return send
+
+
+def page_of(text):
+    return wire('HTTP/1.1 200 OK|surrogate-control: content="ESI/1.0"|content-length: %d||' % len(text)) + text.encode()
+
+
+def a_page_ends_soon_after_its_time():
+    """Past --page-timeout nothing more is fetched: an `except` counts, and a page without one is 502."""
+    paths = ("/a", "/b", "/c")
+    texts = {path: slow(path[1:]) for path in paths}
+    texts["/p"] = page_of("".join(ALTERNATIVE % path for path in paths))
+    texts["/q"] = page_of("".join("<esi:include src='%s'/>" % path for path in paths))
+    alone = ("--workers", "1", "--ahead", "0")
+    with Wires(texts) as origin, before(origin, *alone, "--page-timeout", "200") as edge:
+        begun = time.monotonic()
+        same("with alternatives", (200, b"alatelate"), told(edge, "/p"))
+        same("in time", True, time.monotonic() - begun < 2 * SLOWLY)
+        same("without any", (502, b"The page could not be assembled.\n"), told(edge, "/q"))
+        same("what was asked for", ["/p", "/a", "/q", "/a"], origin.asked())
+    with Wires(texts) as origin, before(origin, *alone) as edge:
+        same("without a limit", (200, b"abc"), told(edge, "/p"))
+
+
+def what_is_stored_counts_past_a_page_s_time():
+    """A stored fragment takes no time, so it comes in a page whose time is over."""
+    texts = {
+        "/slow": slow("s"),
+        "/stored": wire("HTTP/1.1 200 OK|surrogate-control: max-age=600|content-length: 1||1"),
+        "/p": page_of(ALTERNATIVE % "/slow" + "<esi:include src='/stored'/>"),
+    }
+    with Wires(texts) as origin, before(origin, "--workers", "1", "--ahead", "0", "--page-timeout", "200") as edge:
+        same("stored", (200, b"1"), told(edge, "/stored"))
+        same("past the limit", (200, b"s1"), told(edge, "/p"))
+
+
+def free_port():
+    with socket.create_server(("127.0.0.1", 0)) as found:
+        return found.getsockname()[1]
+
+
+def an_edge_that_asks_itself_ends_at_once():
+    """An edge that is its own origin: its own request is refused, without a further one."""
+    port = free_port()
+    with At(port, "--origin", "*=127.0.0.1:%d" % port, "--name", "edge-a") as edge:
+        begun = time.monotonic()
+        got = get(edge, "/p")
+        same("the answer", (508, b"The request has passed this edge before.\n"), (got.status, got.body))
+        same("at once", True, time.monotonic() - begun < 1)
+
+
+def a_circle_of_two_edges_ends_by_their_limits():
+    """Two edges that ask each other: each request names one of them, so that the page isn't refused, but too late."""
+    port = free_port()
+    short = ("--timeout", "500")
+    with Edge("--origin", "*=127.0.0.1:%d" % port, "--name", "edge-a", *short) as first:
+        with At(port, "--origin", "*=127.0.0.1:%d" % first.port, "--name", "edge-b", *short):
+            begun = time.monotonic()
+            same("the status", 502, get(first, "/p").status)
+            same("in time", True, time.monotonic() - begun < 3)
+
+
+class At(Edge):
+    """An edge at a port that is known before."""
+
+    def __init__(self, port, *options):
+        words = ["esi_edge", "serve", "--listen", "127.0.0.1:%d" % port, *options]
+        self.process = subprocess.Popen(words, executable=PROGRAM, stdin=subprocess.DEVNULL, stdout=subprocess.PIPE, stderr=subprocess.PIPE)
+        self.process.stdout.readline()
+        self.port = port
+
+
+def a_request_that_was_here_is_refused():
+    """By a member of `CDN-Loop` alone, whatever its parameters; without --name nobody is refused."""
+    rows = (("edge-a", 508), ("cdn.test, edge-a; x=1", 508), ("edge-ab", 200), ("b; edge-a", 200))
+    with Origin(PLAIN) as origin:
+        with before(origin, "--name", "edge-a") as edge:
+            for value, status in rows:
+                same(value, status, get(edge, "/p", fields="CDN-Loop: %s\r\n" % value).status)
+        with before(origin) as edge:
+            same("without a name", 200, get(edge, "/p", fields="CDN-Loop: edge-a, edge1\r\n").status)
+
+
+def two_edges_in_a_row_are_no_circle():
+    """An edge before another one, each with its name: the page comes, and its origin sees both names."""
+    with Wires({"/p": page_of("[1]")}) as origin, before(origin, "--name", "inner") as inner:
+        with Edge("--origin", "*=127.0.0.1:%d" % inner.port, "--name", "outer") as outer:
+            same("the page", (200, b"[1]"), told(outer))
+        head = origin.heads[0].decode("latin-1").lower()
+        same("the inner edge says its name", True, "\r\ncdn-loop: inner\r\n" in head)
+        same("and what it can do", True, '\r\nsurrogate-capability: inner="surrogate/1.0 esi/1.0"\r\n' in head)
+
+
+def a_page_is_assembled_by_one_thread_where_no_other_starts():
+    """A page that could have sixteen workers, under a limit of threads."""
+    paths = ["/%d" % at for at in range(8)]
+    texts = {path: slow(path[1:], 0.1) for path in paths}
+    texts["/p"] = page_of("".join("<esi:include src='%s'/>" % path for path in paths))
+    for threads in (4, 100):
+        with Wires(texts) as origin, before(origin, "--workers", "16", threads=threads) as edge:
+            same("%d threads" % threads, (200, b"01234567"), told(edge))
+
+
+def failed_accepts_wait():
+    """Without a file descriptor left the edge accepts nobody, waits longer and longer, and goes on once there are some."""
+    with Origin(PLAIN) as origin, before(origin, "--connections", "1000", "--client-timeout", "600000") as edge:
+        same("before", (200, b"[12345678]"), told(edge))
+        resource.prlimit(edge.process.pid, resource.RLIMIT_NOFILE, (24, 4096))
+        silent = [client(edge) for _ in range(40)]
+        time.sleep(2)
+        if edge.process.poll() is not None:
+            raise Wrong("the edge ended, with status %d" % edge.process.returncode)
+        resource.prlimit(edge.process.pid, resource.RLIMIT_NOFILE, (4096, 4096))
+        same("after", (200, b"[12345678]"), told(edge))
+        for connection in silent:
+            connection.close()
+
+
+def failed_accepts_end_the_edge_in_the_end():
+    """Sixteen failed accepts in succession end it, after some seconds, with status 5, once each client has left."""
+    with Origin(PLAIN) as origin, before(origin, "--connections", "1000", "--client-timeout", "1000") as edge:
+        same("before", (200, b"[12345678]"), told(edge))
+        resource.prlimit(edge.process.pid, resource.RLIMIT_NOFILE, (3, 4096))
+        begun = time.monotonic()
+        silent = [client(edge) for _ in range(4)]
+        same("status", 5, edge.ends())
+        same("after its pauses", True, 4 < time.monotonic() - begun < PATIENCE)
+        for connection in silent:
+            connection.close()
+
+
+TESTS = (
+    a_page_ends_soon_after_its_time,
+    what_is_stored_counts_past_a_page_s_time,
+    an_edge_that_asks_itself_ends_at_once,
+    a_circle_of_two_edges_ends_by_their_limits,
+    a_request_that_was_here_is_refused,
+    two_edges_in_a_row_are_no_circle,
+    a_page_is_assembled_by_one_thread_where_no_other_starts,
+    failed_accepts_wait,
+    failed_accepts_end_the_edge_in_the_end,
+)
