@@ -2,8 +2,7 @@
 import threading
 import time
 
-from harness import PATIENCE, UNASSEMBLED, Edge, Origin, Wires, before, get, same, told, wire
-from sharing import all_at_once
+from harness import PATIENCE, UNASSEMBLED, Edge, Origin, Wires, all_at_once, before, get, same, told, wire
 
 ONE = wire("HTTP/1.1 200 OK|content-length: 1||1")
 # Kept for a second, and bridged for ten minutes.

@@ -1,9 +1,8 @@
 """What clients get, whole ones and slow ones."""
 import socket
-import threading
 import time
 
-from harness import ASKED, PAGE, PLAIN, TEMPLATE, Edge, Origin, Response, Wires, before, client, exchange, get, rest, same, wire
+from harness import ASKED, PAGE, PLAIN, TEMPLATE, Edge, Origin, Response, Wires, all_at_once, before, client, exchange, get, rest, same, wire
 
 
 OTHER = wire("POST /p HTTP/1.1|host: a.test|content-length: 9||")
@@ -126,13 +125,8 @@ def a_long_page_comes_whole_to_a_client_that_sends_on():
 def many_clients_are_served_side_by_side():
     """Two threads serve two hundred clients, four of them at a time, and the edge ends with the last."""
     with Origin(PLAIN) as origin, before(origin, "--threads", "2", "--accept", "200") as edge:
-        came = []
-        clients = [threading.Thread(target=lambda: came.extend(get(edge, "/p").body for _ in range(50))) for _ in range(4)]
-        for client in clients:
-            client.start()
-        for client in clients:
-            client.join()
-        same("what they got", [b"[12345678]"] * 200, came)
+        came = all_at_once([lambda: [get(edge, "/p").body for _ in range(50)]] * 4)
+        same("what they got", [[b"[12345678]"] * 50] * 4, came)
         same("exit status", 0, edge.ends())
 
 

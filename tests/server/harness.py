@@ -50,18 +50,15 @@ class Origin:
         self.thread.join()
 
 
-class Wires:
-    """An origin in a thread of its own that sends for each target these very bytes, and hangs up; for
-    another none. Bytes that are to go on without end are one piece of them, in a list; a function
-    says what to send when it is asked for, or sends it itself. It keeps what it was asked."""
+class Listening:
+    """A free port, at which a thread accepts connections until this ends. It keeps the heads that came."""
 
-    def __init__(self, texts):
-        self.texts = dict(texts)
-        self.listener = socket.create_server(("127.0.0.1", 0), backlog=128)
-        self.at = "127.0.0.1:%d" % self.listener.getsockname()[1]
-        self.sent = 0
+    def __init__(self):
         self.heads = []
-        self.thread = threading.Thread(target=self.serve, daemon=True)
+        self.listener = socket.create_server(("127.0.0.1", 0), backlog=128)
+        self.port = self.listener.getsockname()[1]
+        self.at = "127.0.0.1:%d" % self.port
+        self.thread = threading.Thread(target=self.accept, daemon=True)
         self.thread.start()
 
     def __enter__(self):
@@ -72,26 +69,39 @@ class Wires:
         self.thread.join()
         self.listener.close()
 
-    def asked(self):
-        """The targets that were asked for, in order."""
-        return [head.split(b" ")[1].decode() for head in self.heads]
-
-    def serve(self):
+    def accept(self):
         while True:
             try:
                 connection, _ = self.listener.accept()
             except OSError:
                 return
-            try:
-                text = self.asked_of(connection)
-            except OSError:
-                connection.close()
-                continue
-            # What takes no time is sent at once: a thread for each connection takes longer.
-            if isinstance(text, bytes) and len(text) < 65536:
-                self.send(connection, text)
-            else:
-                threading.Thread(target=self.send, args=(connection, text), daemon=True).start()
+            self.accepted(connection)
+
+
+class Wires(Listening):
+    """An origin in a thread of its own that sends for each target these very bytes, and hangs up; for
+    another none. Bytes that are to go on without end are one piece of them, in a list; a function
+    says what to send when it is asked for, or sends it itself. It keeps what it was asked."""
+
+    def __init__(self, texts):
+        self.texts = dict(texts)
+        self.sent = 0
+        super().__init__()
+
+    def asked(self):
+        """The targets that were asked for, in order."""
+        return [head.split(b" ")[1].decode() for head in self.heads]
+
+    def accepted(self, connection):
+        try:
+            text = self.asked_of(connection)
+        except OSError:
+            return connection.close()
+        # What takes no time is sent at once: a thread for each connection takes longer.
+        if isinstance(text, bytes) and len(text) < 65536:
+            self.send(connection, text)
+        else:
+            threading.Thread(target=self.send, args=(connection, text), daemon=True).start()
 
     def asked_of(self, connection):
         """What is to be sent for what comes."""
@@ -143,11 +153,23 @@ def limit_threads(count):
         resource.setrlimit(resource.RLIMIT_NPROC, (most, most))
 
 
-class Edge:
-    """An edge, with the options of `serve` after `--listen`, which may have so many files open, and threads."""
+def all_at_once(calls):
+    """What these calls give, each by a thread of its own."""
+    came = []
+    threads = [threading.Thread(target=lambda call=call: came.append(call())) for call in calls]
+    for thread in threads:
+        thread.start()
+    for thread in threads:
+        thread.join()
+    return came
 
-    def __init__(self, *options, files=None, threads=None):
-        words = ["esi_edge", "serve", "--listen", "127.0.0.1:0", *options]
+
+class Edge:
+    """An edge, with the options of `serve` after `--listen`, at this port or a free one, which may have so many files
+    open, and threads."""
+
+    def __init__(self, *options, port=0, files=None, threads=None):
+        words = ["esi_edge", "serve", "--listen", "127.0.0.1:%d" % port, *options]
 
         def limited():
             if files:

@@ -3,10 +3,9 @@ import email.utils
 import http.client
 import itertools
 import re
-import threading
 import time
 
-from harness import ASKED, PAGE, PATIENCE, PLAIN, Edge, Origin, Response, Wires, before, client, get, rest, same, wire
+from harness import ASKED, PAGE, PATIENCE, PLAIN, Origin, Response, Wires, all_at_once, before, client, get, rest, same, wire
 
 KEPT = ("--keep-alive", "20")
 BODY = b"[12345678]"
@@ -211,11 +210,7 @@ def busy_connections_are_kept():
                 counts[at] += is_page and asking.sock is not None and asking.sock.getsockname()[1] == port
             asking.close()
 
-        asking = [threading.Thread(target=ask, args=(at,)) for at in range(12)]
-        for it in asking:
-            it.start()
-        for it in asking:
-            it.join()
+        all_at_once([lambda at=at: ask(at) for at in range(12)])
         same("responses", [30] * 12, counts)
 
 

@@ -2,10 +2,9 @@
 goes in a circle."""
 import resource
 import socket
-import subprocess
 import time
 
-from harness import PATIENCE, PLAIN, PROGRAM, Edge, Origin, Wires, Wrong, before, client, get, same, told, wire
+from harness import PATIENCE, PLAIN, Edge, Origin, Wires, Wrong, before, client, get, same, told, wire
 
 # After how many seconds a slow answer comes.
 SLOWLY = 0.4
@@ -63,7 +62,7 @@ def free_port():
 def an_edge_that_asks_itself_ends_at_once():
     """An edge that is its own origin: its own request is refused, without a further one."""
     port = free_port()
-    with At(port, "--origin", "*=127.0.0.1:%d" % port, "--name", "edge-a") as edge:
+    with Edge("--origin", "*=127.0.0.1:%d" % port, "--name", "edge-a", port=port) as edge:
         begun = time.monotonic()
         got = get(edge, "/p")
         same("the answer", (508, b"The request has passed this edge before.\n"), (got.status, got.body))
@@ -75,20 +74,10 @@ def a_circle_of_two_edges_ends_by_their_limits():
     port = free_port()
     short = ("--timeout", "500")
     with Edge("--origin", "*=127.0.0.1:%d" % port, "--name", "edge-a", *short) as first:
-        with At(port, "--origin", "*=127.0.0.1:%d" % first.port, "--name", "edge-b", *short):
+        with Edge("--origin", "*=127.0.0.1:%d" % first.port, "--name", "edge-b", *short, port=port):
             begun = time.monotonic()
             same("the status", 502, get(first, "/p").status)
             same("in time", True, time.monotonic() - begun < 3)
-
-
-class At(Edge):
-    """An edge at a port that is known before."""
-
-    def __init__(self, port, *options):
-        words = ["esi_edge", "serve", "--listen", "127.0.0.1:%d" % port, *options]
-        self.process = subprocess.Popen(words, executable=PROGRAM, stdin=subprocess.DEVNULL, stdout=subprocess.PIPE, stderr=subprocess.PIPE)
-        self.process.stdout.readline()
-        self.port = port
 
 
 def a_request_that_was_here_is_refused():
@@ -103,7 +92,7 @@ def a_request_that_was_here_is_refused():
 
 
 def two_edges_in_a_row_are_no_circle():
-    """An edge before another one, each with its name: the page comes, and its origin sees both names."""
+    """An edge before another one, each with its name: the page comes, and its origin is told the name of the one that asks."""
     with Wires({"/p": page_of("[1]")}) as origin, before(origin, "--name", "inner") as inner:
         with Edge("--origin", "*=127.0.0.1:%d" % inner.port, "--name", "outer") as outer:
             same("the page", (200, b"[1]"), told(outer))

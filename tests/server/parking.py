@@ -12,7 +12,7 @@ import socket
 import threading
 import time
 
-from harness import ASKED, PATIENCE, Origin, Response, before, client, get, rest, same, wire
+from harness import ASKED, PATIENCE, Origin, Response, all_at_once, before, client, get, rest, same, wire
 from keeping import BODY, is_last, more_of, of_one, responses_of
 
 IS_FULL = os.environ.get("PARKING") == "full"
@@ -253,11 +253,7 @@ def busy_clients_take_turns():
                     asking.close()
             asking.close()
 
-        asking = [threading.Thread(target=ask, args=(at,)) for at in range(12)]
-        for it in asking:
-            it.start()
-        for it in asking:
-            it.join()
+        all_at_once([lambda at=at: ask(at) for at in range(12)])
         same("responses", [20] * 12, counts)
 
 

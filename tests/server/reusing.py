@@ -3,10 +3,9 @@ import socket
 import threading
 import time
 
-from harness import PATIENCE, UNASSEMBLED, Edge, before, client, same, told, wire
+from harness import PATIENCE, UNASSEMBLED, Edge, Listening, all_at_once, before, client, same, told, wire
 from keeping import of_one
 from parking import IS_FULL
-from sharing import all_at_once
 
 # Connections to an origin, and to a client, that are kept.
 REUSED = ("--origin-keep-alive", "4")
@@ -21,41 +20,23 @@ def whole(target):
     return wire("HTTP/1.1 200 OK|content-length: %d||%s" % (len(target), target))
 
 
-class Lasting:
+class Lasting(Listening):
     """An origin that keeps its connections: each is served by a thread, until `answer` says that it ends. That is
     given the target and how many requests came before over the connection; it gives what is sent, and whether the
     connection ends behind that."""
 
     def __init__(self, answer=lambda target, before_it: (whole(target), False)):
         self.answer = answer
-        self.listener = socket.create_server(("127.0.0.1", 0), backlog=128)
-        self.port = self.listener.getsockname()[1]
-        self.at = "127.0.0.1:%d" % self.port
         self.connections = self.open = 0
-        self.heads = []
         self.lock = threading.Lock()
-        self.thread = threading.Thread(target=self.accept, daemon=True)
-        self.thread.start()
+        super().__init__()
 
-    def __enter__(self):
-        return self
-
-    def __exit__(self, *_):
-        self.listener.shutdown(socket.SHUT_RDWR)
-        self.thread.join()
-        self.listener.close()
-
-    def accept(self):
-        while True:
-            try:
-                connection, _ = self.listener.accept()
-            except OSError:
-                return
-            connection.setsockopt(socket.IPPROTO_TCP, socket.TCP_NODELAY, 1)
-            with self.lock:
-                self.connections += 1
-                self.open += 1
-            threading.Thread(target=self.serve, args=(connection,), daemon=True).start()
+    def accepted(self, connection):
+        connection.setsockopt(socket.IPPROTO_TCP, socket.TCP_NODELAY, 1)
+        with self.lock:
+            self.connections += 1
+            self.open += 1
+        threading.Thread(target=self.serve, args=(connection,), daemon=True).start()
 
     def serve(self, connection):
         try:

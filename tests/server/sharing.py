@@ -2,7 +2,7 @@
 import threading
 import time
 
-from harness import PAGE, PATIENCE, Origin, Wires, before, get, same, sized, told, wire
+from harness import PAGE, PATIENCE, Origin, Wires, all_at_once, before, get, same, sized, told, wire
 
 
 class Meeting:
@@ -27,17 +27,6 @@ class Meeting:
             return text
 
         return send
-
-
-def all_at_once(calls):
-    """What these calls give, each by a thread of its own."""
-    came = []
-    threads = [threading.Thread(target=lambda call=call: came.append(call())) for call in calls]
-    for thread in threads:
-        thread.start()
-    for thread in threads:
-        thread.join()
-    return came
 
 
 def equal_requests_cost_one_fetch():
