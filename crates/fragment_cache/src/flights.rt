@@ -39,7 +39,8 @@ impl Flight {
         &self.url
     }
 
-    pub(crate) fn number(&self) -> u64
+    /// The number under which others join it. Takes no memory.
+    pub fn number(&self) -> u64
         ensures { result ≡ self.now.number }
     {
         self.number
@@ -173,6 +174,13 @@ impl Flights {
         open(&mut self.flying, &mut self.kept, url, number)?;
         self.next = number + 1;
         Ok((Flight { number, url: own }, ready))
+    }
+
+    // How many pick-ups a flight has left.
+    pub(crate) fn pick_ups(&self, flight: &Flight) -> u16
+        ensures { result ≡ picks_at self.now.flights flight.now.number }
+    {
+        picks(&self.kept, flight.number)
     }
 
     // Lands a flight that is under way, with its pick-ups; it is gone if it has none, or if a second

@@ -53,7 +53,7 @@ impl Model for Shard {
 impl Shard {
     ghost use Rattle.std.specs.Prelude.{◌≡◌, ◌<◌, ◌≤◌, ◌+◌, ◌++◌, ◌∷◌, [], ℕ, None, Some, IfOk, IfSome, OnErr, MatchOption};
     ghost use Rattle.std.specs.Arc.{arc_value};
-    ghost use Rattle.fragment_cache.specs.Machine.{empty, fresh};
+    ghost use Rattle.fragment_cache.specs.Machine.{empty, fresh, picks_at};
     ghost use Rattle.fragment_cache.specs.Steps.{Begins, Looks, Found, Missing, Refused, LandsSomehow, Picks};
     ghost use Rattle.fragment_cache.specs.Shown.{begun_answer, picked_answer};
     ghost use Rattle.fragment_cache.specs.Sound.{IsSound, NamesUrl};
@@ -139,6 +139,15 @@ impl Shard {
     {
         self.entries.sound();
         self.flights.sound();
+    }
+
+    /// How many pick-ups of a flight have been noted and not been made: for how many others its leader fetches too.
+    ///
+    /// Our profile.
+    pub fn pick_ups(&self, flight: &Flight) -> u16
+        ensures { result ≡ picks_at self.now.flights flight.now.number }
+    {
+        self.flights.pick_ups(flight)
     }
 
     // Joins the flight of a URL that no entry answers, or leads a new one.
