@@ -8,12 +8,17 @@ use Rattle.esi_meaning.specs.Ahead.{IsLegal}
 use Rattle.esi_meaning.specs.Meaning.{outcome}
 use Rattle.esi_meaning.specs.State.{Done, state}
 use Rattle.fetch_workers.specs.Given.{AllGiven}
-use Rattle.fetch_workers.specs.declared.assembler.TheConstants.{MAX_WORKERS}
+use Rattle.fetch_workers.specs.declared.assembler.TheConstants.{MAX_FETCHES, MAX_WORKERS}
 
 -- how many threads may work for a page
 pub record AreWorkers (workers : ℕ) : Type 0 where
   pub some : 1 ≤ workers
   pub few : workers ≤ MAX_WORKERS
+
+-- how many fetches a page's own thread may have in flight
+pub record AreFetches (fetches : ℕ) : Type 0 where
+  pub some : 1 ≤ fetches
+  pub few : fetches ≤ MAX_FETCHES
 
 -- the page at this URL, for this request and with these levels, has this outcome
 pub record RestsOn (request : Request) (levels : ℕ) (url : List ℕ) (log : List Answered) (result : Shown) : Type 0 where

@@ -10,8 +10,11 @@ ghost use Rattle.plan_runner.specs.declared.page.TheConstants.{MAX_AHEAD};
 ghost use Rattle.plan_runner.specs.Page.{accepted};
 ghost use Rattle.fetch_workers.specs.declared.log.Own.{Own};
 ghost use Rattle.fetch_workers.specs.Faults.{fault_of_page};
-ghost use Rattle.fetch_workers.specs.Rests.{AreWorkers, IsAssembled, RestsOn};
+ghost use Rattle.fetch_workers.specs.Given.{AllOwn};
+ghost use Rattle.fetch_workers.specs.Rests.{AreFetches, AreWorkers, IsAssembled, RestsOn};
 
+use crate::concurrent_source::ConcurrentSource;
+use crate::concurrent_worker::work_concurrently;
 use crate::crew::run_workers;
 use crate::fault::AssembleFault;
 use crate::gate::{Gate, OpenGate};
@@ -30,6 +33,11 @@ use std::thread::Threads;
 /// Our profile.
 pub const MAX_WORKERS: u8 = 16;
 
+/// The most fetches that a thread may have in flight for a page.
+///
+/// Our profile.
+pub const MAX_FETCHES: u16 = 256;
+
 /// How pages are assembled: the numbers of `assemble`, each within its limits.
 ///
 /// Our profile.
@@ -41,9 +49,12 @@ pub struct Assembling {
     pub workers: u8,
     /// How many levels of fragments there may be.
     pub levels: u8,
+    /// How many fetches the page's own thread may have in flight.
+    pub fetches: u16,
     ghost ahead_few: { ahead ≤ MAX_AHEAD },
     ghost workers_few: { AreWorkers workers },
     ghost levels_few: { AreLevels levels },
+    ghost fetches_few: { AreFetches fetches },
 }
 
 /// An outcome, and the answers that it rests on.
@@ -112,7 +123,7 @@ where
 }
 
 impl Assembling {
-    /// With these numbers.
+    /// With these numbers, and one fetch in flight at a time.
     pub fn new(ahead: u16, workers: u8, levels: u8) -> Assembling
         requires ahead { ahead ≤ MAX_AHEAD }
         requires workers { AreWorkers workers }
@@ -120,11 +131,29 @@ impl Assembling {
         ensures ahead { result.ahead ≡ ahead }
         ensures workers { result.workers ≡ workers }
         ensures levels { result.levels ≡ levels }
+        ensures fetches { result.fetches ≡ 1 }
     {
         Assembling {
             ahead,
             workers,
             levels,
+            fetches: 1,
+        }
+    }
+
+    /// The same, with so many fetches in flight, from 1 to `MAX_FETCHES`.
+    pub fn with_fetches(self, fetches: u16) -> Assembling
+        requires { AreFetches fetches }
+        ensures ahead { result.ahead ≡ self.ahead }
+        ensures workers { result.workers ≡ self.workers }
+        ensures levels { result.levels ≡ self.levels }
+        ensures fetches { result.fetches ≡ fetches }
+    {
+        Assembling {
+            ahead: self.ahead,
+            workers: self.workers,
+            levels: self.levels,
+            fetches,
         }
     }
 
@@ -149,9 +178,55 @@ impl Assembling {
     {
         let page = self.accept(alloc, &url, &request)?;
         let shared = SharedDesk::new(alloc, page, self.workers);
-        let mut own = run_workers(rt, alloc, source, gate, &shared, self.workers)?;
-        own.sort_unstable_by_key(|o| o.place);
-        compared(alloc, shared.into_page(), own, &url, &request, self.levels)
+        let own = run_workers(rt, alloc, source, gate, &shared, self.workers)?;
+        put_together::<R, S>(
+            alloc,
+            source,
+            shared.into_page(),
+            own,
+            &url,
+            &request,
+            self.levels,
+        )
+    }
+
+    /// Assembles a page by these numbers from a source that makes several fetches at once. If more than one may be in
+    /// flight, the calling thread works for the page alone, and has as many in flight as may be and are asked for;
+    /// what is in flight when the page is done is given up. Else it is assembled as by `assemble`.
+    ///
+    /// Our profile.
+    pub fn assemble_concurrently<R, S, G>(
+        self,
+        rt: &R,
+        alloc: Global,
+        source: &S,
+        gate: &G,
+        url: PageUrl,
+        request: Request,
+    ) -> Result<Assembled, AssembleFault>
+    where
+        R: Wait + Threads + Sync,
+        S: ConcurrentSource<R> + Sync,
+        G: Gate<R> + Sync,
+        ensures { IfOk result (λ page.
+            IsAssembled (S.gives source.now) request self.levels url (map arc_value page.log.items) (shown (arc_value page.outcome))) }
+    {
+        if self.fetches == 1 {
+            return self.assemble(rt, alloc, source, gate, url, request);
+        }
+        let page = self.accept(alloc, &url, &request)?;
+        let shared = SharedDesk::new(alloc, page, 1);
+        let mut own = Vec::new(alloc);
+        work_concurrently(rt, alloc, source, gate, &shared, self.fetches, &mut own)?;
+        put_together::<R, S>(
+            alloc,
+            source,
+            shared.into_page(),
+            own,
+            &url,
+            &request,
+            self.levels,
+        )
     }
 
     // The page, before anybody works for it.
@@ -166,6 +241,24 @@ impl Assembling {
             self.levels,
         )
     }
+}
+
+// The page that was worked for, if it is the one that its workers' answers make, all of which the source gave.
+fn put_together<R, S: Source<R>>(
+    alloc: Global,
+    _source: &S,
+    page: Page,
+    mut own: Vec<Own>,
+    url: &PageUrl,
+    request: &Request,
+    levels: u8,
+) -> Result<Assembled, AssembleFault>
+    requires { AllOwn (S.gives _source.now) own.items }
+    ensures { IfOk result (λ page.
+        IsAssembled (S.gives _source.now) request.now levels url.now (map arc_value page.log.items) (shown (arc_value page.outcome))) }
+{
+    own.sort_unstable_by_key(|o| o.place);
+    compared(alloc, page, own, url, request, levels)
 }
 
 // The page that was worked for, if it is done, it is the one that was asked for, and its log consists of

@@ -1,14 +1,16 @@
 //! One cache shared by all pages.
 
-ghost use Rattle.std.specs.Prelude.{◌≡◌, ◌≤◌, ◌<◌, IfOk};
+ghost use Rattle.std.specs.Prelude.{◌≡◌, ◌≤◌, ◌<◌, [], IfOk};
 ghost use Rattle.std.specs.Arc.{arc_value};
 ghost use Rattle.fetch_workers.specs.Shards.{shard_of};
 
+use crate::cache_flights::{CacheFlights, Joined, Led};
 use crate::clock::Clock;
+use crate::concurrent_source::ConcurrentSource;
 use crate::shared_shard::SharedShard;
 use crate::source::Source;
 use edge_types::{Answer, NoMemory, PageUrl};
-use fragment_cache::{Begun, Flight, MAX_CAPACITY};
+use fragment_cache::{Begun, Flight, MAX_CAPACITY, Picked};
 use std::alloc::Global;
 use std::array;
 use std::sync::{Arc, Wait};
@@ -102,6 +104,236 @@ impl<S, C> Cache<S, C> {
             Some(answer) if answer.url() == url => Ok(answer),
             _ => self.source.fetch(rt, alloc, url),
         }
+    }
+}
+
+impl<S, C> Cache<S, C> {
+    // Begins the fetch of a flight that the thread leads. Without room for it the flight lands at once.
+    fn depart<R: Wait>(
+        &self,
+        rt: &R,
+        alloc: Global,
+        in_flight: &mut CacheFlights<S::InFlight>,
+        led: Led,
+    ) -> Result<(), NoMemory>
+    where
+        S: ConcurrentSource<R>,
+        C: Clock<R>,
+    {
+        let begun = self
+            .source
+            .begin(rt, alloc, &mut in_flight.fetches, led.flight.url());
+        let left = match begun {
+            Ok(()) => in_flight.lead(led),
+            Err(NoMemory) => Err(led),
+        };
+        match left {
+            Ok(()) => Ok(()),
+            Err(led) => {
+                let _ = self.land_ready(rt, led);
+                Err(NoMemory)
+            }
+        }
+    }
+
+    // Lands a flight with the failed answer of its leader.
+    fn land_ready<R: Wait>(&self, rt: &R, led: Led) -> Arc<Answer>
+    where
+        C: Clock<R>,
+    {
+        let (flight, ready) = led.into_parts();
+        let shard = &self.shards[shard_of(flight.url())];
+        shard.land(rt, flight, ready, self.clock.now(rt))
+    }
+
+    // Lands the flight for which an answer has come, if there is one.
+    fn landed<R: Wait>(
+        &self,
+        rt: &R,
+        in_flight: &mut CacheFlights<S::InFlight>,
+        answer: Arc<Answer>,
+    ) -> Arc<Answer>
+    where
+        S: ConcurrentSource<R>,
+        C: Clock<R>,
+    {
+        let Some(led) = in_flight.take_led(answer.url()) else {
+            return answer;
+        };
+        let (flight, _) = led.into_parts();
+        let shard = &self.shards[shard_of(answer.url())];
+        shard.land(rt, flight, answer, self.clock.now(rt))
+    }
+
+    // The answer of one of the flights that others lead, if it has landed; each time another one is looked at. One that
+    // can't be picked up is fetched.
+    fn joined_landed<R: Wait>(
+        &self,
+        rt: &R,
+        alloc: Global,
+        in_flight: &mut CacheFlights<S::InFlight>,
+    ) -> Result<Option<Arc<Answer>>, NoMemory>
+    where
+        S: ConcurrentSource<R>,
+    {
+        let Some(joined) = in_flight.joined.pop_front() else {
+            return Ok(None);
+        };
+        match self.shards[shard_of(&joined.url)].pick(rt, joined.number) {
+            Picked::Here(answer) if answer.url() == &joined.url => return Ok(Some(answer)),
+            Picked::Flying => in_flight.joined.push_back(joined)?,
+            Picked::Here(_) | Picked::Unknown => {
+                self.source
+                    .begin(rt, alloc, &mut in_flight.fetches, &joined.url)?;
+            }
+        }
+        Ok(None)
+    }
+
+    // The next answer once none of the source's fetches is in flight: only now others' flights are waited for, since
+    // nobody waits for this thread's.
+    fn next_of_others<R: Wait>(
+        &self,
+        rt: &R,
+        alloc: Global,
+        in_flight: &mut CacheFlights<S::InFlight>,
+    ) -> Result<Option<Arc<Answer>>, NoMemory>
+    where
+        S: ConcurrentSource<R>,
+        C: Clock<R>,
+    {
+        // A flight whose fetch the source has lost.
+        if let Some(led) = in_flight.pop_led() {
+            return Ok(Some(self.land_ready(rt, led)));
+        }
+        let Some(joined) = in_flight.joined.pop_front() else {
+            return Ok(None);
+        };
+        let shard = &self.shards[shard_of(&joined.url)];
+        let answer = self.join(rt, alloc, shard, &joined.url, joined.number)?;
+        Ok(Some(answer))
+    }
+
+    // Ends each flight that the thread leads: one that somebody else waits for by its own answer, any other by a failed
+    // one.
+    fn end_led<R: Wait>(&self, rt: &R, alloc: Global, in_flight: &mut CacheFlights<S::InFlight>)
+    where
+        S: ConcurrentSource<R>,
+        C: Clock<R>,
+        ensures { in_flight.new.led.items ≡ [] }
+    {
+        for _ in rt.forever() {
+            let Some(led) = in_flight.pop_led() else {
+                return;
+            };
+            let shard = &self.shards[shard_of(led.flight.url())];
+            if let Some(led) = shard.land_unless_awaited(rt, led, self.clock.now(rt)) {
+                self.finish(rt, alloc, in_flight, led);
+            }
+        }
+        unreachable!()
+    }
+
+    // Waits for the answer of a flight that the thread leads, and lands it.
+    fn finish<R: Wait>(
+        &self,
+        rt: &R,
+        alloc: Global,
+        in_flight: &mut CacheFlights<S::InFlight>,
+        led: Led,
+    )
+    where
+        S: ConcurrentSource<R>,
+        C: Clock<R>,
+    {
+        let mut left = Some(led);
+        for _ in rt.forever() {
+            let Some(led) = left else {
+                return;
+            };
+            left = self.finished(rt, alloc, in_flight, led);
+        }
+        unreachable!()
+    }
+
+    // Waits for one answer, which lands the flight if it is that of its URL; else the flight comes back.
+    fn finished<R: Wait>(
+        &self,
+        rt: &R,
+        alloc: Global,
+        in_flight: &mut CacheFlights<S::InFlight>,
+        led: Led,
+    ) -> Option<Led>
+    where
+        S: ConcurrentSource<R>,
+        C: Clock<R>,
+    {
+        let Ok(Some(answer)) = self.source.next(rt, alloc, &mut in_flight.fetches) else {
+            let _ = self.land_ready(rt, led);
+            return None;
+        };
+        if answer.url() == led.flight.url() {
+            let (flight, _) = led.into_parts();
+            let shard = &self.shards[shard_of(answer.url())];
+            let _ = shard.land(rt, flight, answer, self.clock.now(rt));
+            return None;
+        }
+        let _ = self.landed(rt, in_flight, answer);
+        Some(led)
+    }
+}
+
+impl<R: Wait, S: ConcurrentSource<R>, C: Clock<R>> ConcurrentSource<R> for Cache<S, C> {
+    type InFlight = CacheFlights<S::InFlight>;
+
+    fn nothing_in_flight(&self, rt: &R, alloc: Global) -> CacheFlights<S::InFlight> {
+        CacheFlights::new(alloc, self.source.nothing_in_flight(rt, alloc))
+    }
+
+    fn begin(
+        &self,
+        rt: &R,
+        alloc: Global,
+        in_flight: &mut CacheFlights<S::InFlight>,
+        url: &PageUrl,
+    ) -> Result<(), NoMemory> {
+        in_flight.reserve()?;
+        let own = url.share()?;
+        match self.shards[shard_of(url)].begin(rt, url, self.clock.now(rt)) {
+            Begun::Hit(answer) => Ok(in_flight.here.push(answer)?),
+            Begun::Join(number) => Ok(in_flight.joined.push_back(Joined { url: own, number })?),
+            Begun::Lead(flight, ready) => {
+                self.depart(rt, alloc, in_flight, Led::new(flight, ready))
+            }
+            Begun::Bypass => self.source.begin(rt, alloc, &mut in_flight.fetches, url),
+        }
+    }
+
+    fn next(
+        &self,
+        rt: &R,
+        alloc: Global,
+        in_flight: &mut CacheFlights<S::InFlight>,
+    ) -> Result<Option<Arc<Answer>>, NoMemory> {
+        if let Some(answer) = in_flight.here.pop() {
+            return Ok(Some(answer));
+        }
+        if let Some(answer) = self.joined_landed(rt, alloc, in_flight)? {
+            return Ok(Some(answer));
+        }
+        match self.source.next(rt, alloc, &mut in_flight.fetches)? {
+            Some(answer) => Ok(Some(self.landed(rt, in_flight, answer))),
+            None => self.next_of_others(rt, alloc, in_flight),
+        }
+    }
+
+    fn give_up(&self, rt: &R, alloc: Global, in_flight: CacheFlights<S::InFlight>) {
+        let mut in_flight = in_flight;
+        for joined in &in_flight.joined {
+            self.shards[shard_of(&joined.url)].leave(rt, joined.number);
+        }
+        self.end_led(rt, alloc, &mut in_flight);
+        self.source.give_up(rt, alloc, in_flight.into_fetches());
     }
 }
 

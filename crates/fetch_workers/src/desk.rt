@@ -12,10 +12,9 @@ use plan_runner::{Page, PostFault, State};
 use std::alloc::Global;
 use std::collections::VecDeque;
 
-// A ticket whose answer has to be waited for, and that nobody fetches yet. It is given up with the
-// desk.
-struct SetAside {
-    ticket: Ticket,
+/// A ticket whose answer has to be waited for. It is given up with whoever holds it.
+pub(crate) struct SetAside {
+    pub(crate) ticket: Ticket,
 }
 
 impl Drop for SetAside {
@@ -25,7 +24,9 @@ impl Drop for SetAside {
 }
 
 impl SetAside {
-    fn into_ticket(self) -> Ticket {
+    pub(crate) fn into_ticket(self) -> Ticket
+        ensures { result ≡ self.ticket }
+    {
         let SetAside { ticket } = self;
         ticket
     }

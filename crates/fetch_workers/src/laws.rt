@@ -4,7 +4,7 @@
 ghost use Rattle.std.specs.Prelude.{◌≡◌};
 ghost use Rattle.fetch_workers.specs.Laws.{TablesGiveThePage};
 
-use crate::assembler::MAX_WORKERS;
+use crate::assembler::{MAX_FETCHES, MAX_WORKERS};
 use crate::cache::SHARDS;
 
 /// Over a `TableSource` a page has the outcome that `plain_page` returns over its table, for every
@@ -20,6 +20,13 @@ pub fn tables_give_the_page()
 /// Our profile.
 pub fn limit_of_workers()
     ensures { MAX_WORKERS ≡ 16 }
+{}
+
+/// A page's own thread has at most 256 fetches in flight. Takes no memory.
+///
+/// Our profile.
+pub fn limit_of_fetches()
+    ensures { MAX_FETCHES ≡ 256 }
 {}
 
 /// A cache has eight shards. Takes no memory.

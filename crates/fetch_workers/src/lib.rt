@@ -4,13 +4,17 @@
 
 mod assembler;
 mod cache;
+mod cache_flights;
 mod clock;
+mod concurrent_source;
+mod concurrent_worker;
 mod crew;
 mod desk;
 mod fault;
 mod gate;
 pub mod laws;
 mod log;
+mod one_by_one;
 mod same;
 mod shared_desk;
 mod shared_shard;
@@ -18,10 +22,13 @@ mod source;
 mod table_source;
 mod worker;
 
-pub use assembler::{Assembled, Assembling, MAX_WORKERS, assemble, assemble_gated};
+pub use assembler::{Assembled, Assembling, MAX_FETCHES, MAX_WORKERS, assemble, assemble_gated};
 pub use cache::{Cache, SHARDS};
+pub use cache_flights::CacheFlights;
 pub use clock::Clock;
+pub use concurrent_source::ConcurrentSource;
 pub use fault::AssembleFault;
 pub use gate::{Gate, OpenGate};
+pub use one_by_one::OneByOne;
 pub use source::Source;
 pub use table_source::TableSource;

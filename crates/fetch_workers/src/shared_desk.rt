@@ -21,6 +21,9 @@ pub(crate) trait Shared<R> {
     /// Waits until there is something to do.
     fn next_turn(&self, rt: &R) -> Turn;
 
+    /// What there is to do now, without waiting.
+    fn turn(&self, rt: &R) -> Turn;
+
     /// Posts an answer, and returns its place in the log.
     fn post(&self, rt: &R, receipt: Receipt) -> Result<usize, AssembleFault>;
 
@@ -85,6 +88,10 @@ impl<R: Wait> Shared<R> for SharedDesk {
             }
         }
         unreachable!()
+    }
+
+    fn turn(&self, rt: &R) -> Turn {
+        self.lock(rt).turn()
     }
 
     fn post(&self, rt: &R, receipt: Receipt) -> Result<usize, AssembleFault> {

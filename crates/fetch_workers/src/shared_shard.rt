@@ -7,16 +7,57 @@ ghost use Rattle.std.specs.Sync.Mutex.{mutex_guard_value};
 ghost use Rattle.fragment_cache.specs.Shown.{begun_answer};
 ghost use Rattle.fragment_cache.specs.Sound.{IsSound, NamesUrl};
 
+use crate::cache_flights::Led;
 use edge_types::{Answer, NoMemory, PageUrl};
 use fragment_cache::{Begun, Flight, MAX_CAPACITY, Picked, Shard};
 use std::alloc::Global;
+use std::collections::BTreeMap;
 use std::sync::{Arc, Condvar, Mutex, MutexGuard, Wait};
 
 #[derive(Drop)]
 pub(crate) struct SharedShard {
-    shard: Mutex<Shard>,
+    shelf: Mutex<Shelf>,
     // A flight has landed.
     landed: Condvar,
+}
+
+// A shard, and how many have left each flight that they had joined: their pick-ups are made once it lands.
+#[derive(Drop)]
+struct Shelf {
+    shard: Shard,
+    left: BTreeMap<u64, u64>,
+}
+
+impl Shelf {
+    // Lands a flight, and makes the pick-ups of those who have left it.
+    fn land(&mut self, flight: Flight, answer: Arc<Answer>, now: u64) -> Arc<Answer>
+        requires { (arc_value answer).url ≡ flight.url }
+        ensures { (arc_value result).url ≡ flight.url }
+    {
+        let number = flight.number();
+        let landed = self.shard.land(flight, answer, now);
+        for _ in 0..self.left.remove(&number).unwrap_or(0) {
+            let _ = self.shard.pick(number);
+        }
+        landed
+    }
+
+    // Whether anybody waits for a flight, apart from its leader.
+    fn is_awaited(&self, flight: &Flight) -> bool {
+        let left = self.left.get(&flight.number()).copied();
+        u64::from(self.shard.pick_ups(flight)) > left.unwrap_or(0)
+    }
+
+    // Notes that one more has left a flight.
+    fn note_left(&mut self, number: u64) -> Result<(), NoMemory> {
+        match self.left.get_mut(&number) {
+            Some(count) => *count = count.saturating_add(1),
+            None => {
+                self.left.insert(number, 1)?;
+            }
+        }
+        Ok(())
+    }
 }
 
 impl SharedShard {
@@ -27,24 +68,27 @@ impl SharedShard {
         requires to { capacity ≤ MAX_CAPACITY }
     {
         Ok(SharedShard {
-            shard: Mutex::new(Shard::new(alloc, capacity)?),
+            shelf: Mutex::new(Shelf {
+                shard: Shard::new(alloc, capacity)?,
+                left: BTreeMap::new(alloc),
+            }),
             landed: Condvar::new(),
         })
     }
 
     // The shard, once nobody else holds the lock. It is sound whenever the lock is got.
-    fn lock<R: Wait>(&self, rt: &R) -> MutexGuard<'_, Shard>
-        ensures { IsSound (mutex_guard_value result) }
+    fn lock<R: Wait>(&self, rt: &R) -> MutexGuard<'_, Shelf>
+        ensures { IsSound (mutex_guard_value result).shard }
     {
-        let shard = self.shard.lock(rt);
-        shard.sound();
-        shard
+        let shelf = self.shelf.lock(rt);
+        shelf.shard.sound();
+        shelf
     }
 
     pub(crate) fn begin<R: Wait>(&self, rt: &R, url: &PageUrl, now: u64) -> Begun
         ensures { NamesUrl url.now (begun_answer result) }
     {
-        self.lock(rt).begin(url, now)
+        self.lock(rt).shard.begin(url, now)
     }
 
     pub(crate) fn look<R: Wait>(
@@ -55,7 +99,7 @@ impl SharedShard {
     ) -> Result<Option<Arc<Answer>>, NoMemory>
         ensures { IfOk result (λ found. IfSome found (λ answer. (arc_value answer).url ≡ url.now)) }
     {
-        self.lock(rt).look(url, now)
+        self.lock(rt).shard.look(url, now)
     }
 
     // Lands a flight, and wakes those who wait for it to land.
@@ -74,15 +118,49 @@ impl SharedShard {
         landed
     }
 
+    // Lands a flight with the failed answer of its leader, unless somebody else waits for it: then it comes back.
+    pub(crate) fn land_unless_awaited<R: Wait>(&self, rt: &R, led: Led, now: u64) -> Option<Led>
+        ensures { IfSome result (λ kept. kept.flight ≡ led.flight) }
+    {
+        let mut shelf = self.lock(rt);
+        if shelf.is_awaited(&led.flight) {
+            return Some(led);
+        }
+        let (flight, ready) = led.into_parts();
+        let _ = shelf.land(flight, ready, now);
+        None
+    }
+
+    // Picks up the answer of the flight with this number, if it has landed.
+    pub(crate) fn pick<R: Wait>(&self, rt: &R, number: u64) -> Picked {
+        self.lock(rt).shard.pick(number)
+    }
+
+    // Somebody who has joined the flight with this number doesn't want its answer any longer. Where there is no
+    // room to note it, that is waited for until it has landed.
+    pub(crate) fn leave<R: Wait>(&self, rt: &R, number: u64) {
+        if self.left(rt, number).is_err() {
+            let _ = self.picked_up(rt, number);
+        }
+    }
+
+    fn left<R: Wait>(&self, rt: &R, number: u64) -> Result<(), NoMemory> {
+        let mut shelf = self.lock(rt);
+        match shelf.shard.pick(number) {
+            Picked::Flying => shelf.note_left(number),
+            Picked::Here(_) | Picked::Unknown => Ok(()),
+        }
+    }
+
     // Waits until the flight with this number has landed, and picks its answer up; `None` if it is
     // unknown.
     pub(crate) fn picked_up<R: Wait>(&self, rt: &R, number: u64) -> Option<Arc<Answer>> {
-        let mut shard = self.lock(rt);
+        let mut shelf = self.lock(rt);
         for _ in rt.forever() {
-            match shard.pick(number) {
+            match shelf.shard.pick(number) {
                 Picked::Here(answer) => return Some(answer),
                 Picked::Unknown => return None,
-                Picked::Flying => shard = self.landed.wait(rt, shard),
+                Picked::Flying => shelf = self.landed.wait(rt, shelf),
             }
         }
         unreachable!()

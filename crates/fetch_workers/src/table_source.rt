@@ -2,9 +2,12 @@
 
 ghost use Rattle.std.specs.Prelude.{◌≡◌};
 
+use crate::concurrent_source::ConcurrentSource;
+use crate::one_by_one::OneByOne;
 use crate::source::Source;
 use edge_types::{Answer, NoMemory, PageUrl, Table};
 use std::alloc::Global;
+use std::collections::VecDeque;
 use std::marker::Model;
 use std::sync::Arc;
 
@@ -46,5 +49,36 @@ impl<R> Source<R> for TableSource {
             Some(answer) => Ok(Arc::try_clone(answer)?),
             None => Ok(Arc::new(alloc, Answer::failed(url.share()?))?),
         }
+    }
+}
+
+impl<R> ConcurrentSource<R> for TableSource {
+    type InFlight = VecDeque<PageUrl>;
+
+    fn nothing_in_flight(&self, rt: &R, alloc: Global) -> VecDeque<PageUrl> {
+        OneByOne { source: self }.nothing_in_flight(rt, alloc)
+    }
+
+    fn begin(
+        &self,
+        rt: &R,
+        alloc: Global,
+        in_flight: &mut VecDeque<PageUrl>,
+        url: &PageUrl,
+    ) -> Result<(), NoMemory> {
+        OneByOne { source: self }.begin(rt, alloc, in_flight, url)
+    }
+
+    fn next(
+        &self,
+        rt: &R,
+        alloc: Global,
+        in_flight: &mut VecDeque<PageUrl>,
+    ) -> Result<Option<Arc<Answer>>, NoMemory> {
+        OneByOne { source: self }.next(rt, alloc, in_flight)
+    }
+
+    fn give_up(&self, rt: &R, alloc: Global, in_flight: VecDeque<PageUrl>) {
+        OneByOne { source: self }.give_up(rt, alloc, in_flight);
     }
 }

@@ -51,7 +51,7 @@ fn made_ready(alloc: Global, answer: Arc<Answer>) -> Result<(SharedAnswer, Prepa
 }
 
 // Posts the answer of a ticket, and keeps a handle to it.
-fn post<R: Wait, S: Source<R>, D: Shared<R>>(
+pub(crate) fn post<R: Wait, S: Source<R>, D: Shared<R>>(
     rt: &R,
     alloc: Global,
     _source: &S,
@@ -73,7 +73,7 @@ fn post<R: Wait, S: Source<R>, D: Shared<R>>(
 }
 
 // Posts the answer of a ticket if the source has it ready, and otherwise sets the ticket aside.
-fn prepare<R: Wait, S: Source<R>, D: Shared<R>>(
+pub(crate) fn prepare<R: Wait, S: Source<R>, D: Shared<R>>(
     rt: &R,
     alloc: Global,
     source: &S,

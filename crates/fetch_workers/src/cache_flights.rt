@@ -1,0 +1,118 @@
+//! What one thread has in flight through a cache.
+
+ghost use Rattle.std.specs.Prelude.{◌≡◌, [], IfNone, IfSome, IsTrue};
+ghost use Rattle.std.specs.Arc.{arc_value};
+
+use edge_types::{Answer, NoMemory, PageUrl};
+use fragment_cache::Flight;
+use std::alloc::Global;
+use std::collections::VecDeque;
+use std::sync::Arc;
+
+/// What one thread has in flight through a cache.
+pub struct CacheFlights<F> {
+    /// The fetches of the source below.
+    pub(crate) fetches: F,
+    // The flights that these fetches are made for, and that the thread has to land.
+    led: Vec<Led>,
+    /// Flights that other threads lead.
+    pub(crate) joined: VecDeque<Joined>,
+    /// Answers that were there at once.
+    pub(crate) here: Vec<Arc<Answer>>,
+}
+
+/// A flight that the thread leads, and the failed answer with which it lands if there is no other.
+pub(crate) struct Led {
+    pub(crate) flight: Flight,
+    ready: Arc<Answer>,
+    ghost named: { (arc_value ready).url ≡ flight.url },
+}
+
+/// A flight that another thread leads: its URL and its number.
+#[derive(Drop)]
+pub(crate) struct Joined {
+    pub(crate) url: PageUrl,
+    pub(crate) number: u64,
+}
+
+impl Led {
+    pub(crate) fn new(flight: Flight, ready: Arc<Answer>) -> Led
+        requires { (arc_value ready).url ≡ flight.url }
+        ensures { result.flight ≡ flight }
+    {
+        Led { flight, ready }
+    }
+
+    /// The flight and its failed answer.
+    pub(crate) fn into_parts(self) -> (Flight, Arc<Answer>)
+        ensures flight { result.0 ≡ self.flight }
+        ensures named { (arc_value result.1).url ≡ self.flight.url }
+    {
+        let Led { flight, ready } = self;
+        (flight, ready)
+    }
+}
+
+impl<F> CacheFlights<F> {
+    /// Nothing but these fetches.
+    pub(crate) fn new(alloc: Global, fetches: F) -> CacheFlights<F> {
+        CacheFlights {
+            fetches,
+            led: Vec::new(alloc),
+            joined: VecDeque::new(alloc),
+            here: Vec::new(alloc),
+        }
+    }
+
+    /// Makes room for one more.
+    pub(crate) fn reserve(&mut self) -> Result<(), NoMemory> {
+        self.led.reserve(1)?;
+        self.joined.reserve(1)?;
+        self.here.reserve(1)?;
+        Ok(())
+    }
+
+    /// Adds a flight that the thread leads; gives it back if there is no room.
+    pub(crate) fn lead(&mut self, led: Led) -> Result<(), Led> {
+        match self.led.push(led) {
+            Ok(()) => Ok(()),
+            Err(failed) => Err(failed.value),
+        }
+    }
+
+    /// Takes out the flight of a URL that the thread leads.
+    pub(crate) fn take_led(&mut self, url: &PageUrl) -> Option<Led>
+        ensures { IfSome result (λ led. led.flight.url ≡ url.now) }
+    {
+        let place = self.led.iter().position(|led| is_for(led, url))?;
+        Some(self.led.swap_remove(place))
+    }
+
+    /// Takes out any flight that the thread leads.
+    pub(crate) fn pop_led(&mut self) -> Option<Led>
+        ensures { IfNone result (self.new.led.items ≡ []) }
+    {
+        self.led.pop()
+    }
+
+    /// The fetches, once the thread leads no flight.
+    pub(crate) fn into_fetches(self) -> F
+        requires { self.led.items ≡ [] }
+    {
+        let CacheFlights {
+            fetches,
+            led,
+            joined: _,
+            here: _,
+        } = self;
+        led.destroy_empty();
+        fetches
+    }
+}
+
+// Whether the flight is for a URL.
+fn is_for(led: &Led, url: &PageUrl) -> bool
+    ensures { IsTrue result → led.now.flight.url ≡ url.now }
+{
+    led.flight.url() == url
+}

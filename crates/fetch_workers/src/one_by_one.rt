@@ -1,0 +1,65 @@
+//! A source that fetches one by one, also for whoever may have several fetches in flight.
+
+ghost use Rattle.std.specs.Prelude.{◌≡◌};
+
+use crate::concurrent_source::ConcurrentSource;
+use crate::source::Source;
+use edge_types::{Answer, NoMemory, PageUrl};
+use std::alloc::Global;
+use std::collections::VecDeque;
+use std::sync::Arc;
+
+/// A source for whoever may have several fetches in flight: they are made one after another, in the order in which
+/// they were begun, each once its answer is waited for.
+#[derive(Clone, Copy)]
+pub struct OneByOne<'a, S> {
+    /// The source.
+    pub source: &'a S,
+}
+
+impl<'a, R, S: Source<R>> Source<R> for OneByOne<'a, S> {
+    ghost gives = { λ it url answer. S.gives it.source.now url answer };
+
+    ghost names_url = { λ it url answer given. S.names_url it.source.now url answer given };
+
+    fn fetch(&self, rt: &R, alloc: Global, url: &PageUrl) -> Result<Arc<Answer>, NoMemory> {
+        self.source.fetch(rt, alloc, url)
+    }
+
+    fn ready(&self, rt: &R, alloc: Global, url: &PageUrl) -> Result<Option<Arc<Answer>>, NoMemory> {
+        self.source.ready(rt, alloc, url)
+    }
+}
+
+impl<'a, R, S: Source<R>> ConcurrentSource<R> for OneByOne<'a, S> {
+    type InFlight = VecDeque<PageUrl>;
+
+    fn nothing_in_flight(&self, _rt: &R, alloc: Global) -> VecDeque<PageUrl> {
+        VecDeque::new(alloc)
+    }
+
+    fn begin(
+        &self,
+        _rt: &R,
+        _alloc: Global,
+        in_flight: &mut VecDeque<PageUrl>,
+        url: &PageUrl,
+    ) -> Result<(), NoMemory> {
+        in_flight.push_back(url.share()?)?;
+        Ok(())
+    }
+
+    fn next(
+        &self,
+        rt: &R,
+        alloc: Global,
+        in_flight: &mut VecDeque<PageUrl>,
+    ) -> Result<Option<Arc<Answer>>, NoMemory> {
+        match in_flight.pop_front() {
+            Some(url) => Ok(Some(self.fetch(rt, alloc, &url)?)),
+            None => Ok(None),
+        }
+    }
+
+    fn give_up(&self, _rt: &R, _alloc: Global, _in_flight: VecDeque<PageUrl>) {}
+}
