@@ -23,6 +23,10 @@ shown option = record { name = option.name.now; least = option.least; most = opt
 abbrev pub workers : Numeric
 workers = record { name = codes "workers"; least = 1; most = 16; default = codes "4"; refusal = codes "error: --workers takes a number from 1 to 16" }
 
+-- the fetches that a page's own thread may have in flight
+abbrev pub fetches : Numeric
+fetches = record { name = codes "fetches"; least = 1; most = 256; default = codes "1"; refusal = codes "error: --fetches takes a number from 1 to 256" }
+
 -- how many slots posts may open ahead
 abbrev pub ahead : Numeric
 ahead = record { name = codes "ahead"; least = 0; most = 256; default = codes "16"; refusal = codes "error: --ahead takes a number from 0 to 256" }
@@ -71,6 +75,10 @@ threads = record { name = codes "threads"; least = 1; most = 64; default = codes
 abbrev pub connections : Numeric
 connections = record { name = codes "connections"; least = 1; most = 65536; default = codes "64"; refusal = codes "error: --connections takes a number from 1 to 65536" }
 
+-- how many slots posts may open ahead where no word says so: all that may be, where more than one fetch may be in flight
+abbrev pub ahead_for : ℕ → ℕ
+ahead_for fetches = if nat_le fetches 1 then 16 else 256
+
 -- ---- what they are to `clap`, and what they say
 
 abbrev pub numeric_option : Numeric → Rule
@@ -83,6 +91,11 @@ at_least least number = option_and_then (λ n. if nat_le least n then Some n els
 -- the number from `least` to `most` that a word writes
 abbrev pub number_in : ℕ → ℕ → Option Text → Option ℕ
 number_in least most word = at_least least (option_and_then (λ w. decimal_of w most) word)
+
+-- the number of slots that a word says, and that counts without one
+abbrev pub ahead_said : ℕ → Option Text → Option ℕ
+ahead_said fetches None = Some (ahead_for fetches)
+ahead_said fetches (Some word) = number_in ahead.least ahead.most (Some word)
 
 -- the number within its limits that an option says
 abbrev pub said_of : Numeric → List Row → Option ℕ

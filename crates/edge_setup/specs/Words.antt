@@ -8,7 +8,7 @@ use Rattle.std.specs.declared.net.socket_addr.SocketAddr.{SocketAddr}
 use Rattle.clap.specs.Words.{Row, Text, all_of, first_of}
 use Rattle.edge_types.specs.Halves.{around}
 use Rattle.decimals.specs.Decimal.{decimal_of}
-use Rattle.edge_setup.specs.Numbers.{Numeric, ahead, capacity, client_timeout, connections, keep_alive, levels, origin_fetches, origin_keep_alive, origin_rest, page_timeout, said_of, threads, timeout, workers}
+use Rattle.edge_setup.specs.Numbers.{Numeric, ahead, ahead_said, capacity, client_timeout, connections, fetches, keep_alive, levels, origin_fetches, origin_keep_alive, origin_rest, page_timeout, said_of, threads, timeout, workers}
 use Rattle.surrogate_headers.specs.Token.{is_token}
 use Rattle.edge_setup.specs.OriginWord.{is_authority, IsFaultOf, IsPlace}
 use Rattle.edge_setup.specs.OriginWord.{refusal_of as origin_refusal}
@@ -104,7 +104,8 @@ IsOriginFault (Some words) f = ((f ≡ origin_fault.Twice) × NameTwice words) �
 -- how pages are assembled and kept
 pub record SaysPages (rows : List Row) (pages : Pages) : Type 0 where
   pub workers_are : said_of workers rows ≡ Some pages.workers
-  pub ahead_is : said_of ahead rows ≡ Some pages.ahead
+  pub fetches_are : said_of fetches rows ≡ Some pages.fetches
+  pub ahead_is : ahead_said pages.fetches (first_of (codes "ahead") rows) ≡ Some pages.ahead
   pub levels_are : said_of levels rows ≡ Some pages.levels
   pub capacity_is : said_of capacity rows ≡ Some pages.capacity
 
@@ -140,7 +141,8 @@ abbrev pub IsWrong : List Row → Named → Type 0
 IsWrong rows named.Listen = (address : SocketAddr) → IsAddress (first_of (codes "listen") rows) address → ⊥
 IsWrong rows (named.Origin fault) = SayNoOrigins (all_of (codes "origin") rows) × IsOriginFault (all_of (codes "origin") rows) fault
 IsWrong rows named.Workers = said_of workers rows ≡ None
-IsWrong rows named.Ahead = said_of ahead rows ≡ None
+IsWrong rows named.Fetches = said_of fetches rows ≡ None
+IsWrong rows named.Ahead = ahead_said 1 (first_of (codes "ahead") rows) ≡ None
 IsWrong rows named.Levels = said_of levels rows ≡ None
 IsWrong rows named.Capacity = said_of capacity rows ≡ None
 IsWrong rows named.Timeout = said_of timeout rows ≡ None
@@ -165,8 +167,11 @@ Has option rows = IsSome (said_of option rows)
 abbrev pub HasAccepts : List Row → Type 0
 HasAccepts rows = IsSome (accepts_of (first_of (codes "accept") rows))
 
+abbrev pub HasAhead : List Row → Type 0
+HasAhead rows = IsSome (ahead_said 1 (first_of (codes "ahead") rows))
+
 abbrev pub HasPages : List Row → Type 0
-HasPages rows = Has workers rows × Has ahead rows × Has levels rows × Has capacity rows
+HasPages rows = Has workers rows × Has fetches rows × HasAhead rows × Has levels rows × Has capacity rows
 
 abbrev pub HasFetching : List Row → Type 0
 HasFetching rows = Has timeout rows × Has page_timeout rows × Has origin_keep_alive rows × Has origin_fetches rows × Has origin_rest rows
@@ -181,9 +186,10 @@ HasName rows = IsSome (name_of (first_of (codes "name") rows))
 abbrev pub AreValidBefore : List Row → Named → Type 0
 AreValidBefore rows named.Listen = Unit {0}
 AreValidBefore rows named.Workers = HasAddress rows
-AreValidBefore rows named.Ahead = HasAddress rows × Has workers rows
-AreValidBefore rows named.Levels = HasAddress rows × Has workers rows × Has ahead rows
-AreValidBefore rows named.Capacity = HasAddress rows × Has workers rows × Has ahead rows × Has levels rows
+AreValidBefore rows named.Fetches = HasAddress rows × Has workers rows
+AreValidBefore rows named.Ahead = HasAddress rows × Has workers rows × Has fetches rows
+AreValidBefore rows named.Levels = HasAddress rows × Has workers rows × Has fetches rows × HasAhead rows
+AreValidBefore rows named.Capacity = HasAddress rows × Has workers rows × Has fetches rows × HasAhead rows × Has levels rows
 AreValidBefore rows named.Timeout = HasAddress rows × HasPages rows
 AreValidBefore rows named.PageTimeout = HasAddress rows × HasPages rows × Has timeout rows
 AreValidBefore rows named.OriginKeepAlive = HasAddress rows × HasPages rows × Has timeout rows × Has page_timeout rows
@@ -207,6 +213,7 @@ abbrev pub refusal_of : Named → Text
 refusal_of named.Listen = codes "error: --listen takes an address with a port, as 127.0.0.1:8080"
 refusal_of (named.Origin fault) = origin_refusal fault
 refusal_of named.Workers = workers.refusal
+refusal_of named.Fetches = fetches.refusal
 refusal_of named.Ahead = ahead.refusal
 refusal_of named.Levels = levels.refusal
 refusal_of named.Capacity = capacity.refusal
@@ -231,6 +238,8 @@ IsRefusedBy rows fault.NoMemory = Unit {0}
 pub record IsWithin (pages : Pages) : Type 0 where
   pub some_workers : 1 ≤ pages.workers
   pub few_workers : pages.workers ≤ 16
+  pub some_fetches : 1 ≤ pages.fetches
+  pub few_fetches : pages.fetches ≤ 256
   pub few_ahead : pages.ahead ≤ 256
   pub some_levels : 1 ≤ pages.levels
   pub few_levels : pages.levels ≤ 8

@@ -5,7 +5,7 @@ ghost use Rattle.clap.specs.declared.builder.command.Command.TheViews.{out-Comma
 ghost use Rattle.edge_setup.specs.Command.{serve_command, with_addresses, with_fetching, with_flags, with_pages, with_serving};
 
 use crate::number::{
-    AHEAD, CAPACITY, CLIENT_TIMEOUT, CONNECTIONS, KEEP_ALIVE, LEVELS, ORIGIN_FETCHES,
+    CAPACITY, CLIENT_TIMEOUT, CONNECTIONS, FETCHES, KEEP_ALIVE, LEVELS, ORIGIN_FETCHES,
     ORIGIN_KEEP_ALIVE, ORIGIN_REST, PAGE_TIMEOUT, THREADS, TIMEOUT, WORKERS,
 };
 use crate::options::{flag, option, with_option};
@@ -56,10 +56,18 @@ fn with_pages<'a>(alloc: Global, command: Command<'a>) -> Result<Command<'a>, Al
     ensures local { IfOk result (λ more. (fields_of more).has_globals ≡ (fields_of command.entry).has_globals) }
 {
     let workers = WORKERS.arg(alloc);
-    let ahead = AHEAD.arg(alloc);
+    let fetches = FETCHES.arg(alloc);
+    // Where no word says so, the number rests on another option.
+    let ahead = option(
+        alloc,
+        "ahead",
+        "N",
+        "Fragments that may be fetched before it is known that they are needed, from 0 to 256 [default: 16; 256 with --fetches above 1]",
+    );
     let levels = LEVELS.arg(alloc);
     let capacity = CAPACITY.arg(alloc);
     let command = with_option(command, workers)?;
+    let command = with_option(command, fetches)?;
     let command = with_option(command, ahead)?;
     let command = with_option(command, levels)?;
     with_option(command, capacity)

@@ -1,7 +1,7 @@
 //! The options that take a number: what each is called, its limits, and what is said of it.
-ghost use Rattle.std.specs.Prelude.{◌≡◌, ◌≤◌, false, IfSome};
+ghost use Rattle.std.specs.Prelude.{◌≡◌, ◌≤◌, false, Some, IfSome};
 ghost use Rattle.clap.specs.Words.{found_of, rows_of, rule_of};
-ghost use Rattle.edge_setup.specs.Numbers.{numeric_option, said_of, shown};
+ghost use Rattle.edge_setup.specs.Numbers.{number_in, numeric_option, said_of, shown};
 
 use crate::options::option;
 use crate::words::word_of;
@@ -34,6 +34,16 @@ pub(crate) const WORKERS: NumericOption = NumericOption {
     most: 16,
     default: "4",
     refusal: "error: --workers takes a number from 1 to 16",
+};
+
+/// The fetches that a page's own thread may have in flight.
+pub(crate) const FETCHES: NumericOption = NumericOption {
+    name: "fetches",
+    help: "Fetches that one thread may have in flight for a page, from 1 to 256; above 1 it has no other thread",
+    least: 1,
+    most: 256,
+    default: "1",
+    refusal: "error: --fetches takes a number from 1 to 256",
 };
 
 /// How many slots posts may open ahead.
@@ -171,13 +181,30 @@ impl NumericOption {
         ensures some { IfSome result (λ number. self.now.least ≤ number) }
         ensures few { IfSome result (λ number. number ≤ self.now.most) }
     {
-        let word = word_of(matches, self.name)?;
+        self.u32_in(word_of(matches, self.name)?)
+    }
+
+    // The number that a word writes, where that is within the limits.
+    fn u32_in(&self, word: &str) -> Option<u32>
+        ensures value { result ≡ number_in self.now.least self.now.most (Some word.now) }
+        ensures some { IfSome result (λ number. self.now.least ≤ number) }
+        ensures few { IfSome result (λ number. number ≤ self.now.most) }
+    {
         let number = decimal_of(word.as_bytes(), u64::from(self.most))? as u32;
         if self.least <= number {
             Some(number)
         } else {
             None
         }
+    }
+
+    /// The number that a word writes, where that is within the limits, for an option that takes at most 65,535.
+    pub(crate) fn u16_in(&self, word: &str) -> Option<u16>
+        requires { self.now.most ≤ 65535 }
+        ensures value { result ≡ number_in self.now.least self.now.most (Some word.now) }
+        ensures few { IfSome result (λ number. number ≤ self.now.most) }
+    {
+        Some(self.u32_in(word)? as u16)
     }
 
     /// The same of an option that takes at most 65,535.

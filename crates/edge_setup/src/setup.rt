@@ -5,7 +5,7 @@ ghost use Rattle.edge_setup.specs.Words.{refusal_of};
 ghost use Rattle.edge_setup.specs.declared.setup.SetupFault.TheVariants as fault;
 
 use crate::number::{
-    AHEAD, CAPACITY, CLIENT_TIMEOUT, CONNECTIONS, KEEP_ALIVE, LEVELS, ORIGIN_FETCHES,
+    AHEAD, CAPACITY, CLIENT_TIMEOUT, CONNECTIONS, FETCHES, KEEP_ALIVE, LEVELS, ORIGIN_FETCHES,
     ORIGIN_KEEP_ALIVE, ORIGIN_REST, PAGE_TIMEOUT, THREADS, TIMEOUT, WORKERS,
 };
 use crate::origin::{OriginFault, Place};
@@ -26,6 +26,8 @@ pub struct Origin {
 pub struct Pages {
     /// The most threads that work for one page.
     pub workers: u8,
+    /// The most fetches that a page's own thread has in flight.
+    pub fetches: u16,
     /// The most slots that posts open ahead.
     pub ahead: u16,
     /// The levels of includes under a page.
@@ -94,6 +96,8 @@ pub enum Named {
     Origin(OriginFault),
     /// `--workers`: not a number within the limits.
     Workers,
+    /// `--fetches`: not a number within the limits.
+    Fetches,
     /// `--ahead`: not a number within the limits.
     Ahead,
     /// `--levels`: not a number within the limits.
@@ -133,6 +137,7 @@ impl Named {
             Named::Listen => "error: --listen takes an address with a port, as 127.0.0.1:8080",
             Named::Origin(fault) => fault.refusal(),
             Named::Workers => WORKERS.refusal,
+            Named::Fetches => FETCHES.refusal,
             Named::Ahead => AHEAD.refusal,
             Named::Levels => LEVELS.refusal,
             Named::Capacity => CAPACITY.refusal,

@@ -1,11 +1,12 @@
 //! What the options of `serve` ask for.
-ghost use Rattle.std.specs.Prelude.{◌≡◌, option_map, IfOk, None, Some, MatchOption, MatchResult};
+ghost use Rattle.std.specs.Prelude.{◌≡◌, ◌≤◌, option_map, IfNone, IfOk, IfSome, IsSome, None, Some, MatchOption, MatchResult};
 ghost use Rattle.std.specs.declared.net.socket_addr.SocketAddr.{SocketAddr};
 ghost use Rattle.clap.specs.Words.{first_of, found_of, rows_of};
+ghost use Rattle.edge_setup.specs.Numbers.{ahead_said};
 ghost use Rattle.edge_setup.specs.Words.{accepts_of, is_set, name_of, IsAddress, HasAddress, HasFetching, HasPages, IsFirstWrong, IsRefusedBy, IsWithin, SaysFetching, SaysPages, SaysServing, SaysSetup};
 
 use crate::number::{
-    AHEAD, CAPACITY, CLIENT_TIMEOUT, CONNECTIONS, KEEP_ALIVE, LEVELS, ORIGIN_FETCHES,
+    AHEAD, CAPACITY, CLIENT_TIMEOUT, CONNECTIONS, FETCHES, KEEP_ALIVE, LEVELS, ORIGIN_FETCHES,
     ORIGIN_KEEP_ALIVE, ORIGIN_REST, PAGE_TIMEOUT, THREADS, TIMEOUT, WORKERS,
 };
 use crate::origins::origins_of;
@@ -77,15 +78,33 @@ pub fn is_set(word: Option<&str>) -> bool
     }
 }
 
+// How many slots may be opened ahead, by a word, or else by how many fetches may be in flight: the slots are of the whole
+// page, and a fetch without a slot begins late.
+fn ahead_of(word: Option<&str>, fetches: u16) -> Option<u16>
+    ensures said { result ≡ ahead_said fetches (option_map (λ w. w.now) word.entry) }
+    ensures missing { IfNone result (ahead_said 1 (option_map (λ w. w.now) word.entry) ≡ None) }
+    ensures there { IfSome result (λ _. IsSome (ahead_said 1 (option_map (λ w. w.now) word.entry))) }
+    ensures few { IfSome result (λ ahead. ahead ≤ 256) }
+{
+    match word {
+        Some(word) => AHEAD.u16_in(word),
+        None if fetches <= 1 => Some(16),
+        None => Some(256),
+    }
+}
+
 // How pages are assembled and kept.
 fn pages_of(matches: &ArgMatches<'_>) -> Result<Pages, Named>
     ensures says { let rows = rows_of (found_of matches.now) in
         MatchResult result (SaysPages rows) (λ option. HasAddress rows → IsFirstWrong rows option) }
     ensures within { IfOk result IsWithin }
 {
+    let workers = WORKERS.u8_of(matches).ok_or(Named::Workers)?;
+    let fetches = FETCHES.u16_of(matches).ok_or(Named::Fetches)?;
     Ok(Pages {
-        workers: WORKERS.u8_of(matches).ok_or(Named::Workers)?,
-        ahead: AHEAD.u16_of(matches).ok_or(Named::Ahead)?,
+        workers,
+        fetches,
+        ahead: ahead_of(word_of(matches, "ahead"), fetches).ok_or(Named::Ahead)?,
         levels: LEVELS.u8_of(matches).ok_or(Named::Levels)?,
         capacity: CAPACITY.u16_of(matches).ok_or(Named::Capacity)?,
     })
