@@ -3,7 +3,7 @@
 ghost use Rattle.hyper_edge.specs.PageTime.{GivesInTime, names_url};
 
 use edge_types::{Answer, NoMemory, PageUrl};
-use fetch_workers::Source;
+use fetch_workers::{ConcurrentSource, Source};
 use std::alloc::Global;
 use std::sync::Arc;
 use std::time::{Clock, Instant};
@@ -26,6 +26,12 @@ impl<'a, S> WithinTime<'a, S> {
     }
 }
 
+/// What a page has in flight: the source's fetches, and the URLs that were asked for too late.
+pub(crate) struct FlightsInTime<F> {
+    fetches: F,
+    late: Vec<PageUrl>,
+}
+
 impl<'a, R: Clock, S: Source<R>> Source<R> for WithinTime<'a, S> {
     ghost gives = { λ it. GivesInTime (S.gives it.source.now) };
 
@@ -40,5 +46,47 @@ impl<'a, R: Clock, S: Source<R>> Source<R> for WithinTime<'a, S> {
 
     fn ready(&self, rt: &R, alloc: Global, url: &PageUrl) -> Result<Option<Arc<Answer>>, NoMemory> {
         self.source.ready(rt, alloc, url)
+    }
+}
+
+impl<'a, R: Clock, S: ConcurrentSource<R>> ConcurrentSource<R> for WithinTime<'a, S> {
+    type InFlight = FlightsInTime<S::InFlight>;
+
+    fn nothing_in_flight(&self, rt: &R, alloc: Global) -> FlightsInTime<S::InFlight> {
+        FlightsInTime {
+            fetches: self.source.nothing_in_flight(rt, alloc),
+            late: Vec::new(alloc),
+        }
+    }
+
+    fn begin(
+        &self,
+        rt: &R,
+        alloc: Global,
+        in_flight: &mut FlightsInTime<S::InFlight>,
+        url: &PageUrl,
+    ) -> Result<(), NoMemory> {
+        if self.is_over(rt) {
+            in_flight.late.push(url.share()?)?;
+            return Ok(());
+        }
+        self.source.begin(rt, alloc, &mut in_flight.fetches, url)
+    }
+
+    fn next(
+        &self,
+        rt: &R,
+        alloc: Global,
+        in_flight: &mut FlightsInTime<S::InFlight>,
+    ) -> Result<Option<Arc<Answer>>, NoMemory> {
+        match in_flight.late.pop() {
+            Some(url) => Ok(Some(Arc::new(alloc, Answer::failed(url))?)),
+            None => self.source.next(rt, alloc, &mut in_flight.fetches),
+        }
+    }
+
+    fn give_up(&self, rt: &R, alloc: Global, in_flight: FlightsInTime<S::InFlight>) {
+        let FlightsInTime { fetches, late: _ } = in_flight;
+        self.source.give_up(rt, alloc, fetches);
     }
 }

@@ -5,7 +5,7 @@ ghost use Rattle.page_http.specs.Sent.{IsRefusal, refusal, sent};
 ghost use Rattle.hyper_edge.specs.Responses as spec;
 
 use edge_types::{Answer, NoMemory, PageUrl, Request};
-use fetch_workers::{AssembleFault, Assembling, OpenGate, Source};
+use fetch_workers::{AssembleFault, Assembling, ConcurrentSource, OneByOne, OpenGate, Source};
 use http::Response;
 use page_http::{EdgeBody, Field, HeadFault, answer_head, refusal_of, response_of};
 use std::alloc::Global;
@@ -17,7 +17,8 @@ use std::thread::Threads;
 ///
 /// `method`, `target` and `fields` are as in `answer_head`. Any method other than `GET` gets 405, a
 /// head that doesn't ask for a page 400. Without enough memory the response is 503; a page's fault is 502. Where
-/// no thread can be started that is to fetch for the page, it is assembled by this one.
+/// no thread can be started that is to fetch for the page, it is assembled by this one. The source is asked for one
+/// answer at a time by each thread.
 ///
 /// The only refusal is running out of memory for the response itself.
 ///
@@ -42,7 +43,7 @@ where
         target,
         fields,
     };
-    let responded = respond_with_log(rt, alloc, source, &head, how)?;
+    let responded = respond_with_log(rt, alloc, &OneByOne { source }, &head, how)?;
     Ok(responded.response)
 }
 
@@ -71,7 +72,7 @@ pub(crate) fn respond_with_log<R, S>(
 ) -> Result<Responded, NoMemory>
 where
     R: Wait + Threads + Sync,
-    S: Source<R> + Sync,
+    S: ConcurrentSource<R> + Sync,
     ensures { IfOk result (λ responded.
         spec.Responds (S.gives source.now) head.now.method.now head.now.target.now head.now.fields.now how.levels (sent responded.response)) }
 {
@@ -95,7 +96,7 @@ fn tried<R, S>(
 ) -> Result<Option<Responded>, NoMemory>
 where
     R: Wait + Threads + Sync,
-    S: Source<R> + Sync,
+    S: ConcurrentSource<R> + Sync,
     ensures { IfOk result (λ tried. MatchOption tried (spec.WantsRoom head.now.method.now head.now.fields.now) (λ responded.
         spec.Responds (S.gives source.now) head.now.method.now head.now.target.now head.now.fields.now how.levels (sent responded.response))) }
 {
@@ -119,12 +120,12 @@ fn paged<R, S>(
 ) -> Result<Option<Responded>, NoMemory>
 where
     R: Wait + Threads + Sync,
-    S: Source<R> + Sync,
+    S: ConcurrentSource<R> + Sync,
     ensures { IfOk result (λ made. IfSome made (λ responded.
         (sent responded.response ≡ refusal 503)
         ⊎ spec.TellsPageAt (S.gives source.now) url request how.levels (sent responded.response))) }
 {
-    match how.assemble(rt, alloc, source, &OpenGate, url, request) {
+    match how.assemble_concurrently(rt, alloc, source, &OpenGate, url, request) {
         Ok(page) => Ok(Some(Responded {
             response: response_of(alloc, page.outcome)?,
             log: page.log,

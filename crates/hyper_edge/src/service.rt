@@ -10,7 +10,7 @@ use crate::exchange::deadline;
 use crate::page_time::WithinTime;
 use crate::responding::{RequestHead, Responded, no_room, refused, respond_with_log};
 use edge_types::NoMemory;
-use fetch_workers::{Assembling, Source};
+use fetch_workers::{Assembling, ConcurrentSource};
 use http::header::HeaderValue;
 use http::{HeaderMap, Request, Uri};
 use page_http::{Field, has_passed};
@@ -100,7 +100,7 @@ impl<S: Drop, R: Drop> EdgeService<S, R> {
 
 impl<S, R> EdgeService<S, R>
 where
-    S: Source<R> + Sync,
+    S: ConcurrentSource<R> + Sync,
     R: Wait + Threads + Clock + Sync,
 {
     /// The response to a request, from a copy of its head; 503 if there is no room for the copy.

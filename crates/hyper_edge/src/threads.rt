@@ -11,7 +11,7 @@ use crate::runtime::ServerRuntime;
 use crate::server::Server;
 use crate::service::EdgeService;
 use crate::serving::Serving;
-use fetch_workers::Source;
+use fetch_workers::ConcurrentSource;
 use futures::Future;
 use std::sync::Arc;
 use std::thread;
@@ -50,7 +50,7 @@ where
     R: ServerRuntime + Send + Sync,
     A: Accept<R> + Sync,
     A::Io: AsyncRead + AsyncWrite,
-    S: Source<R> + Send + Sync + Drop,
+    S: ConcurrentSource<R> + Send + Sync + Drop,
     J: Journal<R> + Sync,
 {
     let keeps = acceptor.keeps();
@@ -79,7 +79,7 @@ fn serve_opened<'a, R, A, S, J, F, M>(
 where
     R: ServerRuntime + Send + Sync,
     A: Accept<R> + Sync,
-    S: Source<R> + Send + Sync + Drop,
+    S: ConcurrentSource<R> + Send + Sync + Drop,
     J: Journal<R> + Sync,
     F: Future<Output = hyper::Result<()>> + Send,
     M: Fn(A::Io, Arc<Handover>) -> F + Sync,
@@ -97,7 +97,7 @@ fn start_all<R, A, S, J, F, M>(rt: &R, server: &Server<'_, R, A, S, J, F>, opens
 where
     R: ServerRuntime + Send + Sync,
     A: Accept<R> + Sync,
-    S: Source<R> + Send + Sync + Drop,
+    S: ConcurrentSource<R> + Send + Sync + Drop,
     J: Journal<R> + Sync,
     F: Future<Output = hyper::Result<()>> + Send,
     M: Fn(A::Io, Arc<Handover>) -> F + Sync,
