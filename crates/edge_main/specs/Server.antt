@@ -45,6 +45,7 @@ pub record IsServerOf (setup : Setup) (server : Server) : Type 0 where
   pub response_is : nanos_of server.clients.response ≡ limit_of setup.serving.client_timeout
   pub idle_is : nanos_of server.clients.idle ≡ idle_of setup.serving.keep_alive
   pub workers_are : server.pages.workers ≡ setup.pages.workers
+  pub fetches_are : server.pages.fetches ≡ setup.pages.fetches
   pub ahead_is : server.pages.ahead ≡ setup.pages.ahead
   pub levels_are : server.pages.levels ≡ setup.pages.levels
   pub page_is : nanos_of server.page ≡ limit_of setup.fetching.page_timeout

@@ -18,6 +18,8 @@ pub(crate) struct Numbers {
     pub threads: u16,
     /// `--workers`.
     pub workers: u8,
+    /// `--fetches`.
+    pub fetches: u16,
 }
 
 /// A number that can't be reached.
@@ -25,7 +27,7 @@ pub(crate) struct Numbers {
 pub(crate) enum Unreached {
     /// No more connections than these can be open.
     Connections(u64),
-    /// Not each worker of each thread can fetch.
+    /// Not all fetches of each thread's page can be in flight.
     Fetches,
 }
 
@@ -38,15 +40,28 @@ impl Numbers {
             connections: server.at_once.connections,
             threads: server.at_once.threads,
             workers: server.pages.workers,
+            fetches: server.pages.fetches,
         }
     }
 
-    // The descriptors of the process itself, and one for each worker of each thread: as many threads more may go on
+    // The descriptors of a page's fetches at once: one for each worker; or for each that its own thread has in flight,
+    // and one more to wait for them.
+    fn of_page(self) -> u64
+        ensures { result ≡ spec.of_page self }
+    {
+        if self.fetches == 1 {
+            u64::from(self.workers)
+        } else {
+            u64::from(self.fetches) + 1
+        }
+    }
+
+    // The descriptors of the process itself, and those of the page of each thread: as many threads more may go on
     // with clients who were waited for.
     fn besides(self) -> u64
         ensures { result ≡ spec.besides self }
     {
-        OWN + 2 * u64::from(self.threads) * u64::from(self.workers)
+        OWN + 2 * u64::from(self.threads) * self.of_page()
     }
 
     /// How many descriptors a server may need.

@@ -64,6 +64,7 @@ pub(crate) fn server_of(setup: Setup) -> Server
         name,
     } = setup;
     let client = limit_of(serving.client_timeout);
+    let how = Assembling::new(pages.ahead, pages.workers, pages.levels);
     Server {
         listen,
         origins,
@@ -78,7 +79,7 @@ pub(crate) fn server_of(setup: Setup) -> Server
             response: client,
             idle: idle_of(serving.keep_alive),
         },
-        pages: Assembling::new(pages.ahead, pages.workers, pages.levels),
+        pages: how.with_fetches(pages.fetches),
         page: limit_of(fetching.page_timeout),
         capacity: usize::from(pages.capacity),
         at_once: Capacity {

@@ -69,11 +69,15 @@ fn warn_of_files(rt: &impl Eprint, numbers: Numbers) {
         connections,
         threads,
         workers,
+        fetches,
     } = numbers;
     // If standard error can't be written, nobody reads it.
     let _ = match numbers.unreached(limit) {
         Some(Unreached::Connections(most)) => eprintln!(rt;
             "warning: --connections {connections} can't be reached, only {most}: {limit} files may be open, and {wanted} may be needed (ulimit -n)"
+        ),
+        Some(Unreached::Fetches) if fetches > 1 => eprintln!(rt;
+            "warning: --threads {threads} with --fetches {fetches} can't be reached: {limit} files may be open, and {wanted} may be needed (ulimit -n)"
         ),
         Some(Unreached::Fetches) => eprintln!(rt;
             "warning: --threads {threads} with --workers {workers} can't be reached: {limit} files may be open, and {wanted} may be needed (ulimit -n)"
