@@ -73,6 +73,23 @@ where
     print_again(rt, source, "/x")
 }
 
+/// Assembles with two fetches in flight through a cache, from which one of the page's fragments is then fetched once
+/// more.
+pub fn assemble_with_flights<R>(rt: &R, name: &str) -> Option<()>
+where
+    R: Wait + Threads + AllocGlobal + Print + Sync,
+{
+    let alloc = rt.alloc();
+    let source = cache(alloc)?;
+    let how = Assembling::new(AHEAD, 1, LEVELS).with_fetches(2);
+    let (url, request) = (url(alloc, "/p")?, request(alloc)?);
+    calls(rt, name)?;
+    let made = how.assemble_concurrently(rt, alloc, &source, &OpenGate, url, request);
+    answers(rt)?;
+    print_assembled(rt, &made)?;
+    print_again(rt, &source, "/x")
+}
+
 pub fn assemble_page_gated<R>(rt: &R, name: &str) -> Option<()>
 where
     R: Wait + Threads + AllocGlobal + Print + Sync,

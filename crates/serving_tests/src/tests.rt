@@ -13,6 +13,7 @@ mod assembling;
 mod caching;
 mod failing;
 mod fetching;
+mod flying;
 mod meeting;
 
 fn url(rt: &impl Abort, alloc: Global, path: &str) -> Result<PageUrl, NoMemory> {
