@@ -4,6 +4,7 @@
 //! Source: RFC 9110, "HTTP Semantics", and RFC 9112, "HTTP/1.1".
 #![tactic(auto)]
 
+mod answers;
 mod bounded;
 mod deadline;
 mod edge_name;
@@ -15,6 +16,7 @@ mod origin;
 mod origin_stream;
 mod pool;
 mod reach;
+mod request;
 mod round_trip;
 mod source;
 

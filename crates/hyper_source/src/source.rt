@@ -1,44 +1,28 @@
 //! A source that fetches from origins.
 
-ghost use Rattle.std.specs.Prelude.{◌≡◌, IsTrue, IfOk, IfErr};
-ghost use Rattle.edge_types.specs.Answered.{failed};
-ghost use Rattle.hyper_source.specs.Fetches.{AnswersLost, HasControl, IsNotStored, control_asked};
-ghost use Rattle.hyper_source.specs.Heads as heads;
-ghost use Rattle.hyper_source.specs.Heads.{EndsByClose};
-
+use crate::answers::answered;
 use crate::bounded::{OriginGate, end_of, gate_of, gates_of};
 use crate::deadline::Deadline;
-use crate::edge_name::{EdgeName, capability_for, device_of};
+use crate::edge_name::{EdgeName, device_of};
 use crate::executors::IdleExecutors;
-use crate::fields::{content_type_of, control_for};
 use crate::gathered::Lost;
-use crate::head::is_coded;
 use crate::origin::{Origin, address_of};
 use crate::origin_stream::OriginStream;
 use crate::pool::Pool;
 use crate::reach::{Reach, lost_by};
+use crate::request::request_of;
 use crate::round_trip::{Response, round_trip};
-use bytes::Bytes;
-use edge_types::{Answer, NoMemory, Octets, PageUrl, SharedBytes};
+use edge_types::{Answer, NoMemory, PageUrl};
 use fetch_workers::Source;
-use http::header::{ACCEPT_ENCODING, CONNECTION, HOST};
-use http::request::Builder;
-use http::response::Parts;
-use http::{Error, Request};
-use http_body_util::Empty;
 use origin_health::Bounds;
 use std::alloc::{AllocGlobal, Global};
 use std::hash::RandomState;
+use std::io;
 use std::net::{Net, SocketAddr, TcpStream};
 use std::random::RandomSource;
 use std::sync::atomic::{AtomicBool, Ordering};
 use std::sync::{Arc, Wait};
 use std::time::{Clock, Duration};
-use std::{io, str};
-use surrogate_headers::own_capability;
-
-// The field that names those through whom a request goes.
-const LOOP: &str = "cdn-loop";
 
 /// A source that fetches from origins over HTTP: for each URL one `GET`, which names the host and says what
 /// this edge can do, by its name if it has one, and nothing of the client. Each has a connection of its own,
@@ -201,7 +185,7 @@ impl HyperSource {
     where
         R: Wait + Net<Stream = TcpStream> + Clock + RandomSource + AllocGlobal + Clone + Drop,
     {
-        let request = self.request_of(alloc, url)?;
+        let request = request_of(alloc, url, &self.name, self.pool.keeps())?;
         let Some(mut executor) = self.executors.take(rt) else {
             return Err(Lost::Fault);
         };
@@ -211,32 +195,6 @@ impl HyperSource {
             self.pool.leave(rt, address, io.into_socket());
         }
         came
-    }
-
-    // The request for a URL: it says nothing of the client.
-    fn request_of(&self, alloc: Global, url: &PageUrl) -> Result<Request<Empty<Bytes>>, Lost> {
-        let Some((authority, target)) = parts_of(url) else {
-            return Err(Lost::Fault);
-        };
-        let request = Request::get(alloc, target)
-            .header(HOST, authority)
-            .header(own_capability().0, capability_for(&self.name));
-        let request = self
-            .for_connection(request)
-            .header(ACCEPT_ENCODING, "identity");
-        match identified(request, &self.name).body(Empty::new()) {
-            Ok(request) => Ok(request),
-            Err(Error::OutOfMemory) => Err(Lost::NoMemory),
-            Err(_) => Err(Lost::Fault),
-        }
-    }
-
-    // The request with what is to become of its connection.
-    fn for_connection(&self, request: Builder) -> Builder {
-        if self.pool.keeps() {
-            return request;
-        }
-        request.header(CONNECTION, "close")
     }
 }
 
@@ -255,62 +213,4 @@ where
         let answer = answered(alloc, url, device_of(&self.name), came)?;
         Ok(Arc::new(alloc, answer)?)
     }
-}
-
-// The answer that a fetch results in, for a device: a failed one if it got no response.
-fn answered(alloc: Global, url: &PageUrl, device: &[u8], came: Response) -> Result<Answer, NoMemory>
-    ensures url { IfOk result (λ answer. answer.url ≡ url.now) }
-    ensures lost { IfErr came (λ lost. AnswersLost lost url.now result) }
-{
-    match came {
-        Ok((head, body)) => answer_of(alloc, url, device, &head, body),
-        Err(Lost::Fault | Lost::Unreachable) => Ok(Answer::failed(url.share()?)),
-        Err(Lost::NoMemory) => Err(NoMemory),
-    }
-}
-
-// The answer that a response makes; a failed one if no answer may be like that.
-fn answer_of(
-    alloc: Global,
-    url: &PageUrl,
-    device: &[u8],
-    head: &Parts,
-    body: Vec<u8>,
-) -> Result<Answer, NoMemory>
-    ensures url { IfOk result (λ answer. answer.url ≡ url.now) }
-    ensures coded { IsTrue (heads.is_coded head.now.headers) → IfOk result (λ answer. answer ≡ failed url.now) }
-    ensures framed { ¬ (EndsByClose head.now) → IfOk result (λ answer. HasControl answer.reply (control_asked head.now.headers device.now)) }
-    ensures unframed { EndsByClose head.now → IfOk result (λ answer. IsNotStored answer.reply) }
-{
-    let fields = &head.headers;
-    if is_coded(fields) {
-        return Ok(Answer::failed(url.share()?));
-    }
-    let got = Answer::got(
-        url.share()?,
-        head.status.as_u16(),
-        Octets::copy_of(alloc, content_type_of(fields))?,
-        control_for(alloc, head, device)?,
-        SharedBytes::of(body)?,
-    );
-    match got {
-        Some(answer) => Ok(answer),
-        None => Ok(Answer::failed(url.share()?)),
-    }
-}
-
-// The request with the edge's name, if it has one.
-fn identified(request: Builder, name: &Option<EdgeName>) -> Builder {
-    match name {
-        Some(name) => request.header(LOOP, name.as_bytes()),
-        None => request,
-    }
-}
-
-// The authority of a URL, and its path with its query.
-fn parts_of(url: &PageUrl) -> Option<(&str, &str)> {
-    let text = str::from_utf8(url.as_bytes()).ok()?;
-    let authority = str::from_utf8(url.authority()).ok()?;
-    let target = text.strip_prefix("http://")?.strip_prefix(authority)?;
-    Some((authority, target))
 }

@@ -1,0 +1,62 @@
+//! What origins are asked.
+
+use crate::edge_name::{EdgeName, capability_for};
+use crate::gathered::Lost;
+use bytes::Bytes;
+use edge_types::PageUrl;
+use http::header::{ACCEPT_ENCODING, CONNECTION, HOST};
+use http::request::Builder;
+use http::{Error, Request};
+use http_body_util::Empty;
+use std::alloc::Global;
+use std::str;
+use surrogate_headers::own_capability;
+
+// The field that names those through whom a request goes.
+const LOOP: &str = "cdn-loop";
+
+/// The request for a URL by an edge of this name, if it has one, over a connection that may be kept or not. It says
+/// nothing of the client.
+pub(crate) fn request_of(
+    alloc: Global,
+    url: &PageUrl,
+    name: &Option<EdgeName>,
+    keeps: bool,
+) -> Result<Request<Empty<Bytes>>, Lost> {
+    let Some((authority, target)) = parts_of(url) else {
+        return Err(Lost::Fault);
+    };
+    let request = Request::get(alloc, target)
+        .header(HOST, authority)
+        .header(own_capability().0, capability_for(name));
+    let request = for_connection(request, keeps).header(ACCEPT_ENCODING, "identity");
+    match identified(request, name).body(Empty::new()) {
+        Ok(request) => Ok(request),
+        Err(Error::OutOfMemory) => Err(Lost::NoMemory),
+        Err(_) => Err(Lost::Fault),
+    }
+}
+
+// The request with what is to become of its connection.
+fn for_connection(request: Builder, keeps: bool) -> Builder {
+    if keeps {
+        return request;
+    }
+    request.header(CONNECTION, "close")
+}
+
+// The request with the edge's name, if it has one.
+fn identified(request: Builder, name: &Option<EdgeName>) -> Builder {
+    match name {
+        Some(name) => request.header(LOOP, name.as_bytes()),
+        None => request,
+    }
+}
+
+// The authority of a URL, and its path with its query.
+fn parts_of(url: &PageUrl) -> Option<(&str, &str)> {
+    let text = str::from_utf8(url.as_bytes()).ok()?;
+    let authority = str::from_utf8(url.authority()).ok()?;
+    let target = text.strip_prefix("http://")?.strip_prefix(authority)?;
+    Some((authority, target))
+}
