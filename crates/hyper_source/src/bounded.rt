@@ -11,7 +11,7 @@ use edge_types::NoMemory;
 use origin_health::{Bounds, FetchEnd, Leave, OriginHealth, Permit};
 use std::alloc::Global;
 use std::net::SocketAddr;
-use std::sync::{Mutex, Wait};
+use std::sync::{Arc, Mutex, Wait};
 use std::time::Clock;
 
 /// What fetches to one address ask before they begin, and tell when they have ended. Nobody holds its lock while
@@ -19,10 +19,23 @@ use std::time::Clock;
 #[derive(Drop)]
 pub(crate) struct OriginGate {
     address: SocketAddr,
-    health: Mutex<OriginHealth>,
+    health: Arc<Mutex<OriginHealth>>,
 }
 
 impl OriginGate {
+    /// One more handle to the same gate.
+    pub(crate) fn share(&self) -> Result<OriginGate, Lost>
+        ensures { IfOk result (λ gate. gate.address ≡ self.now.address) }
+    {
+        match self.health.clone() {
+            Ok(health) => Ok(OriginGate {
+                address: self.address,
+                health,
+            }),
+            Err(_) => Err(Lost::NoMemory),
+        }
+    }
+
     /// Leave to make a fetch now; none where it is one too many, or the origin rests.
     pub(crate) fn permit<R: Wait + Clock>(&self, rt: &R) -> Option<Permit> {
         let leave = self.health.lock(rt).may_fetch(millis(rt));
@@ -48,13 +61,14 @@ pub(crate) fn gates_of(
 {
     let mut gates = Vec::new(alloc);
     for origin in origins {
-        add_gate(&mut gates, origin.address, bounds)?;
+        add_gate(alloc, &mut gates, origin.address, bounds)?;
     }
     Ok(gates)
 }
 
 // Adds the gate of an address, unless it is there.
 fn add_gate(
+    alloc: Global,
     gates: &mut Vec<OriginGate>,
     address: SocketAddr,
     bounds: Bounds,
@@ -67,7 +81,7 @@ fn add_gate(
     }
     gates.push(OriginGate {
         address,
-        health: Mutex::new(OriginHealth::new(bounds)),
+        health: Arc::new(alloc, Mutex::new(OriginHealth::new(bounds)))?,
     })?;
     Ok(())
 }

@@ -22,6 +22,39 @@ impl Deadline {
         }
     }
 
+    /// A fetch that may take as long as it likes.
+    pub(crate) fn never() -> Deadline {
+        Deadline { at: None }
+    }
+
+    /// The earlier of two.
+    pub(crate) fn or_earlier(self, other: Deadline) -> Deadline {
+        match (self.at, other.at) {
+            (Some(one), Some(another)) if another < one => other,
+            (None, Some(_)) => other,
+            _ => self,
+        }
+    }
+
+    /// Whether no time is left.
+    pub(crate) fn is_over(self, now: Instant) -> bool {
+        match self.at {
+            Some(at) => at <= now,
+            None => false,
+        }
+    }
+
+    /// The time that is left, in milliseconds, rounded up: 0 past the deadline, below 0 if there is none.
+    pub(crate) fn millis_left(&self, clock: &impl Clock) -> i32 {
+        match self.left(clock) {
+            Ok(None) => -1,
+            Ok(Some(left)) => {
+                i32::try_from(left.as_nanos().div_ceil(1_000_000)).unwrap_or(i32::MAX)
+            }
+            Err(_) => 0,
+        }
+    }
+
     /// The time that is left, which is more than zero; `None` if there is no deadline.
     pub(crate) fn left(&self, clock: &impl Clock) -> io::Result<Option<Duration>> {
         let Some(at) = self.at else {

@@ -127,9 +127,9 @@ impl<R: Clock> OriginStream<R> {
     }
 }
 
-// Whether a call has to be made again, since a signal came in the midst of it; where the process was stopped and
-// goes on, that is so even without a handler.
-fn was_interrupted<T>(done: &io::Result<T>) -> bool
+/// Whether a call has to be made again, since a signal came in the midst of it; where the process was stopped and
+/// goes on, that is so even without a handler.
+pub(crate) fn was_interrupted<T>(done: &io::Result<T>) -> bool
     ensures { IsTrue result ↔ IsErrAnd done.now (λ e. error_kind e ≡ ErrorKind.Interrupted) }
 {
     match done {

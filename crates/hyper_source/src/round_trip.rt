@@ -52,8 +52,8 @@ where
     }
 }
 
-// A response, and the stream if it is to stay open.
-fn ended<I: Drop>(page: Response, stream: Option<I>) -> (Response, Option<I>)
+/// A response, and the stream if it is to stay open.
+pub(crate) fn ended<I: Drop>(page: Response, stream: Option<I>) -> (Response, Option<I>)
     ensures { IfOk result.0 (λ page. IsSome result.1 → StaysOpen page.0) }
 {
     match page {
@@ -65,8 +65,8 @@ fn ended<I: Drop>(page: Response, stream: Option<I>) -> (Response, Option<I>)
     }
 }
 
-// The stream, unless bytes were read that don't belong to the response.
-fn bare<I: Drop>(parts: hyper::Result<client::conn::http1::Parts<I>>) -> Option<I> {
+/// The stream, unless bytes were read that don't belong to the response.
+pub(crate) fn bare<I: Drop>(parts: hyper::Result<client::conn::http1::Parts<I>>) -> Option<I> {
     let client::conn::http1::Parts { io, read_buf } = parts.ok()?;
     if read_buf.is_empty() { Some(io) } else { None }
 }

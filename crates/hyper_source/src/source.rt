@@ -1,5 +1,7 @@
 //! A source that fetches from origins.
 
+mod concurrent;
+
 use crate::answers::answered;
 use crate::bounded::{OriginGate, end_of, gate_of, gates_of};
 use crate::deadline::Deadline;
@@ -8,6 +10,7 @@ use crate::executors::IdleExecutors;
 use crate::gathered::Lost;
 use crate::origin::{Origin, address_of};
 use crate::origin_stream::OriginStream;
+use crate::poller::IdlePollers;
 use crate::pool::Pool;
 use crate::reach::{Reach, lost_by};
 use crate::request::request_of;
@@ -44,6 +47,7 @@ pub struct HyperSource {
     limit: Option<Duration>,
     keys: RandomState,
     executors: IdleExecutors,
+    pollers: IdlePollers,
     name: Option<EdgeName>,
     pool: Pool,
     // Of each address, where fetches are bounded.
@@ -67,6 +71,7 @@ impl HyperSource {
             limit,
             keys: RandomState::new(rt)?,
             executors: IdleExecutors::new(alloc),
+            pollers: IdlePollers::new(alloc),
             name: None,
             pool: Pool::new(alloc, 0),
             gates: Vec::new(alloc),

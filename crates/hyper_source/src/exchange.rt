@@ -1,0 +1,184 @@
+//! One request and its response, among those of other fetches.
+
+ghost use Rattle.std.specs.Prelude.{IsSome, IfOk};
+ghost use Rattle.hyper_source.specs.Heads.{StaysOpen};
+
+use crate::gathered::{Lost, Rest};
+use crate::pollable::Pollable;
+use crate::polled_stream::PolledStream;
+use crate::round_trip::{Response, bare, ended};
+use crate::stream_signals::{Readiness, StreamSignals};
+use bytes::Bytes;
+use futures::Future;
+use futures::task::{Context, Poll, Solo};
+use http::Request;
+use http_body_util::Empty;
+use hyper::client;
+use hyper::client::conn::http1::{ResponseFuture, WithoutShutdown};
+use std::alloc::Global;
+use std::hash::RandomState;
+use std::net::TcpStream;
+use std::os::fd::{AsRawFd, RawFd};
+use std::sync::Arc;
+
+type Connection = WithoutShutdown<PolledStream, Empty<Bytes>>;
+
+// How often an exchange is polled at a stretch, before another one gets its turn.
+const BUDGET: usize = 64;
+
+/// How far an exchange has got.
+#[derive(Clone, Copy, Debug, PartialEq, Eq)]
+pub(crate) enum Progress {
+    /// It waits for its socket.
+    Waits(Readiness),
+    /// It goes on as soon as it has its turn again.
+    GoesOn,
+    /// The response has come, or never will.
+    Ended,
+}
+
+// What has come of a response.
+#[derive(Drop)]
+enum Page {
+    Nothing(ResponseFuture<PolledStream>),
+    Head(Rest<PolledStream>),
+    Whole(Response),
+}
+
+/// A request that is sent over a connection of its own, and what has come of its response.
+#[derive(Drop)]
+pub(crate) struct Exchange {
+    page: Page,
+    // `None` once it has ended.
+    connection: Option<Pollable<Connection>>,
+    // The stream of a connection that has ended, if nothing was read that doesn't belong to the response.
+    stream: Option<PolledStream>,
+    socket: RawFd,
+    signals: Arc<StreamSignals>,
+}
+
+impl Exchange {
+    /// Begins an exchange over a socket that doesn't block. Nothing is sent before it is polled.
+    pub(crate) fn begun(
+        alloc: Global,
+        keys: RandomState,
+        socket: TcpStream,
+        signals: StreamSignals,
+        request: Request<Empty<Bytes>>,
+    ) -> Result<Exchange, Lost> {
+        let descriptor = socket.as_raw_fd();
+        let Ok(signals) = Arc::new(alloc, signals) else {
+            return Err(Lost::NoMemory);
+        };
+        let Ok(told) = signals.clone() else {
+            return Err(Lost::NoMemory);
+        };
+        let io = PolledStream::over(socket, told);
+        let Ok((mut sender, connection)) = client::conn::http1::handshake(alloc, keys, io) else {
+            return Err(Lost::Fault);
+        };
+        let response = sender.send_request(request);
+        // The connection ends with this response.
+        drop(sender);
+        Ok(Exchange {
+            page: Page::Nothing(response),
+            connection: Some(Pollable::new(connection.without_shutdown())),
+            stream: None,
+            socket: descriptor,
+            signals,
+        })
+    }
+
+    /// The socket, which is open for as long as the exchange goes on.
+    pub(crate) fn socket(&self) -> RawFd {
+        self.socket
+    }
+
+    /// Whether a byte of the response has come.
+    pub(crate) fn has_heard(&self) -> bool {
+        self.signals.has_heard()
+    }
+
+    /// Goes on until the exchange waits or has ended, or others are to have their turn.
+    pub(crate) fn go_on(&mut self, alloc: Global, task: &Solo) -> Progress {
+        for _ in 0..BUDGET {
+            self.poll_once(alloc, task);
+            match (self.has_ended(), self.signals.awaited()) {
+                (true, _) => return Progress::Ended,
+                (false, Some(readiness)) => return Progress::Waits(readiness),
+                (false, None) => {}
+            }
+        }
+        Progress::GoesOn
+    }
+
+    // One poll. All exchanges of a thread are polled as one task, whose wakes say nothing: the sockets and the signals
+    // tell which of them may go on.
+    fn poll_once(&mut self, alloc: Global, task: &Solo) {
+        self.signals.begins_poll();
+        let mut cx = task.begin();
+        self.poll_connection(&mut cx);
+        self.poll_response(alloc, &mut cx);
+        self.poll_rest(&mut cx);
+        let _: Poll<()> = cx.yield_now();
+        cx.park();
+    }
+
+    // Whether nothing more is waited for. Behind a whole response the connection ends without waiting, or isn't kept.
+    fn has_ended(&self) -> bool {
+        match &self.page {
+            Page::Nothing(_) | Page::Head(_) => false,
+            Page::Whole(Err(_)) => true,
+            Page::Whole(Ok(_)) => self.connection.is_none() || self.signals.awaited().is_some(),
+        }
+    }
+
+    fn poll_connection(&mut self, cx: &mut Context<'_>) {
+        let Some(connection) = self.connection.take() else {
+            return;
+        };
+        let mut connection = connection.into_inner();
+        match connection.poll(cx) {
+            Poll::Ready(parts) => self.stream = bare(parts),
+            Poll::Pending => self.connection = Some(Pollable::new(connection)),
+        }
+    }
+
+    fn poll_response(&mut self, alloc: Global, cx: &mut Context<'_>) {
+        let Page::Nothing(response) = &mut self.page else {
+            return;
+        };
+        match response.poll(cx) {
+            Poll::Ready(Ok(response)) => self.page = Page::Head(Rest::of(alloc, response)),
+            Poll::Ready(Err(_)) => self.page = Page::Whole(Err(Lost::Fault)),
+            Poll::Pending => {}
+        }
+    }
+
+    fn poll_rest(&mut self, cx: &mut Context<'_>) {
+        let Page::Head(rest) = &mut self.page else {
+            return;
+        };
+        if let Poll::Ready(came) = rest.poll(cx) {
+            self.page = Page::Whole(came);
+        }
+    }
+
+    /// What has come, and the socket if it is to stay open.
+    pub(crate) fn into_response(self) -> (Response, Option<TcpStream>)
+        ensures { IfOk result.0 (λ page. IsSome result.1 → StaysOpen page.0) }
+    {
+        let Exchange {
+            page,
+            connection: _,
+            stream,
+            socket: _,
+            signals: _,
+        } = self;
+        let came = match page {
+            Page::Whole(came) => came,
+            Page::Nothing(_) | Page::Head(_) => Err(Lost::Fault),
+        };
+        ended(came, stream.map(|stream| stream.into_socket()))
+    }
+}

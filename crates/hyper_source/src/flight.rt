@@ -1,0 +1,180 @@
+//! A fetch among others of its thread.
+
+ghost use Rattle.std.specs.Prelude.{IsSome, IfOk};
+ghost use Rattle.hyper_source.specs.Heads.{StaysOpen};
+
+use crate::deadline::Deadline;
+use crate::exchange::{Exchange, Progress};
+use crate::gathered::Lost;
+use crate::poller::{Poller, Watched};
+use crate::reach::{Reach, lost_by};
+use crate::round_trip::Response;
+use crate::stream_signals::Readiness;
+use edge_types::PageUrl;
+use std::alloc::Global;
+use std::net::{SocketAddr, TcpStream};
+use std::time::{Clock, Instant};
+
+/// A fetch that is under way.
+#[derive(Drop)]
+pub(crate) struct Flight {
+    /// What is fetched.
+    pub(crate) url: PageUrl,
+    /// Where it is asked.
+    pub(crate) address: SocketAddr,
+    /// Until when the fetch may take.
+    pub(crate) deadline: Deadline,
+    // What new connections tell of the origin, where fetches are bounded.
+    reach: Option<Reach>,
+    // Its connection; `None` once that has ended.
+    leg: Option<Leg>,
+    // Whether it goes on without its socket being ready.
+    goes_on: bool,
+}
+
+/// A connection over which a fetch is tried.
+#[derive(Drop)]
+pub(crate) struct Leg {
+    /// What goes over it.
+    pub(crate) exchange: Exchange,
+    /// Whether it was kept from an earlier fetch.
+    pub(crate) is_kept: bool,
+    /// What is told of its socket.
+    pub(crate) watched: Watched,
+}
+
+/// How a turn of a fetch has ended.
+#[derive(Drop)]
+pub(crate) enum Turn {
+    /// The fetch waits for its next turn.
+    Waits,
+    /// The fetch has ended; and its socket, if that is to stay open.
+    Ended(Response, Option<TcpStream>),
+    /// A kept connection was closed before the response began.
+    Unheard,
+}
+
+impl Flight {
+    /// A fetch over a connection.
+    pub(crate) fn new(
+        url: PageUrl,
+        address: SocketAddr,
+        deadline: Deadline,
+        reach: Option<Reach>,
+        leg: Leg,
+    ) -> Flight {
+        Flight {
+            url,
+            address,
+            deadline,
+            reach,
+            leg: Some(leg),
+            goes_on: false,
+        }
+    }
+
+    /// Whether it is to have a turn although nothing is told of its socket: it goes on, or is late.
+    pub(crate) fn is_due(&self, now: Option<Instant>) -> bool {
+        match now {
+            Some(now) => self.goes_on || self.deadline.is_over(now),
+            None => true,
+        }
+    }
+
+    /// Whether its next turn needs no wait.
+    pub(crate) fn goes_on(&self) -> bool {
+        self.goes_on
+    }
+
+    /// What a new connection of this fetch tells of the origin.
+    pub(crate) fn told(&self) -> Result<Option<Reach>, Lost> {
+        match &self.reach {
+            Some(reach) => Ok(Some(reach.share()?)),
+            None => Ok(None),
+        }
+    }
+
+    /// Tries the fetch once more, over another connection.
+    pub(crate) fn retries(&mut self, leg: Leg) {
+        self.leg = Some(leg);
+    }
+
+    /// Gives the fetch its turn.
+    pub(crate) fn turn(
+        &mut self,
+        clock: &impl Clock,
+        alloc: Global,
+        poller: &Poller,
+        key: usize,
+    ) -> Turn {
+        self.goes_on = false;
+        let Some(mut leg) = self.leg.take() else {
+            return Turn::Ended(Err(Lost::Fault), None);
+        };
+        let progress = leg.exchange.go_on(alloc, poller.task());
+        match progress {
+            Progress::Ended => return self.ended(poller, leg),
+            Progress::GoesOn => self.goes_on = true,
+            Progress::Waits(readiness) => {
+                if !leg.is_watched(poller, key, readiness) {
+                    return Turn::Ended(Err(Lost::Fault), None);
+                }
+            }
+        }
+        match self.deadline.left(clock) {
+            Ok(_) => {
+                self.leg = Some(leg);
+                Turn::Waits
+            }
+            Err(late) => Turn::Ended(Err(lost_by(&late)), None),
+        }
+    }
+
+    fn ended(&self, poller: &Poller, leg: Leg) -> Turn {
+        let may_retry = leg.is_kept && !leg.exchange.has_heard();
+        let (came, socket) = leg.into_response(poller);
+        match came {
+            Err(Lost::Fault) if may_retry => Turn::Unheard,
+            came => Turn::Ended(self.judged(came), socket),
+        }
+    }
+
+    fn judged(&self, came: Response) -> Response {
+        match &self.reach {
+            Some(reach) => reach.judged(came),
+            None => came,
+        }
+    }
+}
+
+impl Leg {
+    // Has the poller tell when the socket is ready. Refused by the system only.
+    fn is_watched(&mut self, poller: &Poller, key: usize, readiness: Readiness) -> bool {
+        let socket = self.exchange.socket();
+        match poller.watch(socket, key, self.watched, readiness) {
+            Some(watched) => {
+                self.watched = watched;
+                true
+            }
+            None => false,
+        }
+    }
+
+    // What has come, and the socket, which isn't watched any longer, if it is to stay open.
+    fn into_response(self, poller: &Poller) -> (Response, Option<TcpStream>)
+        ensures { IfOk result.0 (λ page. IsSome result.1 → StaysOpen page.0) }
+    {
+        let Leg {
+            exchange,
+            is_kept: _,
+            watched,
+        } = self;
+        let descriptor = exchange.socket();
+        let (came, socket) = exchange.into_response();
+        if socket.is_none() || watched == Watched::Nothing || poller.forget(descriptor) {
+            (came, socket)
+        } else {
+            (came, None)
+        }
+    }
+}

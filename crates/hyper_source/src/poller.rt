@@ -1,0 +1,151 @@
+//! What a thread waits in for the sockets of its fetches.
+
+ghost use Rattle.std.specs.Prelude.{◌≡◌, ◌≢◌};
+ghost use Rattle.hyper_source.specs.declared.poller.Watched.TheVariants as tells;
+ghost use Rattle.hyper_source.specs.declared.stream_signals.Readiness.TheVariants as awaits;
+
+use crate::stream_signals::Readiness;
+use edge_types::NoMemory;
+use futures::task::{Doorbell, Solo};
+use libc::net::{
+    EPOLL_CTL_ADD, EPOLL_CTL_DEL, EPOLL_CTL_MOD, EPOLLET, EPOLLIN, EPOLLOUT, EPOLLRDHUP,
+};
+use mio::Poll;
+use os::EpollEvent;
+use std::alloc::{AllocGlobal, Global};
+use std::collections::VecDeque;
+use std::io;
+use std::net::Net;
+use std::os::fd::{AsRawFd, RawFd};
+use std::random::RandomSource;
+use std::sync::{Mutex, Wait};
+
+// How many sockets one wait tells of.
+const AT_ONCE: usize = 32;
+
+/// Waits for the sockets of one thread's fetches, and polls their futures.
+#[derive(Drop)]
+pub(crate) struct Poller {
+    watched: Poll,
+    task: Solo,
+}
+
+/// What is told of a socket that is watched.
+#[derive(Clone, Copy, Debug, PartialEq, Eq)]
+pub(crate) enum Watched {
+    /// Nothing: it isn't watched.
+    Nothing,
+    /// When input comes.
+    Input,
+    /// When input comes, and when there is room for output.
+    InputAndRoom,
+}
+
+impl Watched {
+    // What has to be told once that is awaited too.
+    fn with(self, readiness: Readiness) -> Watched
+        ensures told { result ≢ tells.Nothing }
+        ensures room { readiness ≡ awaits.Writable → result ≡ tells.InputAndRoom }
+        ensures kept { self ≡ tells.InputAndRoom → result ≡ tells.InputAndRoom }
+    {
+        match (self, readiness) {
+            (Watched::InputAndRoom, _) | (_, Readiness::Writable) => Watched::InputAndRoom,
+            (Watched::Nothing | Watched::Input, Readiness::Readable) => Watched::Input,
+        }
+    }
+
+    // Told whenever the socket becomes ready, and once of what it is ready for now.
+    fn events(self) -> u32 {
+        match self {
+            Watched::Nothing => 0,
+            Watched::Input => EPOLLET | EPOLLIN | EPOLLRDHUP,
+            Watched::InputAndRoom => EPOLLET | EPOLLIN | EPOLLRDHUP | EPOLLOUT,
+        }
+    }
+}
+
+impl Poller {
+    fn new<R: Net + RandomSource + AllocGlobal>(rt: &R) -> io::Result<Poller> {
+        Ok(Poller {
+            watched: Poll::new(rt)?,
+            task: Solo::new(rt, Doorbell::spinning())?,
+        })
+    }
+
+    /// The task as which futures are polled.
+    pub(crate) fn task(&self) -> &Solo {
+        &self.task
+    }
+
+    /// Has waits tell a key once a socket is ready for that too; gives what is told from now on. `None` if the system
+    /// refuses. Where that is told already, this takes no call.
+    pub(crate) fn watch(
+        &self,
+        socket: RawFd,
+        key: usize,
+        watched: Watched,
+        readiness: Readiness,
+    ) -> Option<Watched> {
+        let wanted = watched.with(readiness);
+        if wanted == watched {
+            return Some(wanted);
+        }
+        let operation = match watched {
+            Watched::Nothing => EPOLL_CTL_ADD,
+            Watched::Input | Watched::InputAndRoom => EPOLL_CTL_MOD,
+        };
+        self.control(operation, socket, wanted.events(), key)
+            .then_some(wanted)
+    }
+
+    /// Waits tell nothing of a socket from now on. One that is closed needs no call.
+    pub(crate) fn forget(&self, socket: RawFd) -> bool {
+        self.control(EPOLL_CTL_DEL, socket, 0, 0)
+    }
+
+    fn control(&self, operation: i32, socket: RawFd, events: u32, key: usize) -> bool {
+        let set = self.watched.as_raw_fd();
+        os::epoll_ctl(set, operation, socket, events, key as u64) == 0
+    }
+
+    /// Waits until sockets are ready, at most so many milliseconds, or as long as it takes if below 0; appends their keys.
+    pub(crate) fn wait(&self, millis: i32, ready: &mut VecDeque<usize>) -> Result<(), NoMemory> {
+        let mut events = [EpollEvent { events: 0, data: 0 }; AT_ONCE];
+        let count = os::epoll_wait(self.watched.as_raw_fd(), &mut events, millis);
+        for event in &events[..count] {
+            ready.push_back(event.data as usize)?;
+        }
+        Ok(())
+    }
+}
+
+/// Pollers that no page needs now. To make one costs more than to keep it.
+#[derive(Drop)]
+pub(crate) struct IdlePollers {
+    free: Mutex<Vec<Poller>>,
+}
+
+impl IdlePollers {
+    pub(crate) fn new(alloc: Global) -> IdlePollers {
+        IdlePollers {
+            free: Mutex::new(Vec::new(alloc)),
+        }
+    }
+
+    /// A free poller, or a new one.
+    pub(crate) fn take<R: Wait + Net + RandomSource + AllocGlobal>(
+        &self,
+        rt: &R,
+    ) -> Option<Poller> {
+        let free = self.free.lock(rt).pop();
+        match free {
+            Some(poller) => Some(poller),
+            None => Poller::new(rt).ok(),
+        }
+    }
+
+    /// Leaves a poller that watches no socket to the next page, where there is room to keep it.
+    pub(crate) fn leave<R: Wait>(&self, rt: &R, poller: Poller) {
+        let _ = self.free.lock(rt).push(poller);
+    }
+}

@@ -1,0 +1,285 @@
+//! Fetches of one thread that are in flight at once.
+
+use crate::answers::answered;
+use crate::bounded::{end_of, gate_of};
+use crate::deadline::Deadline;
+use crate::edge_name::device_of;
+use crate::exchange::Exchange;
+use crate::flight::{Flight, Leg, Turn};
+use crate::gathered::Lost;
+use crate::in_flight::{FetchesInFlight, HeldPermit};
+use crate::origin::address_of;
+use crate::poller::Watched;
+use crate::reach::{Reach, lost_by};
+use crate::request::request_of;
+use crate::round_trip::Response;
+use crate::source::HyperSource;
+use crate::stream_signals::StreamSignals;
+use edge_types::{Answer, NoMemory, PageUrl};
+use fetch_workers::ConcurrentSource;
+use std::alloc::{AllocGlobal, Global};
+use std::net::{Net, SocketAddr, TcpStream};
+use std::random::RandomSource;
+use std::sync::{Arc, Wait};
+use std::time::Clock;
+
+impl HyperSource {
+    // Begins a fetch, if the URL's origin may be asked; gives its key.
+    fn departed<R>(
+        &self,
+        rt: &R,
+        alloc: Global,
+        in_flight: &mut FetchesInFlight,
+        url: PageUrl,
+    ) -> Result<usize, Lost>
+    where
+        R: Wait + Net<Stream = TcpStream> + Clock + RandomSource + AllocGlobal + Clone + Drop,
+    {
+        if !self.has_poller(rt, in_flight) {
+            return Err(Lost::Fault);
+        }
+        let Some(address) = address_of(self.origins.as_slice(), url.authority()) else {
+            return Err(Lost::Fault);
+        };
+        let Some(gate) = gate_of(self.gates.as_slice(), address) else {
+            let flight = self.flight(rt, alloc, url, address, None)?;
+            return in_flight.admit(flight);
+        };
+        let gate = gate.share()?;
+        let reach = Reach::new(alloc)?;
+        let Some(permit) = gate.permit(rt) else {
+            return Err(Lost::Fault);
+        };
+        let admitted = match self.flight(rt, alloc, url, address, Some(reach)) {
+            Ok(flight) => in_flight.admit(flight),
+            Err(lost) => Err(lost),
+        };
+        let end = end_of(&admitted);
+        match admitted {
+            Ok(key) => in_flight.hold(rt, HeldPermit { key, gate, permit })?,
+            Err(_) => gate.ended(rt, permit, end),
+        }
+        admitted
+    }
+
+    // Whether the fetches have what they wait in, which the first one takes. Refused where descriptors run out.
+    fn has_poller<R>(&self, rt: &R, in_flight: &mut FetchesInFlight) -> bool
+    where
+        R: Wait + Net + RandomSource + AllocGlobal,
+    {
+        if in_flight.poller.is_none() {
+            in_flight.poller = self.pollers.take(rt);
+        }
+        in_flight.poller.is_some()
+    }
+
+    // A fetch over a connection that was kept, or a new one that may tell of the origin.
+    fn flight<R>(
+        &self,
+        rt: &R,
+        alloc: Global,
+        url: PageUrl,
+        address: SocketAddr,
+        reach: Option<Reach>,
+    ) -> Result<Flight, Lost>
+    where
+        R: Wait + Net<Stream = TcpStream> + Clock + RandomSource + AllocGlobal + Clone + Drop,
+    {
+        let Ok(deadline) = Deadline::after(rt, self.limit) else {
+            return Err(Lost::Fault);
+        };
+        let leg = match self.kept_socket(rt, address) {
+            Some(socket) => self.leg(alloc, &url, socket, true, None)?,
+            None => {
+                let told = match &reach {
+                    Some(reach) => Some(reach.share()?),
+                    None => None,
+                };
+                self.new_leg(rt, alloc, &url, address, told)?
+            }
+        };
+        Ok(Flight::new(url, address, deadline, reach, leg))
+    }
+
+    // A connection that was kept, on a socket that doesn't block.
+    fn kept_socket<R: Wait + Clock>(&self, rt: &R, address: SocketAddr) -> Option<TcpStream> {
+        let idle = self.pool.take(rt, address)?;
+        idle.socket.set_nonblocking(true).ok()?;
+        Some(idle.socket)
+    }
+
+    // The exchange of a fetch over a new connection, which need not be made yet.
+    fn new_leg<R: Net>(
+        &self,
+        rt: &R,
+        alloc: Global,
+        url: &PageUrl,
+        address: SocketAddr,
+        told: Option<Reach>,
+    ) -> Result<Leg, Lost> {
+        match mio::net::TcpStream::connect(rt, address) {
+            Ok(socket) => self.leg(alloc, url, TcpStream::from(socket), false, told),
+            Err(error) => Err(lost_by(&error)),
+        }
+    }
+
+    // The exchange of a fetch over a socket that doesn't block.
+    fn leg(
+        &self,
+        alloc: Global,
+        url: &PageUrl,
+        socket: TcpStream,
+        is_kept: bool,
+        told: Option<Reach>,
+    ) -> Result<Leg, Lost> {
+        let request = request_of(alloc, url, &self.name, self.pool.keeps())?;
+        let signals = StreamSignals::new(told);
+        Ok(Leg {
+            exchange: Exchange::begun(alloc, self.keys, socket, signals, request)?,
+            is_kept,
+            watched: Watched::Nothing,
+        })
+    }
+
+    // Gives a fetch its turn; its answer if it has ended.
+    fn turned<R>(
+        &self,
+        rt: &R,
+        alloc: Global,
+        in_flight: &mut FetchesInFlight,
+        key: usize,
+    ) -> Result<Option<Arc<Answer>>, NoMemory>
+    where
+        R: Wait + Net<Stream = TcpStream> + Clock + RandomSource + AllocGlobal + Clone + Drop,
+    {
+        match in_flight.turn(rt, alloc, key) {
+            Turn::Waits => Ok(None),
+            Turn::Ended(came, socket) => self.landed(rt, alloc, in_flight, key, came, socket),
+            Turn::Unheard => match self.retried(rt, alloc, in_flight, key) {
+                Ok(()) => Ok(None),
+                Err(lost) => self.landed(rt, alloc, in_flight, key, Err(lost), None),
+            },
+        }
+    }
+
+    // Begins a fetch once more, over a new connection, within the same time.
+    fn retried<R>(
+        &self,
+        rt: &R,
+        alloc: Global,
+        in_flight: &mut FetchesInFlight,
+        key: usize,
+    ) -> Result<(), Lost>
+    where
+        R: Wait + Net<Stream = TcpStream> + Clock + RandomSource + AllocGlobal + Clone + Drop,
+    {
+        let Some(flight) = in_flight.flights.get_mut(key) else {
+            return Ok(());
+        };
+        let told = flight.told()?;
+        let leg = self.new_leg(rt, alloc, &flight.url, flight.address, told)?;
+        flight.retries(leg);
+        match in_flight.due.push_back(key) {
+            Ok(()) => Ok(()),
+            Err(_) => Err(Lost::NoMemory),
+        }
+    }
+
+    // Ends a fetch: its answer.
+    fn landed<R>(
+        &self,
+        rt: &R,
+        alloc: Global,
+        in_flight: &mut FetchesInFlight,
+        key: usize,
+        came: Response,
+        socket: Option<TcpStream>,
+    ) -> Result<Option<Arc<Answer>>, NoMemory>
+    where
+        R: Wait + Clock,
+    {
+        let Some(flight) = in_flight.remove(rt, key, end_of(&came)) else {
+            return Ok(None);
+        };
+        if let Some(socket) = socket {
+            self.keep(rt, flight.address, socket);
+        }
+        let answer = answered(alloc, &flight.url, device_of(&self.name), came)?;
+        Ok(Some(Arc::new(alloc, answer)?))
+    }
+
+    // Keeps a connection for a further fetch, whose socket then blocks, if any are kept.
+    fn keep<R: Wait + Clock>(&self, rt: &R, address: SocketAddr, socket: TcpStream) {
+        if self.pool.keeps() && socket.set_nonblocking(false).is_ok() {
+            self.pool.leave(rt, address, socket);
+        }
+    }
+}
+
+impl<R> ConcurrentSource<R> for HyperSource
+where
+    R: Wait + Net<Stream = TcpStream> + Clock + RandomSource + AllocGlobal + Clone + Drop,
+{
+    type InFlight = FetchesInFlight;
+
+    fn nothing_in_flight(&self, _rt: &R, alloc: Global) -> FetchesInFlight {
+        FetchesInFlight::new(alloc)
+    }
+
+    // The fetch has its first turn at once, by which its request is mostly sent.
+    fn begin(
+        &self,
+        rt: &R,
+        alloc: Global,
+        in_flight: &mut FetchesInFlight,
+        url: &PageUrl,
+    ) -> Result<(), NoMemory> {
+        in_flight.reserve()?;
+        let begun = match self.departed(rt, alloc, in_flight, url.share()?) {
+            Ok(key) => self.turned(rt, alloc, in_flight, key)?,
+            Err(lost) => {
+                let answer = answered(alloc, url, device_of(&self.name), Err(lost))?;
+                Some(Arc::new(alloc, answer)?)
+            }
+        };
+        if let Some(answer) = begun {
+            in_flight.answers.push_back(answer)?;
+        }
+        Ok(())
+    }
+
+    fn next(
+        &self,
+        rt: &R,
+        alloc: Global,
+        in_flight: &mut FetchesInFlight,
+    ) -> Result<Option<Arc<Answer>>, NoMemory> {
+        for _ in rt.forever() {
+            if let Some(answer) = in_flight.answers.pop_front() {
+                return Ok(Some(answer));
+            }
+            if in_flight.flights.is_empty() {
+                return Ok(None);
+            }
+            let came = match in_flight.due.pop_front() {
+                Some(key) => self.turned(rt, alloc, in_flight, key)?,
+                None => {
+                    in_flight.wait(rt)?;
+                    None
+                }
+            };
+            if came.is_some() {
+                return Ok(came);
+            }
+        }
+        unreachable!()
+    }
+
+    fn give_up(&self, rt: &R, _alloc: Global, in_flight: FetchesInFlight) {
+        let mut in_flight = in_flight;
+        in_flight.end_permits(rt);
+        if let Some(poller) = in_flight.into_poller() {
+            self.pollers.leave(rt, poller);
+        }
+    }
+}
