@@ -1,4 +1,4 @@
-use Rattle.std.proofs.Common.{◌≡◌, ◌<◌, length, get_or, ◌∙◌, subst, below_more}
+use Rattle.std.proofs.Common.{◌≡◌, ◌<◌, get_or, ◌∙◌, subst, below_more}
 use Rattle.std.proofs.lemmas.List.{get_or_default}
 use Rattle.hyper_source.specs.declared.origin.Origin.{Origin}
 use Rattle.hyper_source.specs.Bounded as spec
