@@ -10,10 +10,10 @@ use Rattle.esi_vars.specs.Finds.{IsBehind}
 use Rattle.esi_vars.specs.Laws.{FindsTheFirst, FindsNone}
 
 -- what the test of a front tells
-begins : (word text : List ℕ) → starts_with nat_eq text word ≡ true → text ≡ word ++ drop (length word) text
+pub begins : (word text : List ℕ) → starts_with nat_eq text word ≡ true → text ≡ word ++ drop (length word) text
 begins word text is = (starts_is Decides-eqb text word (starts_with nat_eq text word) refl).0 is
 
-begins_again : (word text rest : List ℕ) → text ≡ word ++ rest → starts_with nat_eq text word ≡ true
+pub begins_again : (word text rest : List ℕ) → text ≡ word ++ rest → starts_with nat_eq text word ≡ true
 begins_again word text rest is = (starts_is Decides-eqb text word (starts_with nat_eq text word) refl).1 rest is
 
 begins_not : (word text rest : List ℕ) → starts_with nat_eq text word ≡ false → text ≢ word ++ rest
@@ -21,15 +21,15 @@ begins_not word text rest is whole =
     let clash : true ≡ false = sym (begins_again word text rest whole) ∙ is in absurd (cc)
 
 -- the search at a byte, by whether the word begins there
-here : (word : List ℕ) (b : ℕ) (bs : List ℕ) → starts_with nat_eq (b ∷ bs) word ≡ true → behind word (b ∷ bs) ≡ Some (drop (length word) (b ∷ bs))
+pub here : (word : List ℕ) (b : ℕ) (bs : List ℕ) → starts_with nat_eq (b ∷ bs) word ≡ true → behind word (b ∷ bs) ≡ Some (drop (length word) (b ∷ bs))
 unfolding behind
 here word b bs is = rw is refl
 
-later : (word : List ℕ) (b : ℕ) (bs : List ℕ) → starts_with nat_eq (b ∷ bs) word ≡ false → behind word (b ∷ bs) ≡ behind word bs
+pub later : (word : List ℕ) (b : ℕ) (bs : List ℕ) → starts_with nat_eq (b ∷ bs) word ≡ false → behind word (b ∷ bs) ≡ behind word bs
 unfolding behind
 later word b bs is = rw is refl
 
-never : (word : List ℕ) → behind word [] ≡ None
+pub never : (word : List ℕ) → behind word [] ≡ None
 unfolding behind
 never word = refl
 
@@ -84,7 +84,7 @@ none_stands (b ∷ bs) word rest some none = by_test (starts_with nat_eq (b ∷ 
         let clash : Some (drop (length word) (b ∷ (bs ++ (word ++ rest)))) ≡ None = sym (here word b (bs ++ (word ++ rest)) is) ∙ none in absurd (cc)
     by_test false is go = go (sym (later word b (bs ++ (word ++ rest)) is) ∙ none)
 
-none_found : (word text : List ℕ) → (HasSubslice text word → ⊥) → behind word text ≡ None
+pub none_found : (word text : List ℕ) → (HasSubslice text word → ⊥) → behind word text ≡ None
 none_found word text nowhere = by_search (behind word text) refl
   where
     by_search : (o : Option (List ℕ)) → behind word text ≡ o → behind word text ≡ None

@@ -13,7 +13,7 @@ use Rattle.esi_vars.specs.Finds.{AreParts, AreHalves, HasName, IsNamed}
 use Rattle.esi_vars.specs.Laws.{CutsFields, CutsOnce, LooksUp}
 
 -- a list that doesn't contain a byte has another one at each place
-other_bytes : (c : ℕ) (bs : List ℕ) → (Contains bs c → ⊥) → All (λ b. (b == c) ≡ false) bs
+pub other_bytes : (c : ℕ) (bs : List ℕ) → (Contains bs c → ⊥) → All (λ b. (b == c) ≡ false) bs
 other_bytes c bs lacks k d h = by_test (get_or bs k d == c) refl
   where
     by_test : (t : Bool) → (get_or bs k d == c) ≡ t → (get_or bs k d == c) ≡ false
@@ -74,7 +74,7 @@ halves_none : (c : ℕ) (text : List ℕ) → nat_lt (position_or_len (λ b. b =
 unfolding halves around
 halves_none c text is = rw is refl
 
-are_halves : (c : ℕ) (text : List ℕ) → AreHalves c text (halves c text)
+pub are_halves : (c : ℕ) (text : List ℕ) → AreHalves c text (halves c text)
 are_halves c text = by_test (nat_lt (position_or_len (λ b. b == c) text) (length text)) refl
   where
     by_test : (t : Bool) → nat_lt (position_or_len (λ b. b == c) text) (length text) ≡ t → AreHalves c text (halves c text)
@@ -115,15 +115,15 @@ named_here : (name part : List ℕ) (parts : List (List ℕ)) → bytes_eq (halv
 unfolding named
 named_here name part parts is = rw is refl
 
-named_elsewhere : (name part : List ℕ) (parts : List (List ℕ)) → bytes_eq (halves 61 part).0 name ≡ false → named name (part ∷ parts) ≡ named name parts
+pub named_elsewhere : (name part : List ℕ) (parts : List (List ℕ)) → bytes_eq (halves 61 part).0 name ≡ false → named name (part ∷ parts) ≡ named name parts
 unfolding named
 named_elsewhere name part parts is = rw is refl
 
-named_nowhere : (name : List ℕ) → named name [] ≡ []
+pub named_nowhere : (name : List ℕ) → named name [] ≡ []
 unfolding named
 named_nowhere name = refl
 
-has_name : (name part : List ℕ) → bytes_eq (halves 61 part).0 name ≡ true → AreHalves 61 part (name, (halves 61 part).1)
+pub has_name : (name part : List ℕ) → bytes_eq (halves 61 part).0 name ≡ true → AreHalves 61 part (name, (halves 61 part).1)
 has_name name part is =
     let same : (halves 61 part).0 ≡ name = (bytes_eq-Decides (halves 61 part).0 name).0 is in
     subst (λ n. AreHalves 61 part (n, (halves 61 part).1)) same (are_halves 61 part)

@@ -7,3 +7,5 @@ pub mod Theorems
 pub mod FieldTheorems
 pub mod AgentTheorems
 pub mod ValuesLemmas
+pub mod SearchLemmas
+mod LetterLemmas

@@ -1,6 +1,7 @@
 -- What is in a field, stated without a search: its parts, their names and values, and the text after a word.
-use Rattle.std.specs.Prelude.{◌≡◌, ◌≢◌, ◌⊎◌, ℕ, ◌<◌, List, [], ◌∷◌, ◌++◌, length, drop}
+use Rattle.std.specs.Prelude.{◌≡◌, ◌≢◌, ◌⊎◌, ⊤, ℕ, ◌<◌, List, [], ◌∷◌, ◌++◌, length, drop}
 use Rattle.std.specs.Str.{byte}
+use Rattle.std.specs.Char.{to_ascii_lowercase}
 use Rattle.std.specs.List.{All, Contains, join_with_byte}
 
 -- the field is these parts, with such a byte between each two and in none of them
@@ -37,3 +38,17 @@ pub record IsBehind (word text rest : List ℕ) : Type 0 where
   pub before : List ℕ
   pub whole : text ≡ before ++ (word ++ rest)
   pub first : (i : ℕ) (later : List ℕ) → i < length before → drop i text ≢ word ++ later
+
+-- the rest of a text begins where a part does: it is the whole, or follows such a byte at the end of a front like this
+abbrev pub BeginsPart : ℕ → (List ℕ → Type 0) → List ℕ → List ℕ → Type 0
+BeginsPart c Front text rest =
+    (rest ≡ text) ⊎ ((front : List ℕ) × Front front × (text ≡ front ++ c ∷ rest))
+
+-- the text has this letter, in either case
+abbrev pub HasLetter : ℕ → List ℕ → Type 0
+HasLetter letter text = (b : ℕ) × Contains text b × (to_ascii_lowercase b ≡ to_ascii_lowercase letter)
+
+-- the text has the first letter of the word, in either case, if the word has one
+abbrev pub HasFirstLetter : List ℕ → List ℕ → Type 0
+HasFirstLetter [] text = ⊤
+HasFirstLetter (letter ∷ letters) text = HasLetter letter text

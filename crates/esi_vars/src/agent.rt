@@ -5,6 +5,7 @@ ghost use Rattle.std.specs.Option.{option_copied};
 ghost use Rattle.esi_vars.specs.Agent as spec;
 
 use crate::bytes::{ByteClass, run_len};
+use memchr::memmem;
 
 /// The kind of a user agent.
 #[derive(Clone, Copy)]
@@ -101,16 +102,14 @@ fn has(word: &[u8], text: &[u8]) -> bool
     behind(word, text).is_some()
 }
 
-// What follows the first occurrence of the word.
+// What follows the first occurrence of the word. Nothing does in an empty text, not even the empty word.
+#[tactic(auto, using(crate::proofs::AgentLemmas::behind_absent))]
 fn behind<'a>(word: &[u8], text: &'a [u8]) -> Option<&'a [u8]>
     ensures { option_copied result ≡ spec.behind word.now text.now }
 {
-    for at in 0..text.len() {
-        let (_, rest) = text.split_at(at);
-        if rest.starts_with(word) {
-            let (_, behind) = rest.split_at(word.len());
-            return Some(behind);
-        }
+    if text.is_empty() {
+        return None;
     }
-    None
+    let at = memmem::find(text, word)?;
+    Some(&text[at + word.len()..])
 }

@@ -3,15 +3,20 @@
 ghost use Rattle.std.specs.Prelude.{◌≡◌};
 ghost use Rattle.esi_vars.specs.Field as spec;
 
-use crate::field::{first_part, halves};
+use crate::field::{first_part, from_name, halves};
 use edge_types::trimmed;
+use memchr::memmem::Finder;
 
 /// The value of the first cookie with this name, or nothing.
 pub(crate) fn cookie_value<'a>(name: &[u8], field: &'a [u8]) -> &'a [u8]
     ensures { result.now ≡ spec.cookie_value name.now field.now }
 {
+    let finder = Finder::new(name);
     let mut rest = Some(field);
     while let Some(text) = rest {
+        let Some(text) = from_name(b';', &finder, text) else {
+            break;
+        };
         let (part, after) = first_part(b';', text);
         let (found, value) = halves(b'=', trimmed(part));
         if found == name {

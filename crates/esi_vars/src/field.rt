@@ -1,10 +1,36 @@
 //! Fields that are cut into parts.
 
-ghost use Rattle.std.specs.Prelude.{◌≡◌, ◌<◌, length, IfSome};
+ghost use Rattle.std.specs.Prelude.{◌≡◌, ◌<◌, ◌≤◌, length, IfSome, MatchOption};
+ghost use Rattle.std.specs.Str.Iter.{HasSubslice};
 ghost use Rattle.esi_vars.specs.Field as spec;
+ghost use Rattle.esi_vars.specs.Finds.{BeginsPart};
 ghost use Rattle.esi_vars.specs.Shown.{shown_parts, shown_halves};
 
 use edge_types::around;
+use memchr::memmem::Finder;
+use memchr::memrchr;
+
+/// The text from the first part on in which the name occurs; `None` if it occurs nowhere.
+///
+/// No part before can have the name, so these aren't cut: the search goes over them at the speed of memory.
+#[tactic(auto, using(crate::proofs::SearchLemmas::lacks_word))]
+pub(crate) fn from_name<'a>(end: u8, name: &Finder<'_>, text: &'a [u8]) -> Option<&'a [u8]>
+    ensures { MatchOption result (¬ HasSubslice text.now name.now) (λ rest. BeginsPart end (λ front. ¬ HasSubslice front name.now) text.now rest.now) }
+{
+    let place = name.find(text)?;
+    Some(from_part(end, text, place))
+}
+
+/// The text from the part on in which this place is.
+pub(crate) fn from_part(end: u8, text: &[u8], place: usize) -> &[u8]
+    requires { place ≤ length text.now }
+    ensures { BeginsPart end (λ front. length front < place) text.now result.now }
+{
+    match memrchr(end, &text[..place]) {
+        Some(before) => &text[before + 1..],
+        None => text,
+    }
+}
 
 /// The first part of a field, and what follows the byte at its end, if there is one.
 pub(crate) fn first_part(end: u8, text: &[u8]) -> (&[u8], Option<&[u8]>)
