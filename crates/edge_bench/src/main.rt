@@ -8,17 +8,19 @@ use std::io;
 mod boards;
 mod caching;
 mod headers;
+mod lookups;
 mod plans;
 mod references;
 mod scanning;
 mod tables;
 mod templates;
 
-const NAMES: [&str; 9] = [
+const NAMES: [&str; 10] = [
     "tables",
     "headers",
     "scanning",
     "references",
+    "lookups",
     "caching",
     "templates",
     "plans",
@@ -36,6 +38,7 @@ fn run(rt: &HostRuntime, name: &str) -> io::Result<()> {
         "headers" => headers::run(rt),
         "scanning" => scanning::run(rt),
         "references" => references::run(rt),
+        "lookups" => lookups::run(rt),
         "caching" => caching::run(rt),
         "templates" => templates::run(rt),
         "plans" => plans::run(rt),
