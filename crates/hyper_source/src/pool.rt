@@ -40,8 +40,21 @@ impl Pool {
         self.most > 0
     }
 
-    /// The connection to an address that was used last, of those that are open and silent.
+    /// The connection to an address that was used last, of those that are open and silent. Its socket blocks.
     pub(crate) fn take<R: Wait + Clock>(&self, rt: &R, address: SocketAddr) -> Option<IdleSocket>
+        ensures { IfSome result (λ idle. idle.address ≡ address) }
+    {
+        let idle = self.take_nonblocking(rt, address)?;
+        idle.socket.set_nonblocking(false).ok()?;
+        Some(idle)
+    }
+
+    /// The same, on a socket that doesn't block.
+    pub(crate) fn take_nonblocking<R: Wait + Clock>(
+        &self,
+        rt: &R,
+        address: SocketAddr,
+    ) -> Option<IdleSocket>
         ensures { IfSome result (λ idle. idle.address ≡ address) }
     {
         for _ in rt.forever() {
@@ -65,7 +78,7 @@ impl Pool {
         taken_from(&mut idle, address)
     }
 
-    /// Keeps a connection, unless there are as many to its address as may be.
+    /// Keeps a connection, whose socket may block or not, unless there are as many to its address as may be.
     pub(crate) fn leave<R: Wait + Clock>(&self, rt: &R, address: SocketAddr, socket: TcpStream) {
         let Ok(since) = Instant::now(rt) else {
             return;
@@ -124,15 +137,14 @@ fn close_old(idle: &mut Vec<IdleSocket>, now: Instant) {
 }
 
 // Whether nothing has come since the last response, neither a byte nor the end: bytes that nobody asked for
-// would be read as the next response.
+// would be read as the next response. The socket doesn't block any longer.
 fn is_silent(socket: &TcpStream) -> bool {
     if socket.set_nonblocking(true).is_err() {
         return false;
     }
     let mut byte = [0; 1];
-    let waits = match socket.peek(&mut byte) {
+    match socket.peek(&mut byte) {
         Ok(_) => false,
         Err(e) => e.kind() == ErrorKind::WouldBlock,
-    };
-    waits && socket.set_nonblocking(false).is_ok()
+    }
 }

@@ -88,8 +88,8 @@ impl HyperSource {
         let Ok(deadline) = Deadline::after(rt, self.limit) else {
             return Err(Lost::Fault);
         };
-        let leg = match self.kept_socket(rt, address) {
-            Some(socket) => self.leg(alloc, &url, socket, true, None)?,
+        let leg = match self.pool.take_nonblocking(rt, address) {
+            Some(idle) => self.leg(alloc, &url, idle.socket, true, None)?,
             None => {
                 let told = match &reach {
                     Some(reach) => Some(reach.share()?),
@@ -99,13 +99,6 @@ impl HyperSource {
             }
         };
         Ok(Flight::new(url, address, deadline, reach, leg))
-    }
-
-    // A connection that was kept, on a socket that doesn't block.
-    fn kept_socket<R: Wait + Clock>(&self, rt: &R, address: SocketAddr) -> Option<TcpStream> {
-        let idle = self.pool.take(rt, address)?;
-        idle.socket.set_nonblocking(true).ok()?;
-        Some(idle.socket)
     }
 
     // The exchange of a fetch over a new connection, which need not be made yet.
@@ -202,17 +195,10 @@ impl HyperSource {
             return Ok(None);
         };
         if let Some(socket) = socket {
-            self.keep(rt, flight.address, socket);
+            self.pool.leave(rt, flight.address, socket);
         }
         let answer = answered(alloc, &flight.url, device_of(&self.name), came)?;
         Ok(Some(Arc::new(alloc, answer)?))
-    }
-
-    // Keeps a connection for a further fetch, whose socket then blocks, if any are kept.
-    fn keep<R: Wait + Clock>(&self, rt: &R, address: SocketAddr, socket: TcpStream) {
-        if self.pool.keeps() && socket.set_nonblocking(false).is_ok() {
-            self.pool.leave(rt, address, socket);
-        }
     }
 }
 
