@@ -14,3 +14,4 @@ pub mod Headline
 pub mod Sound
 pub mod Events
 pub mod Holding
+pub mod Words

@@ -21,6 +21,7 @@ ghost use Rattle.plan_runner.specs.Headline.{TellsTheTruth};
 ghost use Rattle.plan_runner.specs.Kept.{standing_of, IsStage};
 ghost use Rattle.plan_runner.specs.Running.{IsDone, Comes};
 ghost use Rattle.plan_runner.specs.Sound.{IsSound};
+ghost use Rattle.plan_runner.specs.Words.{refusal_words};
 
 use crate::advance::Progress;
 use crate::ahead::open_ahead;
@@ -88,6 +89,8 @@ pub enum PostFault {
 
 // By hand: what hands a receipt back can't be dropped, as an `Error` can.
 impl fmt::Display for PostFault {
+    ghost output = { λ fault. Some (refusal_words fault) };
+
     fn fmt<W: fmt::Write>(&self, f: &mut fmt::Formatter<W>) -> fmt::Result {
         f.write_str(match self {
             PostFault::Stranger(_) =>
