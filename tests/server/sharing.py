@@ -1,8 +1,11 @@
 """Fetches at one time, and answers that are kept."""
+import os
+import subprocess
+import tempfile
 import threading
 import time
 
-from harness import PAGE, PATIENCE, Origin, Wires, all_at_once, before, get, same, sized, told, wire
+from harness import HERE, PAGE, PATIENCE, Origin, Wires, all_at_once, before, get, same, sized, told, wire
 
 
 class Meeting:
@@ -120,6 +123,28 @@ def answers_are_kept_and_bridged():
         same("and was asked for", asked + 1, origin.site.count("/x"))
 
 
+def seconds_logged(edge):
+    """The seconds of the clock of the day that the edge logged, in order."""
+    return [int(line.split()[0]) for line in edge.end().decode().splitlines()]
+
+
+def answers_are_kept_no_longer_where_the_clock_is_set_back():
+    """The clock of the day is set back by an hour, as the log shows: an answer is kept for its seconds all the same."""
+    with tempfile.TemporaryDirectory() as room:
+        library, sign = os.path.join(room, "set_back.so"), os.path.join(room, "sign")
+        subprocess.run(["cc", "-O2", "-shared", "-fPIC", "-o", library, os.path.join(HERE, "set_back.c"), "-ldl"], check=True)
+        added = {"LD_PRELOAD": library, "SET_BACK": sign}
+        with Origin({"/x": (b"x", "text/plain", "max-age=1")}) as origin, before(origin, "--log", "--accept", "2", added=added) as edge:
+            same("at first", b"x", get(edge, "/x").body)
+            with open(sign, "w"):
+                time.sleep(2.1)
+            same("later", b"x", get(edge, "/x").body)
+            same("exit status", 0, edge.ends())
+            first, second = seconds_logged(edge)
+            same("the clock was set back (%d, %d)" % (first, second), True, second < first - 3000)
+            same("times that the origin was asked", 2, origin.site.count("/x"))
+
+
 TESTS = (
     equal_requests_cost_one_fetch,
     a_cache_is_free_while_it_is_fetched_for,
@@ -127,4 +152,5 @@ TESTS = (
     as_many_fetch_at_once_as_are_missing,
     pages_share_what_is_kept,
     answers_are_kept_and_bridged,
+    answers_are_kept_no_longer_where_the_clock_is_set_back,
 )
