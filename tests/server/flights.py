@@ -3,7 +3,7 @@ import random
 import threading
 import time
 
-from harness import PAGE, PATIENCE, Edge, Origin, Wires, all_at_once, before, get, same, sized, told, wire
+from harness import PAGE, PATIENCE, UNASSEMBLED, Edge, Origin, Wires, all_at_once, before, get, same, sized, told, wire
 from bounding import soon
 from sharing import Meeting
 
@@ -169,6 +169,27 @@ def origins_that_cut_their_answers_fail_alone():
         same("the page", (200, wanted), told(edge))
 
 
+def a_page_holds_its_fetches_back_for_the_bound_of_an_origin():
+    """Four fetches may be in flight to an origin: a page of twenty fragments has four at a time, and none fails for the
+    page's own. Beside it another page's first fetch is one too many, and fails."""
+    meeting = Meeting(4)
+    texts = {"/%d" % i: meeting.of(sized("HTTP/1.1 200 OK", "%d" % i)) for i in range(20)}
+    with Wires({**texts, "/p": page_of(20)}) as origin, before(origin, *FLYING, "--origin-fetches", "4") as edge:
+        same("the page", (200, joined(20)), told(edge))
+        same("the most at a time, and how many gave up", (4, 0), (meeting.most, meeting.gave_up))
+    released, asked = threading.Event(), threading.Event()
+    texts = {"/%d" % i: (lambda _: asked.set() or released.wait(PATIENCE) and ONE) for i in range(4)}
+    with Wires({**texts, "/p": page_of(4), "/q": ONE}) as origin, before(origin, *FLYING, "--origin-fetches", "3") as edge:
+        came = []
+        first = threading.Thread(target=lambda: came.append(told(edge)))
+        first.start()
+        soon("three are in flight", lambda: len(origin.heads) == 4)
+        same("one too many", UNASSEMBLED, told(edge, "/q"))
+        released.set()
+        first.join()
+        same("the page", [(200, b"1111")], came)
+
+
 def nested_fragments_begin_as_they_become_known():
     """Fragments in fragments: what each needs is asked for as soon as it has come, beside those that are still to come."""
     processed = "HTTP/1.1 200 OK|surrogate-control: content=\"ESI/1.0\""
@@ -204,6 +225,7 @@ TESTS = (
     what_somebody_else_waits_for_is_fetched_to_its_end,
     one_origin_that_hangs_leaves_the_others,
     origins_that_cut_their_answers_fail_alone,
+    a_page_holds_its_fetches_back_for_the_bound_of_an_origin,
     nested_fragments_begin_as_they_become_known,
     many_flights_over_kept_connections,
 )

@@ -38,11 +38,20 @@ impl OriginGate {
 
     /// Leave to make a fetch now; none where it is one too many, or the origin rests.
     pub(crate) fn permit<R: Wait + Clock>(&self, rt: &R) -> Option<Permit> {
-        let leave = self.health.lock(rt).may_fetch(millis(rt));
-        match leave {
+        match self.leave(rt) {
             Leave::Granted(permit) => Some(permit),
             Leave::TooMany | Leave::Rests => None,
         }
+    }
+
+    /// Whether a fetch may be made now.
+    pub(crate) fn leave<R: Wait + Clock>(&self, rt: &R) -> Leave {
+        self.health.lock(rt).may_fetch(millis(rt))
+    }
+
+    /// Whether it is the gate of an address.
+    pub(crate) fn is_of(&self, address: SocketAddr) -> bool {
+        self.address == address
     }
 
     /// The fetch has ended.

@@ -7,11 +7,12 @@ use crate::deadline::Deadline;
 use crate::flight::{Flight, Turn};
 use crate::gathered::Lost;
 use crate::poller::Poller;
-use edge_types::{Answer, NoMemory};
+use edge_types::{Answer, NoMemory, PageUrl};
 use origin_health::{FetchEnd, Permit};
 use slab::Slab;
 use std::alloc::Global;
 use std::collections::VecDeque;
+use std::net::SocketAddr;
 use std::sync::{Arc, Wait};
 use std::time::{Clock, Instant};
 
@@ -25,6 +26,10 @@ pub struct FetchesInFlight {
     pub(crate) due: VecDeque<usize>,
     // Answers that were there at once.
     pub(crate) answers: VecDeque<Arc<Answer>>,
+    // What is to be fetched once another of these fetches from the same address has ended.
+    held_back: VecDeque<PageUrl>,
+    // How many permits were given back since one of those was looked at.
+    freed: usize,
 }
 
 /// The leave to make a fetch, of a gate that has to be told its end.
@@ -55,6 +60,8 @@ impl FetchesInFlight {
             permits: Vec::new(alloc),
             due: VecDeque::new(alloc),
             answers: VecDeque::new(alloc),
+            held_back: VecDeque::new(alloc),
+            freed: 0,
         }
     }
 
@@ -64,6 +71,7 @@ impl FetchesInFlight {
         self.flights.reserve(1)?;
         self.permits.reserve(1)?;
         self.answers.reserve(1)?;
+        self.held_back.reserve(1)?;
         self.due.reserve(count.saturating_mul(2).saturating_add(2))?;
         Ok(())
     }
@@ -97,8 +105,32 @@ impl FetchesInFlight {
     ) -> Option<Flight> {
         if let Some(place) = place_of(self.permits.as_slice(), key) {
             self.permits.swap_remove(place).ended(rt, end);
+            self.freed = self.freed.saturating_add(1);
         }
         self.flights.try_remove(key)
+    }
+
+    /// Whether one of these fetches is from this address, where fetches are bounded.
+    pub(crate) fn asks(&self, address: SocketAddr) -> bool {
+        self.permits.iter().any(|held| held.gate.is_of(address))
+    }
+
+    /// Holds a fetch back until another one has ended.
+    pub(crate) fn hold_back(&mut self, url: PageUrl) -> Result<(), Lost> {
+        match self.held_back.push_back(url) {
+            Ok(()) => Ok(()),
+            Err(_) => Err(Lost::NoMemory),
+        }
+    }
+
+    /// A fetch that was held back, if one has ended since, so that it may be let through. Once none is left in flight
+    /// each is looked at.
+    pub(crate) fn released(&mut self) -> Option<PageUrl> {
+        if self.freed == 0 && !self.flights.is_empty() {
+            return None;
+        }
+        self.freed = self.freed.saturating_sub(1);
+        self.held_back.pop_front()
     }
 
     /// Gives the fetch of a key its turn, if it is there.
@@ -159,6 +191,8 @@ impl FetchesInFlight {
             permits,
             due: _,
             answers: _,
+            held_back: _,
+            freed: _,
         } = self;
         permits.destroy_empty();
         poller

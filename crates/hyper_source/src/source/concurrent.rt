@@ -17,6 +17,7 @@ use crate::source::HyperSource;
 use crate::stream_signals::StreamSignals;
 use edge_types::{Answer, NoMemory, PageUrl};
 use fetch_workers::ConcurrentSource;
+use origin_health::Leave;
 use std::alloc::{AllocGlobal, Global};
 use std::net::{Net, SocketAddr, TcpStream};
 use std::random::RandomSource;
@@ -24,14 +25,15 @@ use std::sync::{Arc, Wait};
 use std::time::Clock;
 
 impl HyperSource {
-    // Begins a fetch, if the URL's origin may be asked; gives its key.
+    // Begins a fetch, if the URL's origin may be asked; gives its key. One that is too many, while others of the same
+    // thread are asked there, is held back until one of them has ended: they would make a page fail by itself.
     fn departed<R>(
         &self,
         rt: &R,
         alloc: Global,
         in_flight: &mut FetchesInFlight,
         url: PageUrl,
-    ) -> Result<usize, Lost>
+    ) -> Result<Option<usize>, Lost>
     where
         R: Wait + Net<Stream = TcpStream> + Clock + RandomSource + AllocGlobal + Clone + Drop,
     {
@@ -43,12 +45,17 @@ impl HyperSource {
         };
         let Some(gate) = gate_of(self.gates.as_slice(), address) else {
             let flight = self.flight(rt, alloc, url, address, None)?;
-            return in_flight.admit(flight);
+            return Ok(Some(in_flight.admit(flight)?));
         };
         let gate = gate.share()?;
         let reach = Reach::new(alloc)?;
-        let Some(permit) = gate.permit(rt) else {
-            return Err(Lost::Fault);
+        let permit = match gate.leave(rt) {
+            Leave::Granted(permit) => permit,
+            Leave::TooMany if in_flight.asks(address) => {
+                in_flight.hold_back(url)?;
+                return Ok(None);
+            }
+            Leave::TooMany | Leave::Rests => return Err(Lost::Fault),
         };
         let admitted = match self.flight(rt, alloc, url, address, Some(reach)) {
             Ok(flight) => in_flight.admit(flight),
@@ -59,7 +66,7 @@ impl HyperSource {
             Ok(key) => in_flight.hold(rt, HeldPermit { key, gate, permit })?,
             Err(_) => gate.ended(rt, permit, end),
         }
-        admitted
+        Ok(Some(admitted?))
     }
 
     // Whether the fetches have what they wait in, which the first one takes. Refused where descriptors run out.
@@ -222,7 +229,8 @@ where
     ) -> Result<(), NoMemory> {
         in_flight.reserve()?;
         let begun = match self.departed(rt, alloc, in_flight, url.share()?) {
-            Ok(key) => self.turned(rt, alloc, in_flight, key)?,
+            Ok(Some(key)) => self.turned(rt, alloc, in_flight, key)?,
+            Ok(None) => None,
             Err(lost) => {
                 let answer = answered(alloc, url, device_of(&self.name), Err(lost))?;
                 Some(Arc::new(alloc, answer)?)
@@ -243,6 +251,10 @@ where
         for _ in rt.forever() {
             if let Some(answer) = in_flight.answers.pop_front() {
                 return Ok(Some(answer));
+            }
+            if let Some(url) = in_flight.released() {
+                self.begin(rt, alloc, in_flight, &url)?;
+                continue;
             }
             if in_flight.flights.is_empty() {
                 return Ok(None);
