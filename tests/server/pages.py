@@ -94,8 +94,8 @@ def wires_of(answers, kept=""):
     return texts
 
 
-def row_is_served(edge, origin, head, name, texts, wanted):
-    """Whether a page's row is what the client gets. The origin is asked for no URL twice; which it was asked for is returned."""
+def row_is_right(edge, origin, head, name, texts, wanted):
+    """Whether a page's row is what the client gets."""
     target = "/p?" + head["query"] if "query" in head else "/p"
     origin.texts = dict(texts)
     if "/p" in texts:
@@ -107,6 +107,11 @@ def row_is_served(edge, origin, head, name, texts, wanted):
     if wanted.startswith("fault"):
         wanted = "502 text/plain The page could not be assembled.\n"
     same(name, wanted, came)
+
+
+def row_is_served(edge, origin, head, name, texts, wanted):
+    """The same, and the origin is asked for no URL twice; which it was asked for is returned."""
+    row_is_right(edge, origin, head, name, texts, wanted)
     asked = origin.asked()
     same("%s: each URL is asked once" % name, len(set(asked)), len(asked))
     return asked
@@ -121,12 +126,13 @@ def pages_are_the_same_whoever_fetches():
         for workers, ahead in itertools.product((1, 2, 4, 16), (0, 1, 16, 256)):
             words = ["--levels", levels, "--workers", str(workers), "--ahead", str(ahead), "--threads", "1"]
             with Wires({}) as origin, before(origin, *words, "--log", "--accept", str(len(these))) as edge:
-                asked = []
+                asked, answers = [], []
                 for file, head, name, given, wanted in these:
                     told_of = "%s of %s, by %s" % (name, file, " ".join(words))
                     asked.append(len(row_is_served(edge, origin, head, told_of, wires_of(module.answers_of(given)), wanted)))
+                    # The line may come after the response.
+                    answers.append(int(edge.process.stderr.readline().split()[5]))
                 same("exit status", 0, edge.ends())
-                answers = [int(line.split(" ")[5]) for line in edge.end().decode().splitlines()]
                 same("answers in the log, by %s" % " ".join(words), asked, answers)
 
 
