@@ -28,7 +28,7 @@ pub use octets::Octets;
 pub use outcome::{Outcome, PageFault};
 pub use page_body::PageBody;
 pub use page_url::{MAX_TEXT, MAX_URL, PageUrl};
-pub use request::{Request, query_of};
+pub use request::{Request, RequestField, SaysFields, query_of};
 pub use shared_answer::SharedAnswer;
 pub use shared_bytes::SharedBytes;
 pub use table::{InsertFault, Table};

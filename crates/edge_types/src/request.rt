@@ -1,14 +1,85 @@
 //! A reader's request, as far as templates can ask for it.
 
-ghost use Rattle.std.specs.Prelude.{◌≡◌, IfOk};
+ghost use Rattle.std.specs.Prelude.{◌≡◌, ℕ, List, Some, slice_get, IfOk};
+ghost use Rattle.edge_types.specs.Request.{empty_request, field_of, heading_word, line_name, place_of, request_fields, request_saying};
 
 use crate::halves::find_byte;
 use crate::no_memory::NoMemory;
 use crate::octets::Octets;
 use std::alloc::Global;
 
+/// A header field of a reader's request that templates can ask for.
+#[derive(Clone, Copy, Debug, Drop, PartialEq, Eq)]
+pub enum RequestField {
+    Host,
+    Cookie,
+    Referer,
+    UserAgent,
+    AcceptLanguage,
+}
+
+impl RequestField {
+    /// All of them, in the order in which a case text has their lines.
+    pub const ALL: [RequestField; 5] = [
+        RequestField::Host,
+        RequestField::Cookie,
+        RequestField::Referer,
+        RequestField::UserAgent,
+        RequestField::AcceptLanguage,
+    ];
+
+    /// Its place in `ALL`. Takes no memory.
+    pub fn place(self) -> usize
+        ensures place { result ≡ place_of self }
+        ensures there { slice_get request_fields result ≡ Some self }
+    {
+        self as usize
+    }
+
+    /// The name of its lines in a request's head, in lower case. Takes no memory.
+    ///
+    /// Source: RFC 9110; of `Cookie` RFC 6265.
+    pub fn line_name(self) -> &'static [u8]
+        ensures { result.now ≡ line_name self }
+    {
+        match self {
+            RequestField::Host => b"host".as_slice(),
+            RequestField::Cookie => b"cookie".as_slice(),
+            RequestField::Referer => b"referer".as_slice(),
+            RequestField::UserAgent => b"user-agent".as_slice(),
+            RequestField::AcceptLanguage => b"accept-language".as_slice(),
+        }
+    }
+
+    /// The word at the front of its line in a case text. Takes no memory.
+    ///
+    /// Our profile.
+    pub fn heading_word(self) -> &'static [u8]
+        ensures { result.now ≡ heading_word self }
+    {
+        match self {
+            RequestField::Host => b"host ".as_slice(),
+            RequestField::Cookie => b"cookie ".as_slice(),
+            RequestField::Referer => b"referer ".as_slice(),
+            RequestField::UserAgent => b"agent ".as_slice(),
+            RequestField::AcceptLanguage => b"language ".as_slice(),
+        }
+    }
+}
+
+/// What says the value of each field of a request, such as the head of an HTTP request.
+pub trait SaysFields {
+    ghost use Rattle.edge_types.specs.declared.request.RequestField.{RequestField};
+
+    ghost says: { Self → RequestField → List ℕ };
+
+    /// Copies the value of a field; an absent one is empty.
+    fn said(&self, alloc: Global, field: RequestField) -> Result<Octets, NoMemory>
+        ensures { IfOk result (λ value. value ≡ says self.now field) };
+}
+
 /// The fields of a reader's request; an absent one is empty.
-#[derive(Drop)]
+#[derive(Drop, PartialEq, Eq)]
 pub struct Request {
     /// The `Host` field.
     pub host: Octets,
@@ -25,8 +96,6 @@ pub struct Request {
 }
 
 impl Request {
-    ghost use Rattle.edge_types.specs.Query.{empty_request};
-
     /// A request without fields and without a query. Takes no memory.
     pub fn empty(alloc: Global) -> Request
         ensures { result ≡ empty_request }
@@ -41,18 +110,50 @@ impl Request {
         }
     }
 
+    /// The request that a source says, with this query.
+    pub fn said_by<S: SaysFields>(
+        alloc: Global,
+        source: &S,
+        query: &[u8],
+    ) -> Result<Request, NoMemory>
+        ensures { IfOk result (λ request. request ≡ request_saying (S.says source.now) query.now) }
+    {
+        Ok(Request {
+            host: source.said(alloc, RequestField::Host)?,
+            cookie: source.said(alloc, RequestField::Cookie)?,
+            referer: source.said(alloc, RequestField::Referer)?,
+            user_agent: source.said(alloc, RequestField::UserAgent)?,
+            accept_language: source.said(alloc, RequestField::AcceptLanguage)?,
+            query: Octets::copy_of(alloc, query)?,
+        })
+    }
+
+    /// Lends the value of a field. Takes no memory.
+    pub fn field(&self, field: RequestField) -> &Octets
+        ensures { result.now ≡ field_of self.now field }
+    {
+        match field {
+            RequestField::Host => &self.host,
+            RequestField::Cookie => &self.cookie,
+            RequestField::Referer => &self.referer,
+            RequestField::UserAgent => &self.user_agent,
+            RequestField::AcceptLanguage => &self.accept_language,
+        }
+    }
+
     /// Copies every field.
     pub fn copy(&self, alloc: Global) -> Result<Request, NoMemory>
         ensures { IfOk result (λ copy. copy ≡ self.now) }
     {
-        Ok(Request {
-            host: self.host.copy(alloc)?,
-            cookie: self.cookie.copy(alloc)?,
-            referer: self.referer.copy(alloc)?,
-            user_agent: self.user_agent.copy(alloc)?,
-            accept_language: self.accept_language.copy(alloc)?,
-            query: self.query.copy(alloc)?,
-        })
+        Request::said_by(alloc, self, self.query.as_bytes())
+    }
+}
+
+impl SaysFields for Request {
+    ghost says = { field_of };
+
+    fn said(&self, alloc: Global, field: RequestField) -> Result<Octets, NoMemory> {
+        self.field(field).copy(alloc)
     }
 }
 
