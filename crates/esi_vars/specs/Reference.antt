@@ -4,6 +4,8 @@ use Rattle.std.specs.Prelude.{◌≡◌, ◌⊎◌, ℕ, ◌<◌, Bool, not, ◌
 use Rattle.std.specs.Str.{byte}
 use Rattle.std.specs.List.{AllPass}
 use Rattle.std.specs.Char.{is_ascii_alphanumeric, is_ascii_digit, char_set_contains}
+use Rattle.edge_types.specs.declared.request.RequestField.{RequestField}
+use Rattle.edge_types.specs.declared.request.RequestField.TheVariants as field
 use Rattle.edge_types.specs.WhiteSpace.{is_ws}
 use Rattle.esi_vars.specs.declared.reference.Variable.{Variable}
 use Rattle.esi_vars.specs.declared.reference.Variable.TheVariants.{HttpAcceptLanguage, HttpCookie, HttpHost, HttpReferer, HttpUserAgent, QueryString, Unknown}
@@ -48,6 +50,20 @@ variable_of name =
     else (if bytes_eq name (codes "HTTP_USER_AGENT") then HttpUserAgent
     else (if bytes_eq name (codes "QUERY_STRING") then QueryString
     else Unknown name)))))
+
+-- the header field that a variable asks for, if it asks for one
+abbrev pub field_asked : Variable → Option RequestField
+field_asked HttpAcceptLanguage = Some field.AcceptLanguage
+field_asked HttpCookie = Some field.Cookie
+field_asked HttpHost = Some field.Host
+field_asked HttpReferer = Some field.Referer
+field_asked HttpUserAgent = Some field.UserAgent
+field_asked QueryString = None
+field_asked (Unknown name) = None
+
+-- the names of all variables, as a message lists them
+abbrev pub variable_names : List ℕ
+variable_names = codes "HTTP_ACCEPT_LANGUAGE, HTTP_COOKIE, HTTP_HOST, HTTP_REFERER, HTTP_USER_AGENT and QUERY_STRING"
 
 -- one byte or more, each of which passes
 abbrev pub IsRun : (ℕ → Bool) → List ℕ → Type 0

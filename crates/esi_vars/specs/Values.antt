@@ -3,34 +3,35 @@
 use Rattle.std.specs.Prelude.{ℕ, nat_le, List, [], ◌∷◌, length, Option, Some, None, if◌then◌else◌}
 use Rattle.std.specs.List.{flat_map}
 use Rattle.edge_types.specs.declared.request.Request.{Request}
+use Rattle.edge_types.specs.declared.request.RequestField.{RequestField}
+use Rattle.edge_types.specs.Request.{field_of}
 use Rattle.esi_vars.specs.declared.reference.Variable.{Variable}
-use Rattle.esi_vars.specs.declared.reference.Variable.TheVariants.{HttpAcceptLanguage, HttpCookie, HttpHost, HttpReferer, HttpUserAgent, QueryString, Unknown}
+use Rattle.esi_vars.specs.declared.reference.Variable.TheVariants.{HttpAcceptLanguage, HttpCookie, HttpUserAgent, QueryString}
 use Rattle.esi_vars.specs.declared.reference.Reference.{Reference}
 use Rattle.esi_vars.specs.declared.part.Part.{Part}
 use Rattle.esi_vars.specs.declared.part.Part.TheVariants as part
+use Rattle.esi_vars.specs.Reference.{field_asked}
 use Rattle.esi_vars.specs.Field.{cookie_value, query_value, language_value}
 use Rattle.esi_vars.specs.Agent.{agent_value}
 use Rattle.esi_vars.specs.Parts.{places_of}
 
+-- what the request says of a field; nothing if none is asked for
+abbrev pub field_value : Request → Option RequestField → List ℕ
+field_value request (Some field) = field_of request field
+field_value request None = []
+
 -- a variable without a key: the whole field
 abbrev pub whole_value : Request → Variable → List ℕ
-whole_value request HttpAcceptLanguage = request.accept_language
-whole_value request HttpCookie = request.cookie
-whole_value request HttpHost = request.host
-whole_value request HttpReferer = request.referer
-whole_value request HttpUserAgent = request.user_agent
 whole_value request QueryString = request.query
-whole_value request (Unknown name) = []
+whole_value request variable = field_value request (field_asked variable)
 
--- a variable with a key: the part of the field
+-- a variable with a key: the part of the field; only these four have parts
 abbrev pub keyed_value : Request → Variable → List ℕ → List ℕ
 keyed_value request HttpAcceptLanguage key = language_value key request.accept_language
 keyed_value request HttpCookie key = cookie_value key request.cookie
-keyed_value request HttpHost key = []
-keyed_value request HttpReferer key = []
 keyed_value request HttpUserAgent key = agent_value key request.user_agent
 keyed_value request QueryString key = query_value key request.query
-keyed_value request (Unknown name) key = []
+keyed_value request _ key = []
 
 -- what the request says, before any default is considered
 abbrev pub raw_value : Request → Variable → Option (List ℕ) → List ℕ

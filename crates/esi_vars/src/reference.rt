@@ -2,12 +2,12 @@
 
 ghost use Rattle.std.specs.Prelude.{◌≡◌, IfOk};
 ghost use Rattle.std.specs.Option.{option_copied};
-ghost use Rattle.esi_vars.specs.Reference.{variable_of};
+ghost use Rattle.esi_vars.specs.Reference.{variable_of, field_asked, variable_names};
 ghost use Rattle.esi_vars.specs.Reading.{reference_at, reference_of};
 ghost use Rattle.esi_vars.specs.Shown.{shown_reference, shown_written};
 
 use crate::written::{Written, written_at};
-use edge_types::{NoMemory, Octets};
+use edge_types::{NoMemory, Octets, RequestField};
 use std::alloc::Global;
 
 /// What a reference asks for in the request.
@@ -27,6 +27,31 @@ pub enum Variable {
     QueryString,
     /// A variable with another name, which has no value.
     Unknown(Octets),
+}
+
+impl Variable {
+    /// The header field that it asks for, if it asks for one. Takes no memory.
+    ///
+    /// Source: ESI Language Specification 1.0, "Variables".
+    pub fn field(&self) -> Option<RequestField>
+        ensures { result ≡ field_asked self.now }
+    {
+        match self {
+            Variable::HttpAcceptLanguage => Some(RequestField::AcceptLanguage),
+            Variable::HttpCookie => Some(RequestField::Cookie),
+            Variable::HttpHost => Some(RequestField::Host),
+            Variable::HttpReferer => Some(RequestField::Referer),
+            Variable::HttpUserAgent => Some(RequestField::UserAgent),
+            Variable::QueryString | Variable::Unknown(_) => None,
+        }
+    }
+
+    /// The names of all variables, as a message lists them. Takes no memory.
+    pub fn names() -> &'static str
+        ensures { result.now ≡ variable_names }
+    {
+        "HTTP_ACCEPT_LANGUAGE, HTTP_COOKIE, HTTP_HOST, HTTP_REFERER, HTTP_USER_AGENT and QUERY_STRING"
+    }
 }
 
 /// A reference to a variable: `$(NAME)`, `$(NAME{key})`, `$(NAME|default)` or `$(NAME{key}|default)`.

@@ -1,14 +1,14 @@
 //! The values of references for a request.
 
 ghost use Rattle.std.specs.Prelude.{◌≡◌};
-ghost use Rattle.esi_vars.specs.Values.{value_of, raw_value, whole_value, keyed_value};
+ghost use Rattle.esi_vars.specs.Values.{value_of, raw_value, whole_value, field_value, keyed_value};
 
 use crate::agent::agent_value;
 use crate::cookie::cookie_value;
 use crate::language::language_value;
 use crate::query::query_value;
 use crate::reference::{Reference, Variable};
-use edge_types::{Octets, Request};
+use edge_types::{Octets, Request, RequestField};
 
 /// The bytes that a reference denotes: what the request says, else the default, else nothing.
 ///
@@ -44,13 +44,18 @@ fn whole_value<'a>(request: &'a Request, variable: &Variable) -> &'a [u8]
     ensures { result.now ≡ whole_value request.now variable.now }
 {
     match variable {
-        Variable::HttpAcceptLanguage => request.accept_language.as_bytes(),
-        Variable::HttpCookie => request.cookie.as_bytes(),
-        Variable::HttpHost => request.host.as_bytes(),
-        Variable::HttpReferer => request.referer.as_bytes(),
-        Variable::HttpUserAgent => request.user_agent.as_bytes(),
         Variable::QueryString => request.query.as_bytes(),
-        Variable::Unknown(_) => b"",
+        _ => field_value(request, variable.field()),
+    }
+}
+
+// What the request says of a field; nothing if none is asked for.
+fn field_value(request: &Request, field: Option<RequestField>) -> &[u8]
+    ensures { result.now ≡ field_value request.now field }
+{
+    match field {
+        Some(field) => request.field(field).as_bytes(),
+        None => b"",
     }
 }
 
@@ -63,6 +68,7 @@ fn keyed_value<'a>(request: &'a Request, variable: &Variable, key: &[u8]) -> &'a
         Variable::HttpCookie => cookie_value(key, request.cookie.as_bytes()),
         Variable::HttpUserAgent => agent_value(key, request.user_agent.as_bytes()),
         Variable::QueryString => query_value(key, request.query.as_bytes()),
-        Variable::HttpHost | Variable::HttpReferer | Variable::Unknown(_) => b"",
+        // No other variable has parts.
+        _ => b"",
     }
 }
