@@ -5,7 +5,10 @@ use Rattle.std.specs.List.{join_by, list_all, list_any}
 use Rattle.std.specs.Char.{is_ascii_alphanumeric}
 use Rattle.edge_types.specs.Asked.{asked}
 use Rattle.edge_types.specs.Query.{query_of}
+use Rattle.edge_types.specs.Request.{line_name, request_saying}
 use Rattle.edge_types.specs.declared.request.Request.{Request}
+use Rattle.edge_types.specs.declared.request.RequestField.{RequestField}
+use Rattle.edge_types.specs.declared.request.RequestField.TheVariants as header
 use Rattle.page_http.specs.declared.field.Field.{Field}
 
 -- the method that is served
@@ -43,16 +46,15 @@ abbrev pub absolute_form : List ℕ → List ℕ → List ℕ
 absolute_form host [] = []
 absolute_form host (first ∷ rest) = if first == byte "/" then codes "http://" ++ host ++ first ∷ rest else first ∷ rest
 
+-- what the head says of a field: the host, the lines of `Cookie` as one, and of any other the first line
+abbrev pub field_said : List ℕ → List Field → RequestField → List ℕ
+field_said host fields header.Host = host
+field_said host fields header.Cookie = cookies_of fields
+field_said host fields other = first_of (line_name other) fields
+
 -- what templates may ask for of a request
 abbrev pub said : List ℕ → List ℕ → List Field → Request
-said host target fields = record {
-  host = host;
-  cookie = cookies_of fields;
-  referer = first_of (codes "referer") fields;
-  user_agent = first_of (codes "user-agent") fields;
-  accept_language = first_of (codes "accept-language") fields;
-  query = query_of target;
-}
+said host target fields = request_saying (field_said host fields) (query_of target)
 
 -- the one `Host` is this one, and it has only bytes of a host (RFC 9112, section 3.2)
 pub record NamesHost (fields : List Field) (host : List ℕ) : Type 0 where

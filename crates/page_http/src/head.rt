@@ -7,7 +7,7 @@ ghost use Rattle.page_http.specs.declared.head.HeadFault.TheVariants as fault;
 ghost use Rattle.page_http.specs.Head as spec;
 
 use crate::field::{Field, first_value, next_value};
-use edge_types::{NoMemory, Octets, PageUrl, Request, query_of};
+use edge_types::{NoMemory, Octets, PageUrl, Request, RequestField, SaysFields, query_of};
 use std::alloc::Global;
 use thiserror::Error;
 
@@ -82,6 +82,28 @@ fn is_served(method: &[u8]) -> bool
     method == b"GET".as_slice()
 }
 
+// The lines of a head, once its host is known.
+#[derive(Clone, Copy, Drop)]
+struct Lines<'a> {
+    host: &'a [u8],
+    fields: &'a [Field<'a>],
+}
+
+impl SaysFields for Lines<'_> {
+    ghost use Rattle.page_http.specs.Head.{field_said};
+
+    ghost says = { λ lines field. field_said lines.host.now lines.fields.now field };
+
+    fn said(&self, alloc: Global, field: RequestField) -> Result<Octets, NoMemory> {
+        match field {
+            RequestField::Host => Octets::copy_of(alloc, self.host),
+            RequestField::Cookie => cookies_of(alloc, self.fields),
+            // Of any other the first line counts.
+            _ => Octets::copy_of(alloc, first_value(field.line_name(), self.fields)),
+        }
+    }
+}
+
 // The fields of a request, once its host is known.
 fn request_of(
     alloc: Global,
@@ -91,14 +113,7 @@ fn request_of(
 ) -> Result<Request, NoMemory>
     ensures { IfOk result (λ request. request ≡ spec.said host.now target.now fields.now) }
 {
-    Ok(Request {
-        host: Octets::copy_of(alloc, host)?,
-        cookie: cookies_of(alloc, fields)?,
-        referer: Octets::copy_of(alloc, first_value(b"referer", fields))?,
-        user_agent: Octets::copy_of(alloc, first_value(b"user-agent", fields))?,
-        accept_language: Octets::copy_of(alloc, first_value(b"accept-language", fields))?,
-        query: Octets::copy_of(alloc, query_of(target))?,
-    })
+    Request::said_by(alloc, &Lines { host, fields }, query_of(target))
 }
 
 // The value of the `Host` field, if there is exactly one.
