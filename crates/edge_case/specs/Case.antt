@@ -1,6 +1,8 @@
 -- What a case text denotes: a page's URL, a reader's request and the answers of origins.
-use Rattle.std.specs.Prelude.{◌≡◌, ℕ, ◌≤◌, List, [], ◌∷◌, length, unwrap_or, Option, Some, None}
+use Rattle.std.specs.Prelude.{◌≡◌, ℕ, ◌≤◌, List, [], ◌∷◌, length, slice_get, unwrap_or, Option, Some, None}
 use Rattle.edge_types.specs.declared.request.Request.{Request}
+use Rattle.edge_types.specs.declared.request.RequestField.{RequestField}
+use Rattle.edge_types.specs.Request.{place_of, request_saying}
 use Rattle.edge_types.specs.Asked.{asked}
 use Rattle.edge_types.specs.Answered.{Answered, IsAcceptable, failed, got}
 use Rattle.edge_types.specs.Query.{query_of}
@@ -15,16 +17,13 @@ use Rattle.edge_case.specs.Document.{Heading, Entry, Failed, Got, Document, IsDo
 abbrev pub value_or_empty : Option (List ℕ) → List ℕ
 value_or_empty value = unwrap_or value []
 
+-- the text of a field's line, empty if the line is absent
+abbrev pub value_of : List (Option (List ℕ)) → RequestField → List ℕ
+value_of values field = value_or_empty (unwrap_or (slice_get values (place_of field)) None)
+
 -- the request: its fields, and the query of the page's URL as it is written
 abbrev pub request_of : Heading → Request
-request_of h = record {
-  host = value_or_empty h.host;
-  cookie = value_or_empty h.cookie;
-  referer = value_or_empty h.referer;
-  user_agent = value_or_empty h.agent;
-  accept_language = value_or_empty h.language;
-  query = query_of h.page;
-}
+request_of h = request_saying (value_of h.values) (query_of h.page)
 
 -- the device for which controls are read
 abbrev pub device : List ℕ

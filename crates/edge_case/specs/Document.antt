@@ -1,6 +1,7 @@
 -- A case text by its parts, as they are written.
-use Rattle.std.specs.Prelude.{◌≢◌, ℕ, List, [], ◌∷◌, ◌++◌, length, decimal, codes, Option, Some, None}
+use Rattle.std.specs.Prelude.{◌≡◌, ◌≢◌, ℕ, List, [], ◌∷◌, ◌++◌, length, map, decimal, codes, Option, Some, None}
 use Rattle.std.specs.List.{All, AllByRecursion}
+use Rattle.edge_types.specs.Request.{request_fields, heading_word}
 
 -- the byte between the parts of a line
 abbrev pub space : ℕ
@@ -10,14 +11,15 @@ space = 32
 abbrev pub line_feed : ℕ
 line_feed = 10
 
--- the lines before the answers; an absent line says nothing
+-- the lines before the answers: the page's, and one for each field of a request, in their order; an absent line says
+-- nothing
 pub record Heading : Type 0 where
   pub page : List ℕ
-  pub host : Option (List ℕ)
-  pub cookie : Option (List ℕ)
-  pub referer : Option (List ℕ)
-  pub agent : Option (List ℕ)
-  pub language : Option (List ℕ)
+  pub values : List (Option (List ℕ))
+
+-- the words at the front of the fields' lines
+abbrev pub field_words : List (List ℕ)
+field_words = map heading_word request_fields
 
 -- an answer as it is written: a failure, or what was fetched
 pub data Entry : Type 0 where
@@ -55,15 +57,15 @@ abbrev pub entries : List Entry → List ℕ → List ℕ
 entries [] text = text
 entries (e ∷ es) text = entry e (entries es text)
 
+-- such a line for each word that has a value, in order
+abbrev pub fields : List (List ℕ) → List (Option (List ℕ)) → List ℕ → List ℕ
+fields [] values text = text
+fields (word ∷ words) [] text = text
+fields (word ∷ words) (value ∷ values) text = field word value (fields words values text)
+
 -- the lines before the answers, and the text that follows
 abbrev pub heading : Heading → List ℕ → List ℕ
-heading h text =
-    line (codes "page ") h.page
-    (field (codes "host ") h.host
-    (field (codes "cookie ") h.cookie
-    (field (codes "referer ") h.referer
-    (field (codes "agent ") h.agent
-    (field (codes "language ") h.language text)))))
+heading h text = line (codes "page ") h.page (fields field_words h.values text)
 
 -- the text that a document is written as
 abbrev pub spelling : Document → List ℕ
@@ -79,11 +81,8 @@ IsField (Some value) = IsValue value
 
 pub record IsHeading (h : Heading) : Type 0 where
   pub page : IsValue h.page
-  pub host : IsField h.host
-  pub cookie : IsField h.cookie
-  pub referer : IsField h.referer
-  pub agent : IsField h.agent
-  pub language : IsField h.language
+  pub count : length h.values ≡ length request_fields
+  pub values : AllByRecursion IsField h.values
 
 abbrev pub IsEntry : Entry → Type 0
 IsEntry (Failed url) = IsValue url

@@ -1,5 +1,5 @@
 -- Reading a case text from the left.
-use Rattle.std.specs.Prelude.{ℕ, zero, suc, Bool, false, not, ◌&&◌, ◌==◌, nat_lt, nat_le, List, [], ◌∷◌, ◌++◌, length, take, drop, codes, bytes_eq, Option, Some, None, is_some, option_and_then, if◌then◌else◌}
+use Rattle.std.specs.Prelude.{ℕ, zero, suc, Bool, false, not, ◌&&◌, ◌==◌, nat_lt, nat_le, List, [], ◌∷◌, ◌++◌, length, map, take, drop, codes, bytes_eq, Option, Some, None, is_some, option_and_then, if◌then◌else◌}
 use Rattle.std.specs.Option.{option_map, option_or, option_copied}
 use Rattle.std.specs.Borrow.{Bor}
 use Rattle.std.specs.List.{list_all}
@@ -18,7 +18,7 @@ use Rattle.edge_case.specs.declared.case_text.Case.{Case}
 use Rattle.edge_case.specs.declared.heading.Heading.{Heading as LentHeading}
 use Rattle.edge_case.specs.declared.entry.Entry.{Entry as LentEntry}
 use Rattle.edge_case.specs.declared.entry.Entry.TheVariants as lent
-use Rattle.edge_case.specs.Document.{space, line_feed, Heading, Entry, Failed, Got}
+use Rattle.edge_case.specs.Document.{space, line_feed, Heading, field_words, Entry, Failed, Got}
 use Rattle.edge_case.specs.Case.{request_of, value_or_empty, device}
 
 infixl 10 ◌>>=◌
@@ -47,16 +47,20 @@ field_from text (Some value) = option_map some_field (around line_feed value)
 unfoldable pub field_at : List ℕ → List ℕ → Option (Option (List ℕ) × List ℕ)
 field_at word text = field_from text (after_word word text)
 
+-- the rests of lines that begin with these words, in order, each of which may be absent, and what follows them
+abbrev pub fields_at : List (List ℕ) → List ℕ → Option (List (Option (List ℕ)) × List ℕ)
+fields_at [] text = Some ([], text)
+fields_at (word ∷ words) text = do
+  value ← field_at word text
+  others ← fields_at words value.1
+  Some (value.0 ∷ others.0, others.1)
+
 -- the lines before the answers, and what follows them
 unfoldable pub heading_at : List ℕ → Option (Heading × List ℕ)
 heading_at text = do
   page ← line_at (codes "page ") text
-  host ← field_at (codes "host ") page.1
-  cookie ← field_at (codes "cookie ") host.1
-  referer ← field_at (codes "referer ") cookie.1
-  agent ← field_at (codes "agent ") referer.1
-  language ← field_at (codes "language ") agent.1
-  Some (record { page = page.0; host = host.0; cookie = cookie.0; referer = referer.0; agent = agent.0; language = language.0 }, language.1)
+  values ← fields_at field_words page.1
+  Some (record { page = page.0; values = values.0 }, values.1)
 
 -- a zero before another digit
 abbrev pub has_needless_zero : List ℕ → Bool
@@ -173,8 +177,11 @@ lent_field field = (option_copied field.0, field.1.now)
 abbrev pub lent_got_line : ℕ × ℕ × Bor (List ℕ) → ℕ × ℕ × List ℕ
 lent_got_line line = (line.0, line.1, line.2.now)
 
+abbrev pub lent_values : List (Option (Bor (List ℕ))) × Bor (List ℕ) → List (Option (List ℕ)) × List ℕ
+lent_values values = (map option_copied values.0, values.1.now)
+
 abbrev pub shown_heading : LentHeading → Heading
-shown_heading h = record { page = h.page.now; host = option_copied h.host; cookie = option_copied h.cookie; referer = option_copied h.referer; agent = option_copied h.agent; language = option_copied h.language }
+shown_heading h = record { page = h.page.now; values = map option_copied h.values }
 
 abbrev pub lent_heading : LentHeading × Bor (List ℕ) → Heading × List ℕ
 lent_heading heading = (shown_heading heading.0, heading.1.now)

@@ -1,23 +1,38 @@
 //! The lines before the answers.
 ghost use Rattle.std.specs.Prelude.{◌≡◌, IfOk};
 ghost use Rattle.std.specs.Option.{option_map};
-ghost use Rattle.edge_case.specs.Case.{value_or_empty, request_of};
-ghost use Rattle.edge_case.specs.Reading.{heading_at, lent_heading, shown_heading};
+ghost use Rattle.edge_case.specs.Document.{field_words};
+ghost use Rattle.edge_case.specs.Case.{request_of};
+ghost use Rattle.edge_case.specs.Reading.{fields_at, heading_at, lent_heading, lent_values, shown_heading};
 
 use crate::bytes::lent_or_empty;
 use crate::line::{field_at, line_at};
-use edge_types::{NoMemory, Octets, Request, query_of};
+use edge_types::{NoMemory, Octets, Request, RequestField, SaysFields, query_of};
 use std::alloc::Global;
+
+// How many fields a request has.
+const FIELDS: usize = RequestField::ALL.len();
 
 /// The lines before the answers, without their leading words.
 #[derive(Clone, Copy, Drop)]
 pub(crate) struct Heading<'a> {
     pub(crate) page: &'a [u8],
-    pub(crate) host: Option<&'a [u8]>,
-    pub(crate) cookie: Option<&'a [u8]>,
-    pub(crate) referer: Option<&'a [u8]>,
-    pub(crate) agent: Option<&'a [u8]>,
-    pub(crate) language: Option<&'a [u8]>,
+    /// Of each field, in the order of `RequestField::ALL`.
+    pub(crate) values: [Option<&'a [u8]>; FIELDS],
+}
+
+// The lines of the fields, and what follows them.
+fn fields_at(text: &[u8]) -> Option<([Option<&[u8]>; FIELDS], &[u8])>
+    ensures { option_map lent_values result ≡ fields_at field_words text.now }
+{
+    let mut values = [None; FIELDS];
+    let mut rest = text;
+    for (i, field) in RequestField::ALL.iter().enumerate() {
+        let (value, after) = field_at(field.heading_word(), rest)?;
+        values[i] = value;
+        rest = after;
+    }
+    Some((values, rest))
 }
 
 /// The lines before the answers, and what follows them.
@@ -26,20 +41,19 @@ pub(crate) fn heading_at(text: &[u8]) -> Option<(Heading<'_>, &[u8])>
     ensures { option_map lent_heading result ≡ heading_at text.now }
 {
     let (page, text) = line_at(b"page ", text)?;
-    let (host, text) = field_at(b"host ", text)?;
-    let (cookie, text) = field_at(b"cookie ", text)?;
-    let (referer, text) = field_at(b"referer ", text)?;
-    let (agent, text) = field_at(b"agent ", text)?;
-    let (language, text) = field_at(b"language ", text)?;
-    let heading = Heading {
-        page,
-        host,
-        cookie,
-        referer,
-        agent,
-        language,
-    };
-    Some((heading, text))
+    let (values, text) = fields_at(text)?;
+    Some((Heading { page, values }, text))
+}
+
+impl SaysFields for Heading<'_> {
+    ghost use Rattle.edge_case.specs.Case.{value_of};
+    ghost use Rattle.edge_case.specs.Reading.{shown_heading};
+
+    ghost says = { λ heading field. value_of (shown_heading heading).values field };
+
+    fn said(&self, alloc: Global, field: RequestField) -> Result<Octets, NoMemory> {
+        Octets::copy_of(alloc, lent_or_empty(self.values[field.place()]))
+    }
 }
 
 impl Heading<'_> {
@@ -47,13 +61,6 @@ impl Heading<'_> {
     pub(crate) fn request(&self, alloc: Global) -> Result<Request, NoMemory>
         ensures { IfOk result (λ request. request ≡ request_of (shown_heading self.now)) }
     {
-        Ok(Request {
-            host: Octets::copy_of(alloc, lent_or_empty(self.host))?,
-            cookie: Octets::copy_of(alloc, lent_or_empty(self.cookie))?,
-            referer: Octets::copy_of(alloc, lent_or_empty(self.referer))?,
-            user_agent: Octets::copy_of(alloc, lent_or_empty(self.agent))?,
-            accept_language: Octets::copy_of(alloc, lent_or_empty(self.language))?,
-            query: Octets::copy_of(alloc, query_of(self.page))?,
-        })
+        Request::said_by(alloc, self, query_of(self.page))
     }
 }
