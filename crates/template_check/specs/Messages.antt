@@ -11,6 +11,7 @@ use Rattle.esi_scanner.specs.declared.problem.Problem.TheVariants as problem
 use Rattle.esi_scanner.specs.declared.problem.Trouble.{Trouble}
 use Rattle.esi_scanner.specs.Bytes.{attribute_len}
 use Rattle.esi_scanner.specs.Names.{element_text, known_text}
+use Rattle.esi_vars.specs.Reference.{variable_names}
 use Rattle.expr_check.specs.declared.trouble.TestTrouble.{TestTrouble}
 use Rattle.expr_check.specs.Words.{words_of}
 use Rattle.template_check.specs.declared.checker.Fault.{Fault}
@@ -166,7 +167,7 @@ warning_words warning.EmptySource = codes "an empty `src` asks for this page its
 warning_words warning.SecureSource = codes "this can only fail: origins are asked by `http:` alone, so write a path or an `http:` URL"
 warning_words warning.EmptyText = codes "a comparison with `''` is always false: a reference alone asks whether it is empty"
 warning_words warning.IdleReference = codes "this reference is printed as it stands: it isn't between <esi:vars> and </esi:vars>"
-warning_words warning.UnknownVariable = codes "no variable has this name: there are HTTP_ACCEPT_LANGUAGE, HTTP_COOKIE, HTTP_HOST, HTTP_REFERER, HTTP_USER_AGENT and QUERY_STRING"
+warning_words warning.UnknownVariable = codes "no variable has this name: there are " ++ variable_names
 warning_words warning.NoReference = codes "this `$(` begins no reference: it stands as it is"
 warning_words warning.TagInText = codes "this is text and no tag: a tag begins with `<esi:`, in small letters and without spaces"
 warning_words warning.IdleName = codes "no include can ask for this inline: name it by a path, such as /box, or by an `http:` URL"

@@ -27,10 +27,9 @@ fn is_written(reference: &Reference) -> bool
     match &reference.variable {
         Variable::HttpCookie | Variable::QueryString => true,
         Variable::HttpUserAgent => is_written_agent(&reference.key),
-        Variable::HttpAcceptLanguage | Variable::HttpHost | Variable::HttpReferer => {
-            reference.key.is_none()
-        }
         Variable::Unknown(_) => false,
+        // Any other is a field, of which no part is bytes that a reader writes.
+        _ => reference.key.is_none(),
     }
 }
 

@@ -6,6 +6,7 @@ ghost use Rattle.template_check.specs.Messages.{warning_words};
 ghost use Rattle.template_check.specs.Warnings as spec;
 
 use esi_scanner::{Attribute, AttributeName, Attributes, ElementName, KnownAttribute, Tag};
+use esi_vars::Variable;
 use std::fmt;
 
 /// A likely mistake in a template that isn't a fault.
@@ -170,7 +171,11 @@ impl fmt::Display for Warning {
                 "this reference is printed as it stands: it isn't between <esi:vars> and </esi:vars>"
             }
             Warning::UnknownVariable => {
-                "no variable has this name: there are HTTP_ACCEPT_LANGUAGE, HTTP_COOKIE, HTTP_HOST, HTTP_REFERER, HTTP_USER_AGENT and QUERY_STRING"
+                return write!(
+                    f,
+                    "no variable has this name: there are {}",
+                    Variable::names()
+                );
             }
             Warning::NoReference => "this `$(` begins no reference: it stands as it is",
             Warning::TagInText => {
