@@ -19,7 +19,6 @@ use crate::crew::run_workers;
 use crate::fault::AssembleFault;
 use crate::gate::{Gate, OpenGate};
 use crate::log::{Own, answers_of, is_log_of};
-use crate::same::same_request;
 use crate::shared_desk::SharedDesk;
 use crate::source::Source;
 use edge_types::{Answer, NoMemory, Outcome, PageUrl, Request};
@@ -307,5 +306,5 @@ fn legal(page: &Page)
 fn is_asked_for(page: &Page, url: &PageUrl, request: &Request, levels: u8) -> bool
     ensures { IsTrue result → (page.now.url ≡ url.now) × (page.now.request ≡ request.now) × (page.now.levels ≡ levels) }
 {
-    page.url() == url && same_request(page.request(), request) && page.levels() == levels
+    page.url() == url && page.request() == request && page.levels() == levels
 }
