@@ -35,14 +35,14 @@ pub fn stored() -> Control {
     }
 }
 
-/// A request that has each field.
+/// A request with some fields and a query.
 pub fn request(alloc: Global) -> Option<Request> {
-    Some(Request {
-        host: Octets::copy_of(alloc, b"a.test").ok()?,
-        cookie: Octets::copy_of(alloc, b"c=1").ok()?,
-        referer: Octets::copy_of(alloc, b"r").ok()?,
-        user_agent: Octets::copy_of(alloc, b"u").ok()?,
-        accept_language: Octets::copy_of(alloc, b"l").ok()?,
-        query: Octets::copy_of(alloc, b"q=1").ok()?,
-    })
+    let mut request = Request::empty(alloc);
+    request.host = Octets::copy_of(alloc, b"a.test").ok()?;
+    request.cookie = Octets::copy_of(alloc, b"c=1").ok()?;
+    request.referer = Octets::copy_of(alloc, b"r").ok()?;
+    request.user_agent = Octets::copy_of(alloc, b"u").ok()?;
+    request.accept_language = Octets::copy_of(alloc, b"l").ok()?;
+    request.query = Octets::copy_of(alloc, b"q=1").ok()?;
+    Some(request)
 }

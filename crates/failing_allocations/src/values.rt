@@ -3,25 +3,21 @@
 use allocation_tools::printing::{answers, bytes, calls, number, out_of_memory, word};
 use allocation_tools::values::{answer, processed, request, url};
 use edge_types::{
-    Answer, Control, InsertFault, NoMemory, PageBody, PageUrl, Request, SharedAnswer, SharedBytes,
-    Table,
+    Answer, Control, InsertFault, NoMemory, PageBody, PageUrl, Request, RequestField, SharedAnswer,
+    SharedBytes, Table,
 };
 use std::sync::Arc;
 use surrogate_headers::{is_token, own_device};
 
-/// Prints the fields of a request.
+/// Prints the fields that a request has, and its query.
 pub fn print_request(rt: &HostRuntime, request: &Request) -> Option<()> {
-    for field in [
-        &request.host,
-        &request.cookie,
-        &request.referer,
-        &request.user_agent,
-        &request.accept_language,
-        &request.query,
-    ] {
-        bytes(rt, field.as_bytes())?;
+    for field in RequestField::ALL {
+        let value = request.field(field).as_bytes();
+        if !value.is_empty() {
+            bytes(rt, value)?;
+        }
     }
-    Some(())
+    bytes(rt, request.query.as_bytes())
 }
 
 pub fn copy_request(rt: &HostRuntime, name: &str) -> Option<()> {

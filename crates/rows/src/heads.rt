@@ -1,7 +1,7 @@
 //! Heads of requests.
 
 use crate::row::{Line, number, pair};
-use edge_types::{PageUrl, Request, around};
+use edge_types::{PageUrl, Request, RequestField, around};
 use page_http::Field;
 use std::alloc::Global;
 use std::str;
@@ -29,21 +29,18 @@ fn fields(alloc: Global, lines: &[u8]) -> Option<Vec<Field<'_>>> {
     Some(fields)
 }
 
-// The page that is asked for, and the host, the cookies, the referer, the agent, the language and the query, with a
-// bar after each.
+// The page that is asked for, and each field and the query, with a bar after each.
 fn push_asked(line: &mut Line, url: &PageUrl, request: &Request) {
-    for field in [
-        url.as_bytes(),
-        request.host.as_bytes(),
-        request.cookie.as_bytes(),
-        request.referer.as_bytes(),
-        request.user_agent.as_bytes(),
-        request.accept_language.as_bytes(),
-        request.query.as_bytes(),
-    ] {
-        line.show(field);
-        line.push("|");
+    push_part(line, url.as_bytes());
+    for field in RequestField::ALL {
+        push_part(line, request.field(field).as_bytes());
     }
+    push_part(line, request.query.as_bytes());
+}
+
+fn push_part(line: &mut Line, bytes: &[u8]) {
+    line.show(bytes);
+    line.push("|");
 }
 
 /// A row is an edge's name and, after a space, the lines of a head, with a bar before each.
