@@ -1,4 +1,4 @@
-use Rattle.std.proofs.Common.{◌≡◌, ℕ, ◌+◌, ◌<◌, List, ◌∷◌, length, map, take, drop, get_or, refl, sym, ◌∙◌, ap, Option, Some, None, arith}
+use Rattle.std.proofs.Common.{◌≡◌, ℕ, ◌+◌, ◌<◌, List, ◌∷◌, length, map, take, drop, get_or, refl, sym, ◌∙◌, ap, Option, arith}
 use Rattle.std.proofs.lemmas.List.{length-map, length-set}
 use Rattle.std.proofs.lemmas.Option.{slice_get-get_or}
 use Rattle.std.specs.Option.{option_copied, option_map}
@@ -36,8 +36,8 @@ loop-i-preserved c =
     let read = sym (ap (λ (w : List ℕ). field_at w rest) c.heading_word.ensures) ∙ sym c.field_at.ensures ∙ ap (option_map lent_field) c.in_ok-value.was in
     record {
       reads = ap (λ (vs : List (Option (List ℕ))). with_values vs (fields_at (drop (i + 1) field_words) after)) (values_to option_copied values i value within)
-      ∙ reads_on (take i (map option_copied values)) (drop (i + 1) field_words) (drop i field_words) _ rest after (option_copied value) (next i _ c.loop-i-test.true) read
-      ∙ c.loop-i.invariant.reads;
+          ∙ reads_on (take i (map option_copied values)) (drop (i + 1) field_words) (drop i field_words) _ rest after (option_copied value) (next i _ c.loop-i-test.true) read
+          ∙ c.loop-i.invariant.reads;
       count = length-set values i value ∙ c.loop-i.invariant.count;
     }
 

@@ -1,4 +1,4 @@
-use Rattle.std.proofs.Common.{ℕ, Option, List, None, map, slice_get, unwrap_or, sym, ap, ◌∙◌}
+use Rattle.std.proofs.Common.{ℕ, None, map, slice_get, unwrap_or, sym, ap, ◌∙◌}
 use Rattle.std.proofs.lemmas.Result.{IfOk-weaker}
 use Rattle.std.specs.Option.{option_copied}
 use Rattle.edge_case.specs.Case.{value_or_empty}
