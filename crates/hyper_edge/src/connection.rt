@@ -5,12 +5,12 @@ ghost use Rattle.std.specs.Prelude.{IsSomeAnd};
 use crate::date::DateClock;
 use crate::executor::Executor;
 use crate::handover::{Asked, Handover};
-use crate::pollable::Pollable;
 use crate::service::EdgeService;
 use crate::signals::{Pause, Signals};
 use futures::Future;
 use futures::task::{Context, Poll};
 use hyper::server::conn::http1::Builder;
+use polled_futures::Pollable;
 use std::sync::{Arc, Wait};
 use std::time::Clock;
 

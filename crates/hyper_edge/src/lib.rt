@@ -14,7 +14,6 @@ mod handover;
 mod journal;
 mod page_time;
 mod parking;
-mod pollable;
 mod responding;
 mod roster;
 mod runtime;

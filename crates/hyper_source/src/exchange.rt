@@ -4,7 +4,6 @@ ghost use Rattle.std.specs.Prelude.{IsSome, IfOk};
 ghost use Rattle.hyper_source.specs.Heads.{StaysOpen};
 
 use crate::gathered::{Lost, Rest};
-use crate::pollable::Pollable;
 use crate::polled_stream::PolledStream;
 use crate::round_trip::{Response, bare, ended};
 use crate::stream_signals::{Readiness, StreamSignals};
@@ -15,6 +14,7 @@ use http::Request;
 use http_body_util::Empty;
 use hyper::client;
 use hyper::client::conn::http1::{ResponseFuture, WithoutShutdown};
+use polled_futures::Pollable;
 use std::alloc::Global;
 use std::hash::RandomState;
 use std::net::TcpStream;

@@ -17,7 +17,6 @@ mod head;
 mod in_flight;
 mod origin;
 mod origin_stream;
-mod pollable;
 mod polled_stream;
 mod poller;
 mod pool;
