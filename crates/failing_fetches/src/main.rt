@@ -48,7 +48,7 @@ where
     match name {
         "assemble" => pages::assemble_page(rt, name),
         "assemble:cache" => pages::assemble_through_cache(rt, name),
-        "assemble_concurrently" => pages::assemble_with_flights(rt, name),
+        "assemble:fetches" => pages::assemble_with_flights(rt, name),
         "assemble_gated" => pages::assemble_page_gated(rt, name),
         "respond" => pages::respond_with_page(rt, name),
         "run_events" => pages::run_page(rt, name),

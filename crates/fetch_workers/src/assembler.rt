@@ -14,13 +14,14 @@ ghost use Rattle.fetch_workers.specs.Given.{AllOwn};
 ghost use Rattle.fetch_workers.specs.Rests.{AreFetches, AreWorkers, IsAssembled, RestsOn};
 
 use crate::concurrent_source::ConcurrentSource;
-use crate::concurrent_worker::work_concurrently;
 use crate::crew::run_workers;
 use crate::fault::AssembleFault;
 use crate::gate::{Gate, OpenGate};
 use crate::log::{Own, answers_of, is_log_of};
+use crate::one_by_one::OneByOne;
 use crate::shared_desk::SharedDesk;
 use crate::source::Source;
+use crate::worker::Worker;
 use edge_types::{Answer, NoMemory, Outcome, PageUrl, Request};
 use plan_runner::{Page, State};
 use std::alloc::Global;
@@ -91,7 +92,9 @@ where
     ensures { IfOk result (λ page.
         IsAssembled (S.gives source.now) request levels url (map arc_value page.log.items) (shown (arc_value page.outcome))) }
 {
-    Assembling::new(ahead, workers, levels).assemble(rt, alloc, source, &OpenGate, url, request)
+    assemble_gated(
+        rt, alloc, source, &OpenGate, url, request, ahead, workers, levels,
+    )
 }
 
 /// Assembles a page as `assemble` does, with a gate that is passed before each fetch.
@@ -118,7 +121,8 @@ where
     ensures { IfOk result (λ page.
         IsAssembled (S.gives source.now) request levels url (map arc_value page.log.items) (shown (arc_value page.outcome))) }
 {
-    Assembling::new(ahead, workers, levels).assemble(rt, alloc, source, gate, url, request)
+    let how = Assembling::new(ahead, workers, levels);
+    how.assemble(rt, alloc, &OneByOne { source }, gate, url, request)
 }
 
 impl Assembling {
@@ -156,45 +160,14 @@ impl Assembling {
         }
     }
 
-    /// Assembles a page by these numbers, as `assemble_gated` does.
+    /// Assembles a page by these numbers, with a gate that is passed before each fetch.
+    ///
+    /// If one fetch may be in flight, threads work for the page, as in `assemble_gated`. If more may be, the calling
+    /// thread works for it alone, and has as many in flight as may be and are asked for; what is in flight when the
+    /// page is done is given up.
     ///
     /// Our profile.
     pub fn assemble<R, S, G>(
-        self,
-        rt: &R,
-        alloc: Global,
-        source: &S,
-        gate: &G,
-        url: PageUrl,
-        request: Request,
-    ) -> Result<Assembled, AssembleFault>
-    where
-        R: Wait + Threads + Sync,
-        S: Source<R> + Sync,
-        G: Gate<R> + Sync,
-        ensures { IfOk result (λ page.
-            IsAssembled (S.gives source.now) request self.levels url (map arc_value page.log.items) (shown (arc_value page.outcome))) }
-    {
-        let page = self.accept(alloc, &url, &request)?;
-        let shared = SharedDesk::new(alloc, page, self.workers);
-        let own = run_workers(rt, alloc, source, gate, &shared, self.workers)?;
-        put_together::<R, S>(
-            alloc,
-            source,
-            shared.into_page(),
-            own,
-            &url,
-            &request,
-            self.levels,
-        )
-    }
-
-    /// Assembles a page by these numbers from a source that makes several fetches at once. If more than one may be in
-    /// flight, the calling thread works for the page alone, and has as many in flight as may be and are asked for;
-    /// what is in flight when the page is done is given up. Else it is assembled as by `assemble`.
-    ///
-    /// Our profile.
-    pub fn assemble_concurrently<R, S, G>(
         self,
         rt: &R,
         alloc: Global,
@@ -210,13 +183,9 @@ impl Assembling {
         ensures { IfOk result (λ page.
             IsAssembled (S.gives source.now) request self.levels url (map arc_value page.log.items) (shown (arc_value page.outcome))) }
     {
-        if self.fetches == 1 {
-            return self.assemble(rt, alloc, source, gate, url, request);
-        }
         let page = self.accept(alloc, &url, &request)?;
-        let shared = SharedDesk::new(alloc, page, 1);
-        let mut own = Vec::new(alloc);
-        work_concurrently(rt, alloc, source, gate, &shared, self.fetches, &mut own)?;
+        let shared = SharedDesk::new(alloc, page, self.threads());
+        let own = self.worked(rt, alloc, source, gate, &shared)?;
         put_together::<R, S>(
             alloc,
             source,
@@ -226,6 +195,42 @@ impl Assembling {
             &request,
             self.levels,
         )
+    }
+
+    // How many threads may work for a page: its own alone where that has several fetches in flight.
+    fn threads(self) -> u8
+        ensures { 0 < result }
+    {
+        if self.fetches == 1 { self.workers } else { 1 }
+    }
+
+    // What was posted by all who work for the page on the desk.
+    fn worked<R, S, G>(
+        self,
+        rt: &R,
+        alloc: Global,
+        source: &S,
+        gate: &G,
+        shared: &SharedDesk,
+    ) -> Result<Vec<Own>, AssembleFault>
+    where
+        R: Wait + Threads + Sync,
+        S: ConcurrentSource<R> + Sync,
+        G: Gate<R> + Sync,
+        ensures { IfOk result (λ own. AllOwn (S.gives source.now) own.items) }
+    {
+        if self.fetches == 1 {
+            run_workers(rt, alloc, source, gate, shared, self.workers)
+        } else {
+            let worker = Worker {
+                rt,
+                alloc,
+                source,
+                gate,
+                shared,
+            };
+            worker.work_concurrently(self.fetches)
+        }
     }
 
     // The page, before anybody works for it.

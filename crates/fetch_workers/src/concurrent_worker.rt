@@ -1,7 +1,7 @@
 //! A worker that keeps several fetches in flight. It works for its page alone, and waits for whichever fetch ends
 //! first.
 
-ghost use Rattle.std.specs.Prelude.{◌≡◌, IfSome, IsTrue, OnOk};
+ghost use Rattle.std.specs.Prelude.{◌≡◌, IfOk, IfSome, IsTrue, OnOk};
 ghost use Rattle.fetch_workers.specs.Given.{AllOwn};
 
 use crate::concurrent_source::ConcurrentSource;
@@ -10,7 +10,7 @@ use crate::fault::AssembleFault;
 use crate::gate::Gate;
 use crate::log::Own;
 use crate::shared_desk::Shared;
-use crate::worker::{fetch_one, post, prepare};
+use crate::worker::Worker;
 use answer_board::Ticket;
 use edge_types::{NoMemory, PageUrl};
 use std::alloc::Global;
@@ -22,107 +22,93 @@ struct Flights<F> {
     tickets: Vec<SetAside>,
 }
 
-/// Works until the work has ended, with at most so many fetches in flight; those that are left then are given up.
-pub(crate) fn work_concurrently<R: Wait, S: ConcurrentSource<R>, G: Gate<R>, D: Shared<R>>(
-    rt: &R,
-    alloc: Global,
-    source: &S,
-    gate: &G,
-    shared: &D,
-    most: u16,
-    mine: &mut Vec<Own>,
-) -> Result<(), AssembleFault>
-    requires { AllOwn (S.gives source.now) mine.old.items }
-    ensures { OnOk result (AllOwn (S.gives source.now) mine.new.items) }
-{
-    let mut flights = Flights {
-        fetches: source.nothing_in_flight(rt, alloc),
-        tickets: Vec::new(alloc),
-    };
-    let worked = keep_working(rt, alloc, source, gate, shared, most, &mut flights, mine);
-    let Flights {
-        fetches,
-        tickets: _,
-    } = flights;
-    source.give_up(rt, alloc, fetches);
-    worked
-}
+impl<'a, R: Wait, S: ConcurrentSource<R>, G: Gate<R>, D: Shared<R>> Worker<'a, R, S, G, D> {
+    /// Works until the work has ended, with at most so many fetches in flight; those that are left then are given up.
+    /// Returns what the worker posted.
+    pub(crate) fn work_concurrently(&self, most: u16) -> Result<Vec<Own>, AssembleFault>
+        ensures { IfOk result (λ own. AllOwn (S.gives self.now.source.now) own.items) }
+    {
+        let mut mine = Vec::new(self.alloc);
+        let mut flights = Flights {
+            fetches: self.source.nothing_in_flight(self.rt, self.alloc),
+            tickets: Vec::new(self.alloc),
+        };
+        let worked = self.keep_working(most, &mut flights, &mut mine);
+        let Flights {
+            fetches,
+            tickets: _,
+        } = flights;
+        self.source.give_up(self.rt, self.alloc, fetches);
+        worked?;
+        Ok(mine)
+    }
 
-fn keep_working<R: Wait, S: ConcurrentSource<R>, G: Gate<R>, D: Shared<R>>(
-    rt: &R,
-    alloc: Global,
-    source: &S,
-    gate: &G,
-    shared: &D,
-    most: u16,
-    flights: &mut Flights<S::InFlight>,
-    mine: &mut Vec<Own>,
-) -> Result<(), AssembleFault>
-    requires { AllOwn (S.gives source.now) mine.old.items }
-    ensures { OnOk result (AllOwn (S.gives source.now) mine.new.items) }
-{
-    for _ in rt.forever() {
-        if flights.tickets.len() >= usize::from(most) {
-            wait_for_one(rt, alloc, source, gate, shared, flights, mine)?;
-            continue;
-        }
-        match shared.turn(rt) {
-            Turn::End => return Ok(()),
-            Turn::NoMemory => return Err(AssembleFault::NoMemory),
-            Turn::Sleep => wait_for_one(rt, alloc, source, gate, shared, flights, mine)?,
-            Turn::Prepare(ticket) => prepare(rt, alloc, source, shared, ticket, mine)?,
-            Turn::StartAndFetch(ticket) | Turn::Fetch(ticket) => {
-                begin(rt, alloc, source, gate, flights, ticket, mine)?;
+    fn keep_working(
+        &self,
+        most: u16,
+        flights: &mut Flights<S::InFlight>,
+        mine: &mut Vec<Own>,
+    ) -> Result<(), AssembleFault>
+        requires { AllOwn (S.gives self.now.source.now) mine.old.items }
+        ensures { OnOk result (AllOwn (S.gives self.now.source.now) mine.new.items) }
+    {
+        for _ in self.rt.forever() {
+            if flights.tickets.len() >= usize::from(most) {
+                self.wait_for_one(flights, mine)?;
+                continue;
+            }
+            match self.shared.turn(self.rt) {
+                Turn::End => return Ok(()),
+                Turn::NoMemory => return Err(AssembleFault::NoMemory),
+                Turn::Sleep => self.wait_for_one(flights, mine)?,
+                Turn::Prepare(ticket) => self.prepare(ticket, mine)?,
+                Turn::StartAndFetch(ticket) | Turn::Fetch(ticket) => {
+                    self.begin(flights, ticket, mine)?;
+                }
             }
         }
+        unreachable!()
     }
-    unreachable!()
-}
 
-// Begins to fetch for a ticket. The worker makes room for the answer before.
-fn begin<R, S: ConcurrentSource<R>, G: Gate<R>>(
-    rt: &R,
-    alloc: Global,
-    source: &S,
-    gate: &G,
-    flights: &mut Flights<S::InFlight>,
-    ticket: Ticket,
-    mine: &mut Vec<Own>,
-) -> Result<(), NoMemory>
-    ensures { mine.new.items ≡ mine.old.items }
-{
-    let held = SetAside { ticket };
-    mine.reserve(flights.tickets.len() + 1)?;
-    flights.tickets.reserve(1)?;
-    gate.before_fetch(rt, held.ticket.url());
-    source.begin(rt, alloc, &mut flights.fetches, held.ticket.url())?;
-    flights.tickets.push(held)?;
-    Ok(())
-}
+    // Begins to fetch for a ticket. The worker makes room for the answer before.
+    fn begin(
+        &self,
+        flights: &mut Flights<S::InFlight>,
+        ticket: Ticket,
+        mine: &mut Vec<Own>,
+    ) -> Result<(), NoMemory>
+        ensures { mine.new.items ≡ mine.old.items }
+    {
+        let held = SetAside { ticket };
+        mine.reserve(flights.tickets.len() + 1)?;
+        flights.tickets.reserve(1)?;
+        self.gate.before_fetch(self.rt, held.ticket.url());
+        self.source.begin(self.rt, self.alloc, &mut flights.fetches, held.ticket.url())?;
+        flights.tickets.push(held)?;
+        Ok(())
+    }
 
-// Waits until a fetch has ended, and posts its answer. Where the source has lost a fetch, it is made once more.
-fn wait_for_one<R: Wait, S: ConcurrentSource<R>, G: Gate<R>, D: Shared<R>>(
-    rt: &R,
-    alloc: Global,
-    source: &S,
-    gate: &G,
-    shared: &D,
-    flights: &mut Flights<S::InFlight>,
-    mine: &mut Vec<Own>,
-) -> Result<(), AssembleFault>
-    requires { AllOwn (S.gives source.now) mine.old.items }
-    ensures { OnOk result (AllOwn (S.gives source.now) mine.new.items) }
-{
-    let Some(answer) = source.next(rt, alloc, &mut flights.fetches)? else {
-        return match flights.tickets.pop() {
-            Some(held) => { fetch_one(rt, alloc, source, gate, shared, held.into_ticket(), mine) }
-            None => Err(AssembleFault::Torn),
+    // Waits until a fetch has ended, and posts its answer. Where the source has lost a fetch, it is made once more.
+    fn wait_for_one(
+        &self,
+        flights: &mut Flights<S::InFlight>,
+        mine: &mut Vec<Own>,
+    ) -> Result<(), AssembleFault>
+        requires { AllOwn (S.gives self.now.source.now) mine.old.items }
+        ensures { OnOk result (AllOwn (S.gives self.now.source.now) mine.new.items) }
+    {
+        let next = self.source.next(self.rt, self.alloc, &mut flights.fetches)?;
+        let Some(answer) = next else {
+            return match flights.tickets.pop() {
+                Some(held) => self.fetch_one(held.into_ticket(), mine),
+                None => Err(AssembleFault::Torn),
+            };
         };
-    };
-    match take_ticket(&mut flights.tickets, answer.url()) {
-        Some(ticket) => post(rt, alloc, source, shared, ticket, answer, mine),
-        // Nobody has asked for it.
-        None => Ok(()),
+        match take_ticket(&mut flights.tickets, answer.url()) {
+            Some(ticket) => self.post(ticket, answer, mine),
+            // Nobody has asked for it.
+            None => Ok(()),
+        }
     }
 }
 

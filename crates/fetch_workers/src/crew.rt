@@ -10,7 +10,7 @@ use crate::gate::Gate;
 use crate::log::Own;
 use crate::shared_desk::Shared;
 use crate::source::Source;
-use crate::worker::{fetch_one, work};
+use crate::worker::Worker;
 use std::alloc::Global;
 use std::marker::PhantomData;
 use std::sync::Wait;
@@ -47,19 +47,24 @@ fn work_in<'s, E, R, S, G, D>(
     gate: &'s G,
     shared: &'s D,
     others: u8,
-    mine: Vec<Own>,
 ) -> Result<Vec<Own>, AssembleFault>
 where
     R: Wait + Threads + Sync,
     S: Source<R> + Sync,
     G: Gate<R> + Sync,
     D: Shared<R> + Sync,
-    requires sync { IsSync R.row × IsSync S.row × IsSync G.row × IsSync D.row }
-    requires mine { AllOwn (S.gives source.now) mine.items }
+    requires { IsSync R.row × IsSync S.row × IsSync G.row × IsSync D.row }
     ensures { IfOk result (λ own. AllOwn (S.gives source.now) own.items) }
 {
-    let mut mine = mine;
-    let worked = work(rt, alloc, source, gate, shared, others, &mut mine);
+    let worker = Worker {
+        rt,
+        alloc,
+        source,
+        gate,
+        shared,
+    };
+    let mut mine = Vec::new(alloc);
+    let worked = worker.work(others, &mut mine);
     if worked.is_err() {
         shared.end(rt);
     }
@@ -73,26 +78,17 @@ where
     let helper = move || -> Result<Vec<Own>, AssembleFault>
         requires { IsSync R.row × IsSync S.row × IsSync G.row × IsSync D.row × (0 < others) }
         ensures { IfOk result (λ own. AllOwn (S.gives source.entry.now) own.items) }
-    {
-        work_in(
-            scope,
-            rt,
-            alloc,
-            source,
-            gate,
-            shared,
-            others - 1,
-            Vec::new(alloc),
-        )
-    };
+    { work_in(scope, rt, alloc, source, gate, shared, others - 1) };
     let Ok(child) = scope.spawn_with(promise, helper) else {
         ticket.give_up();
         shared.end(rt);
         return Err(AssembleFault::NoThread);
     };
-    let fetched = fetch_one(rt, alloc, source, gate, shared, ticket, &mut mine);
-    let rest = match fetched {
-        Ok(()) => work_in(scope, rt, alloc, source, gate, shared, others - 1, mine),
+    let rest = match worker.fetch_one(ticket, &mut mine) {
+        Ok(()) => {
+            let more = work_in(scope, rt, alloc, source, gate, shared, others - 1);
+            both::<R, S>(source, Ok(mine), more)
+        }
         Err(fault) => {
             shared.end(rt);
             Err(fault)
@@ -147,17 +143,6 @@ where
         |scope| -> Result<Vec<Own>, AssembleFault>
             requires { IsSync R.row × IsSync S.row × IsSync G.row × IsSync D.row × (0 < workers) }
             ensures { IfOk result (λ own. AllOwn (S.gives source.entry.now) own.items) }
-        {
-            work_in(
-                scope,
-                rt,
-                alloc,
-                source,
-                gate,
-                shared,
-                workers - 1,
-                Vec::new(alloc),
-            )
-        },
+        { work_in(scope, rt, alloc, source, gate, shared, workers - 1) },
     )
 }

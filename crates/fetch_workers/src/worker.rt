@@ -50,106 +50,97 @@ fn made_ready(alloc: Global, answer: Arc<Answer>) -> Result<(SharedAnswer, Prepa
     Ok((own, Prepared::of(alloc, answer)?))
 }
 
-// Posts the answer of a ticket, and keeps a handle to it.
-pub(crate) fn post<R: Wait, S: Source<R>, D: Shared<R>>(
-    rt: &R,
-    alloc: Global,
-    _source: &S,
-    shared: &D,
-    ticket: Ticket,
-    answer: Arc<Answer>,
-    mine: &mut Vec<Own>,
-) -> Result<(), AssembleFault>
-    requires mine { AllOwn (S.gives _source.now) mine.old.items }
-    requires answer { S.gives _source.now ticket.url (arc_value answer) }
-    ensures { OnOk result (AllOwn (S.gives _source.now) mine.new.items) }
-{
-    let (receipt, own) = receipt_of(alloc, ticket, answer)?;
-    let place = shared.post(rt, receipt)?;
-    match mine.push(Own { place, answer: own }) {
-        Ok(()) => Ok(()),
-        Err(_) => Err(AssembleFault::NoMemory),
-    }
+/// What works for a page in one thread.
+#[derive(Drop)]
+pub(crate) struct Worker<'a, R, S, G, D> {
+    pub rt: &'a R,
+    pub alloc: Global,
+    pub source: &'a S,
+    pub gate: &'a G,
+    /// The desk of the page.
+    pub shared: &'a D,
 }
 
-// Posts the answer of a ticket if the source has it ready, and otherwise sets the ticket aside.
-pub(crate) fn prepare<R: Wait, S: Source<R>, D: Shared<R>>(
-    rt: &R,
-    alloc: Global,
-    source: &S,
-    shared: &D,
-    ticket: Ticket,
-    mine: &mut Vec<Own>,
-) -> Result<(), AssembleFault>
-    requires { AllOwn (S.gives source.now) mine.old.items }
-    ensures { OnOk result (AllOwn (S.gives source.now) mine.new.items) }
-{
-    match source.ready(rt, alloc, ticket.url()) {
-        Ok(Some(answer)) => post(rt, alloc, source, shared, ticket, answer, mine),
-        Ok(None) => {
-            shared.set_aside(rt, ticket)?;
-            Ok(())
-        }
-        Err(NoMemory) => {
-            ticket.give_up();
-            Err(AssembleFault::NoMemory)
+impl<'a, R: Wait, S: Source<R>, G: Gate<R>, D: Shared<R>> Worker<'a, R, S, G, D> {
+    /// Posts the answer of a ticket, and keeps a handle to it.
+    pub(crate) fn post(
+        &self,
+        ticket: Ticket,
+        answer: Arc<Answer>,
+        mine: &mut Vec<Own>,
+    ) -> Result<(), AssembleFault>
+        requires mine { AllOwn (S.gives self.now.source.now) mine.old.items }
+        requires answer { S.gives self.now.source.now ticket.url (arc_value answer) }
+        ensures { OnOk result (AllOwn (S.gives self.now.source.now) mine.new.items) }
+    {
+        let (receipt, own) = receipt_of(self.alloc, ticket, answer)?;
+        let place = self.shared.post(self.rt, receipt)?;
+        match mine.push(Own { place, answer: own }) {
+            Ok(()) => Ok(()),
+            Err(_) => Err(AssembleFault::NoMemory),
         }
     }
-}
 
-// Fetches once, and posts the answer. The worker makes room for the answer before it fetches.
-pub(crate) fn fetch_one<R: Wait, S: Source<R>, G: Gate<R>, D: Shared<R>>(
-    rt: &R,
-    alloc: Global,
-    source: &S,
-    gate: &G,
-    shared: &D,
-    ticket: Ticket,
-    mine: &mut Vec<Own>,
-) -> Result<(), AssembleFault>
-    requires { AllOwn (S.gives source.now) mine.old.items }
-    ensures { OnOk result (AllOwn (S.gives source.now) mine.new.items) }
-{
-    if mine.reserve(1).is_err() {
-        ticket.give_up();
-        return Err(AssembleFault::NoMemory);
-    }
-    gate.before_fetch(rt, ticket.url());
-    match source.fetch(rt, alloc, ticket.url()) {
-        Ok(answer) => post(rt, alloc, source, shared, ticket, answer, mine),
-        Err(NoMemory) => {
-            ticket.give_up();
-            Err(AssembleFault::NoMemory)
-        }
-    }
-}
-
-// Works until the work has ended, or until one more worker is to be started before a ticket is
-// fetched.
-pub(crate) fn work<R: Wait, S: Source<R>, G: Gate<R>, D: Shared<R>>(
-    rt: &R,
-    alloc: Global,
-    source: &S,
-    gate: &G,
-    shared: &D,
-    others: u8,
-    mine: &mut Vec<Own>,
-) -> Result<Option<Ticket>, AssembleFault>
-    requires { AllOwn (S.gives source.now) mine.old.items }
-    ensures given { OnOk result (AllOwn (S.gives source.now) mine.new.items) }
-    ensures others { IfOk result (λ found. OnSome found (0 < others)) }
-{
-    for _ in rt.forever() {
-        match shared.next_turn(rt) {
-            Turn::End => return Ok(None),
-            Turn::NoMemory => return Err(AssembleFault::NoMemory),
-            Turn::Sleep => {}
-            Turn::Prepare(ticket) => prepare(rt, alloc, source, shared, ticket, mine)?,
-            Turn::StartAndFetch(ticket) if others > 0 => return Ok(Some(ticket)),
-            Turn::StartAndFetch(ticket) | Turn::Fetch(ticket) => {
-                fetch_one(rt, alloc, source, gate, shared, ticket, mine)?;
+    /// Posts the answer of a ticket if the source has it ready, and otherwise sets the ticket aside.
+    pub(crate) fn prepare(&self, ticket: Ticket, mine: &mut Vec<Own>) -> Result<(), AssembleFault>
+        requires { AllOwn (S.gives self.now.source.now) mine.old.items }
+        ensures { OnOk result (AllOwn (S.gives self.now.source.now) mine.new.items) }
+    {
+        match self.source.ready(self.rt, self.alloc, ticket.url()) {
+            Ok(Some(answer)) => self.post(ticket, answer, mine),
+            Ok(None) => {
+                self.shared.set_aside(self.rt, ticket)?;
+                Ok(())
+            }
+            Err(NoMemory) => {
+                ticket.give_up();
+                Err(AssembleFault::NoMemory)
             }
         }
     }
-    unreachable!()
+
+    /// Fetches once, and posts the answer. The worker makes room for the answer before it fetches.
+    pub(crate) fn fetch_one(&self, ticket: Ticket, mine: &mut Vec<Own>) -> Result<(), AssembleFault>
+        requires { AllOwn (S.gives self.now.source.now) mine.old.items }
+        ensures { OnOk result (AllOwn (S.gives self.now.source.now) mine.new.items) }
+    {
+        if mine.reserve(1).is_err() {
+            ticket.give_up();
+            return Err(AssembleFault::NoMemory);
+        }
+        self.gate.before_fetch(self.rt, ticket.url());
+        match self.source.fetch(self.rt, self.alloc, ticket.url()) {
+            Ok(answer) => self.post(ticket, answer, mine),
+            Err(NoMemory) => {
+                ticket.give_up();
+                Err(AssembleFault::NoMemory)
+            }
+        }
+    }
+
+    /// Works until the work has ended, or until one more worker is to be started before a ticket is
+    /// fetched.
+    pub(crate) fn work(
+        &self,
+        others: u8,
+        mine: &mut Vec<Own>,
+    ) -> Result<Option<Ticket>, AssembleFault>
+        requires { AllOwn (S.gives self.now.source.now) mine.old.items }
+        ensures given { OnOk result (AllOwn (S.gives self.now.source.now) mine.new.items) }
+        ensures others { IfOk result (λ found. OnSome found (0 < others)) }
+    {
+        for _ in self.rt.forever() {
+            match self.shared.next_turn(self.rt) {
+                Turn::End => return Ok(None),
+                Turn::NoMemory => return Err(AssembleFault::NoMemory),
+                Turn::Sleep => {}
+                Turn::Prepare(ticket) => self.prepare(ticket, mine)?,
+                Turn::StartAndFetch(ticket) if others > 0 => return Ok(Some(ticket)),
+                Turn::StartAndFetch(ticket) | Turn::Fetch(ticket) => {
+                    self.fetch_one(ticket, mine)?;
+                }
+            }
+        }
+        unreachable!()
+    }
 }

@@ -125,7 +125,7 @@ where
         (sent responded.response ≡ refusal 503)
         ⊎ spec.TellsPageAt (S.gives source.now) url request how.levels (sent responded.response))) }
 {
-    match how.assemble_concurrently(rt, alloc, source, &OpenGate, url, request) {
+    match how.assemble(rt, alloc, source, &OpenGate, url, request) {
         Ok(page) => Ok(Some(Responded {
             response: response_of(alloc, page.outcome)?,
             log: page.log,

@@ -132,7 +132,7 @@ where
     let alloc = rt.alloc();
     let how = Assembling::new(16, 4, 4).with_fetches(fetches.clamp(1, 256));
     let (url, request) = (url(rt, alloc, "/p")?, Request::empty(alloc));
-    let made = how.assemble_concurrently(rt, alloc, source, &OpenGate, url, request);
+    let made = how.assemble(rt, alloc, source, &OpenGate, url, request);
     let mut out = String::new(alloc);
     match made {
         Ok(page) => push_outcome(&mut out, &page.outcome)?,
