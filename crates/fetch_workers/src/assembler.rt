@@ -51,6 +51,8 @@ pub struct Assembling {
     pub levels: u8,
     /// How many fetches the page's own thread may have in flight.
     pub fetches: u16,
+    /// How many bytes the page may have.
+    pub bytes: usize,
     ghost ahead_few: { ahead ≤ MAX_AHEAD },
     ghost workers_few: { AreWorkers workers },
     ghost levels_few: { AreLevels levels },
@@ -126,7 +128,7 @@ where
 }
 
 impl Assembling {
-    /// With these numbers, and one fetch in flight at a time.
+    /// With these numbers, one fetch in flight at a time, and any number of bytes.
     pub fn new(ahead: u16, workers: u8, levels: u8) -> Assembling
         requires ahead { ahead ≤ MAX_AHEAD }
         requires workers { AreWorkers workers }
@@ -135,12 +137,14 @@ impl Assembling {
         ensures workers { result.workers ≡ workers }
         ensures levels { result.levels ≡ levels }
         ensures fetches { result.fetches ≡ 1 }
+        ensures bytes { result.bytes ≡ usize.MAX }
     {
         Assembling {
             ahead,
             workers,
             levels,
             fetches: 1,
+            bytes: usize::MAX,
         }
     }
 
@@ -151,13 +155,17 @@ impl Assembling {
         ensures workers { result.workers ≡ self.workers }
         ensures levels { result.levels ≡ self.levels }
         ensures fetches { result.fetches ≡ fetches }
+        ensures bytes { result.bytes ≡ self.bytes }
     {
-        Assembling {
-            ahead: self.ahead,
-            workers: self.workers,
-            levels: self.levels,
-            fetches,
-        }
+        Assembling { fetches, ..self }
+    }
+
+    /// The same, for pages of at most so many bytes. One that would have more is refused as if there were no memory
+    /// for it.
+    pub fn with_most_bytes(self, bytes: usize) -> Assembling
+        ensures { result ≡ record self { bytes = bytes } }
+    {
+        Assembling { bytes, ..self }
     }
 
     /// Assembles a page by these numbers, with a gate that is passed before each fetch.
@@ -237,13 +245,14 @@ impl Assembling {
     fn accept(self, alloc: Global, url: &PageUrl, request: &Request) -> Result<Page, NoMemory>
         ensures { IfOk result (λ page. page ≡ accepted url.now request.now self.ahead self.levels) }
     {
-        Page::accept(
+        let page = Page::accept(
             alloc,
             url.share()?,
             request.copy(alloc)?,
             self.ahead,
             self.levels,
-        )
+        )?;
+        Ok(page.with_most_bytes(self.bytes))
     }
 }
 

@@ -79,7 +79,7 @@ where
     if let Some(responded) = tried(rt, alloc, source, head, how)? {
         return Ok(responded);
     }
-    let alone = Assembling::new(how.ahead, 1, how.levels);
+    let alone = Assembling::new(how.ahead, 1, how.levels).with_most_bytes(how.bytes);
     match tried(rt, alloc, source, head, alone)? {
         Some(responded) => Ok(responded),
         None => no_room(alloc),

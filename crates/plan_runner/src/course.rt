@@ -12,7 +12,7 @@ ghost use Rattle.plan_runner.specs.Running.{IsTemplate, IsRunning, Begins, Comes
 
 use crate::advance::{Progress, advance};
 use crate::leg::Setting;
-use crate::machine::started;
+use crate::machine::{check_len, started};
 use crate::step::Reached;
 use edge_types::{Answer, NoMemory, Outcome, PageBody, PageFault, PageUrl, Reply};
 use plan_compiler::Form;
@@ -104,7 +104,7 @@ fn begin(
     };
     match own.form() {
         Form::Plain => {
-            let outcome = plain(setting.alloc, own.answer())?;
+            let outcome = plain(setting.alloc, own.answer(), setting.most)?;
             Ok(Begun::Done(outcome))
         }
         Form::BadAt(place) => Ok(Begun::Done(Outcome::Fault(PageFault::BadTemplate(*place)))),
@@ -115,8 +115,8 @@ fn begin(
     }
 }
 
-// The outcome of a page that isn't processed.
-fn plain(alloc: Global, answer: &Arc<Answer>) -> Result<Outcome, NoMemory>
+// The outcome of a page that isn't processed; refused if it has more bytes than it may have.
+fn plain(alloc: Global, answer: &Arc<Answer>, most: usize) -> Result<Outcome, NoMemory>
     ensures { IfOk result (λ o. shown o ≡ plain_outcome (arc_value answer.now).reply) }
 {
     let Reply::Got {
@@ -129,6 +129,7 @@ fn plain(alloc: Global, answer: &Arc<Answer>) -> Result<Outcome, NoMemory>
     };
     let mut body = PageBody::new(alloc);
     body.push(answer.share_body()?)?;
+    check_len(&body, most)?;
     let content_type = content_type.copy(alloc)?;
     Ok(Outcome::Page {
         status: *status,

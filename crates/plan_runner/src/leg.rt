@@ -18,6 +18,8 @@ pub(crate) struct Setting<'a> {
     pub(crate) alloc: Global,
     pub(crate) request: &'a Request,
     pub(crate) board: &'a Board,
+    // How many bytes the page may have.
+    pub(crate) most: usize,
 }
 
 // What a leg leads to.

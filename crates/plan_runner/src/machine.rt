@@ -1,7 +1,7 @@
 //! How far a page has come.
-ghost use Rattle.std.specs.Prelude.{◌≡◌, ◌∷◌, [], OnOk, IfOk};
+ghost use Rattle.std.specs.Prelude.{◌≡◌, ◌≤◌, ◌∷◌, [], length, OnOk, IfOk};
 ghost use Rattle.answer_board.specs.Board.{State};
-ghost use Rattle.edge_types.specs.Pieces.{with_piece};
+ghost use Rattle.edge_types.specs.Pieces.{joined, with_piece};
 ghost use Rattle.plan_machine.specs.Machine.{settled, goes, unwound};
 ghost use Rattle.plan_runner.specs.Shown.{shown_frame, shown_frames, shown_machine, first_frame, IsPlaced, ArePlaced};
 
@@ -100,12 +100,29 @@ pub(crate) fn unwind(machine: &mut Machine) -> Result<(), NoMemory>
     Ok(())
 }
 
-// Outputs this text, and goes on with the frame.
-pub(crate) fn give(machine: &mut Machine, frame: Frame, text: SharedBytes) -> Result<(), NoMemory>
+// Outputs this text, and goes on with the frame; refused if the output then has more bytes than it may have.
+pub(crate) fn give(
+    machine: &mut Machine,
+    frame: Frame,
+    text: SharedBytes,
+    most: usize,
+) -> Result<(), NoMemory>
+    ensures few { OnOk result (length (joined machine.new.out) ≤ most) }
     ensures shown { OnOk result ((board : State) → shown_machine board machine.new ≡ goes machine.old.legs (with_piece machine.old.out text) (shown_frame board frame ∷ shown_frames board machine.old.frames)) }
     ensures placed { OnOk result ((board : State) → IsPlaced board frame → ArePlaced board machine.old.frames → ArePlaced board machine.new.frames) }
 {
     machine.out.push(text)?;
     go_on(machine, frame)?;
-    Ok(())
+    check_len(&machine.out, most)
+}
+
+// Refused if a body has more bytes than it may have, as if there were no room for it.
+pub(crate) fn check_len(body: &PageBody, most: usize) -> Result<(), NoMemory>
+    ensures { OnOk result (length (joined body.now) ≤ most) }
+{
+    if body.len() <= most {
+        Ok(())
+    } else {
+        Err(NoMemory)
+    }
 }

@@ -134,6 +134,8 @@ pub struct Page {
     // How many slots posts may open ahead, and how many they still may.
     ahead: u16,
     room: u16,
+    // How many bytes it may have.
+    most: usize,
     progress: Progress,
     stage: Stage,
 }
@@ -177,12 +179,24 @@ impl Page {
             board,
             ahead,
             room: ahead,
+            most: usize::MAX,
             progress: Progress {
                 machine: idle(alloc),
                 steps: 0,
             },
             stage: Stage::Unread,
         })
+    }
+
+    /// The same page, of at most so many bytes: one that would have more is refused as if there were no memory for it,
+    /// before it has as many. `accept` gives a page that may have any number.
+    ///
+    /// Our profile.
+    pub fn with_most_bytes(mut self, most: usize) -> Page
+        ensures { result ≡ self }
+    {
+        self.most = most;
+        self
     }
 
     /// Lends the page's URL. Takes no memory.
@@ -390,6 +404,7 @@ impl Page {
             alloc: self.alloc,
             request: &self.request,
             board: &self.board,
+            most: self.most,
         };
         match run(&setting, &self.url, self.levels, &mut self.progress, &stage)? {
             Came::Unread => {

@@ -4,6 +4,7 @@ ghost use Rattle.std.specs.Arc.{arc_value};
 ghost use Rattle.answer_board.specs.Board.{State, answer_at, log_of};
 ghost use Rattle.edge_types.specs.declared.request.Request.{Request};
 ghost use Rattle.edge_types.specs.Pieces.{with_piece};
+ghost use Rattle.esi_vars.specs.Values.{substituted};
 ghost use Rattle.plan_compiler.specs.Bodies.{entries};
 ghost use Rattle.plan_compiler.specs.Laws.{skip_of};
 ghost use Rattle.plan_compiler.specs.Plan as spec;
@@ -21,7 +22,7 @@ use crate::machine::{Machine, give, go_on, unwind};
 use edge_types::{Answer, NoMemory, PageUrl, SharedBytes};
 use esi_meaning::MAX_LEGS;
 use esi_tree::Parts;
-use esi_vars::substitute;
+use esi_vars::substitute_within;
 use plan_compiler::{Form, Prepared, Step};
 use plan_machine::Handler;
 use std::sync::Arc;
@@ -59,12 +60,11 @@ pub(crate) fn run(
     match step {
         Step::Text(text) => {
             let text = text.share()?;
-            give_next(machine, frame, text)?;
+            give_next(machine, frame, text, setting.most)?;
         }
         Step::Values(parts) => {
-            let text = substitute(setting.alloc, setting.request, parts.as_slice())?;
-            let text = SharedBytes::of(text)?;
-            give_next(machine, frame, text)?;
+            let text = values(setting, parts)?;
+            give_next(machine, frame, text, setting.most)?;
         }
         Step::Test { test, skip: by } => {
             let by = if test.holds(setting.request) { 0 } else { *by };
@@ -77,6 +77,21 @@ pub(crate) fn run(
         Step::Fail => fail(machine, frame)?,
     }
     Ok(Reached::Went)
+}
+
+// The text with the values of its references; refused if it has more bytes than the page may have.
+fn values(setting: &Setting<'_>, parts: &Parts) -> Result<SharedBytes, NoMemory>
+    ensures { IfOk result (λ text. text ≡ substituted setting.now.request.now parts.now) }
+{
+    match substitute_within(
+        setting.alloc,
+        setting.request,
+        parts.as_slice(),
+        setting.most,
+    )? {
+        Some(text) => Ok(SharedBytes::of(text)?),
+        None => Err(NoMemory),
+    }
 }
 
 // Goes on after this many steps.
@@ -146,18 +161,28 @@ fn open(machine: &mut Machine, mut frame: Frame, inner: Frame) -> Result<(), NoM
 }
 
 // Outputs this text, and goes on after the step.
-fn give_next(machine: &mut Machine, mut frame: Frame, text: SharedBytes) -> Result<(), NoMemory>
+fn give_next(
+    machine: &mut Machine,
+    mut frame: Frame,
+    text: SharedBytes,
+    most: usize,
+) -> Result<(), NoMemory>
     requires { frame.at + 1 ≤ usize.MAX }
     ensures shown { OnOk result ((board : State) → shown_machine board machine.new ≡ goes machine.old.legs (with_piece machine.old.out text) (moved (shown_frame board frame) (frame.at + 1) ∷ shown_frames board machine.old.frames)) }
     ensures placed { OnOk result ((board : State) → IsPlaced board frame → ArePlaced board machine.old.frames → ArePlaced board machine.new.frames) }
 {
     frame.at += 1;
-    give(machine, frame, text)?;
+    give(machine, frame, text, most)?;
     Ok(())
 }
 
 // An answer that isn't processed: its body as it is, if the fetch succeeded.
-fn give_plain(machine: &mut Machine, frame: Frame, answer: &Arc<Answer>) -> Result<(), NoMemory>
+fn give_plain(
+    machine: &mut Machine,
+    frame: Frame,
+    answer: &Arc<Answer>,
+    most: usize,
+) -> Result<(), NoMemory>
     requires { frame.at + 1 ≤ usize.MAX }
     ensures shown { OnOk result ((board : State) (r : Request) → shown_machine board machine.new ≡ plain_leg r (log_of board) machine.old.legs machine.old.out (moved (shown_frame board frame) (frame.at + 1) ∷ shown_frames board machine.old.frames) (arc_value answer.now).reply) }
     ensures placed { OnOk result ((board : State) → IsPlaced board frame → ArePlaced board machine.old.frames → ArePlaced board machine.new.frames) }
@@ -167,7 +192,7 @@ fn give_plain(machine: &mut Machine, frame: Frame, answer: &Arc<Answer>) -> Resu
         return Ok(());
     }
     let body = answer.share_body()?;
-    give_next(machine, frame, body)?;
+    give_next(machine, frame, body, most)?;
     Ok(())
 }
 
@@ -190,7 +215,7 @@ fn enter(
     };
     match prepared.form() {
         Form::Plain => {
-            give_plain(machine, frame, prepared.answer())?;
+            give_plain(machine, frame, prepared.answer(), setting.most)?;
             Ok(())
         }
         Form::BadAt(_) => {
