@@ -54,6 +54,23 @@ def what_is_stored_counts_past_a_page_s_time():
         same("past the limit", (200, b"s1"), told(edge, "/p"))
 
 
+def a_page_has_no_more_than_its_bytes():
+    """A page of as many bytes as it may have comes, whatever they are made of; one of a byte more is 503, and costs
+    nobody else anything."""
+    texts = {
+        "/kilobyte": wire("HTTP/1.1 200 OK|surrogate-control: max-age=600|content-length: 1000||") + b"x" * 1000,
+        "/p": page_of("<esi:include src='/kilobyte'/>" * 10),
+        "/values": page_of("<esi:vars>%s</esi:vars>" % ("$(HTTP_COOKIE)" * 10)),
+        "/plain": wire("HTTP/1.1 200 OK|content-length: 10000||") + b"x" * 10000,
+    }
+    cookie = "Cookie: %s\r\n" % ("x" * 1000)
+    for most, status in (("10000", 200), ("9999", 503)):
+        with Wires(texts) as origin, before(origin, "--page-bytes", most) as edge:
+            for path in ("/p", "/values", "/plain"):
+                same("%s with %s bytes" % (path, most), status, get(edge, path, fields=cookie).status)
+            same("a fragment with %s bytes" % most, (200, b"x" * 1000), told(edge, "/kilobyte"))
+
+
 def free_port():
     with socket.create_server(("127.0.0.1", 0)) as found:
         return found.getsockname()[1]
@@ -142,6 +159,7 @@ def failed_accepts_end_the_edge_in_the_end():
 TESTS = (
     a_page_ends_soon_after_its_time,
     what_is_stored_counts_past_a_page_s_time,
+    a_page_has_no_more_than_its_bytes,
     an_edge_that_asks_itself_ends_at_once,
     a_circle_of_two_edges_ends_by_their_limits,
     a_request_that_was_here_is_refused,

@@ -51,7 +51,7 @@ def usage_is_told():
         here, ["more"], ["--origin"], ["--origin", "a.test"], ["--origin", "a.test=b.test"], ["--origin", "a.test="],
         ["--origin", "a.test=127.0.0.1:80", "--origin", "a.test=127.0.0.1:81"], ["--origin", "*=127.0.0.1:80", "--origin", "*=127.0.0.1:80"],
         ["--workers", "0"], ["--workers", "17"], ["--workers", "four"], ["--workers", "2", "--workers", "2"],
-        ["--ahead", "257"], ["--ahead=-1"], ["--levels", "0"], ["--levels", "9"], ["--capacity", "0"], ["--capacity", "1025"],
+        ["--ahead", "257"], ["--ahead=-1"], ["--levels", "0"], ["--levels", "9"], ["--capacity", "0"], ["--capacity", "1025"], ["--page-bytes", "4294967296"],
         ["--accept", "18446744073709551616"], ["--accept", "+1"], ["--accept", ""], ["--timeout", "1s"], ["--timeout", "86400001"],
         ["--page-timeout", "x"], ["--page-timeout", "86400001"], ["--origin-keep-alive", "1025"], ["--origin-keep-alive=-1"],
         ["--origin-fetches", "65536"], ["--origin-rest", "5s"], ["--origin-rest", "86401"],
@@ -106,8 +106,8 @@ def numbers_that_no_files_are_left_for_are_told():
 
 def limits_are_taken():
     """The largest and the smallest of each number, an address of IPv6, and a thousand origins."""
-    most = ["--workers", "16", "--ahead", "256", "--levels", "8", "--capacity", "1024", "--timeout", "86400000", "--page-timeout", "86400000", "--origin-keep-alive", "1024", "--origin-fetches", "65535", "--origin-rest", "86400", "--name", "n" * 64, "--client-timeout", "86400000", "--keep-alive", "86400", "--threads", "64", "--connections", "65536", "--head"]
-    least = ["--workers", "1", "--ahead", "0", "--levels", "1", "--capacity", "1", "--timeout", "0", "--page-timeout", "0", "--origin-keep-alive", "0", "--origin-fetches", "0", "--origin-rest", "0", "--name", "~", "--client-timeout", "0", "--keep-alive", "0", "--threads", "1", "--connections", "1"]
+    most = ["--workers", "16", "--ahead", "256", "--levels", "8", "--capacity", "1024", "--page-bytes", "4294967295", "--timeout", "86400000", "--page-timeout", "86400000", "--origin-keep-alive", "1024", "--origin-fetches", "65535", "--origin-rest", "86400", "--name", "n" * 64, "--client-timeout", "86400000", "--keep-alive", "86400", "--threads", "64", "--connections", "65536", "--head"]
+    least = ["--workers", "1", "--ahead", "0", "--levels", "1", "--capacity", "1", "--page-bytes", "0", "--timeout", "0", "--page-timeout", "0", "--origin-keep-alive", "0", "--origin-fetches", "0", "--origin-rest", "0", "--name", "~", "--client-timeout", "0", "--keep-alive", "0", "--threads", "1", "--connections", "1"]
     many = [word for at in range(1000) for word in ("--origin", "%d.test=127.0.0.1:80" % at)]
     for words in (most, least, many, ["--accept", "18446744073709551615"], ["--origin", "a.test=[::1]:80", "--origin", "b.test=127.0.0.1:80"]):
         with Origin(PLAIN) as origin, before(origin, *words) as edge:

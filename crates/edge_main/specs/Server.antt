@@ -23,6 +23,10 @@ idle_of seconds = if seconds == 0 then None else Some (seconds * 1_000_000_000)
 abbrev pub bound_of : ℕ → Option ℕ
 bound_of count = if count == 0 then None else Some count
 
+-- so many bytes of a page; 0 means that there may be any number
+abbrev pub bytes_of : ℕ → ℕ
+bytes_of count = if count == 0 then 18_446_744_073_709_551_615 else count
+
 -- neither the fetches at once nor a rest are asked for
 pub record IsUnbounded (fetching : Fetching) : Type 0 where
   pub any_fetches : fetching.origin_fetches ≡ 0
@@ -48,6 +52,7 @@ pub record IsServerOf (setup : Setup) (server : Server) : Type 0 where
   pub fetches_are : server.pages.fetches ≡ setup.pages.fetches
   pub ahead_is : server.pages.ahead ≡ setup.pages.ahead
   pub levels_are : server.pages.levels ≡ setup.pages.levels
+  pub page_bytes_are : server.pages.bytes ≡ bytes_of setup.pages.page_bytes
   pub page_is : nanos_of server.page ≡ limit_of setup.fetching.page_timeout
   pub capacity_is : server.capacity ≡ setup.pages.capacity
   pub threads_are : server.at_once.threads ≡ setup.serving.threads

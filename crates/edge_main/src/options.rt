@@ -1,7 +1,7 @@
 //! The server that the options of `serve` ask for.
 ghost use Rattle.std.specs.Prelude.{◌≡◌, MatchOption};
 ghost use Rattle.edge_setup.specs.Words.{IsWithin};
-ghost use Rattle.edge_main.specs.Server.{AreBounds, IsServerOf, IsUnbounded, idle_of, limit_of, nanos_of};
+ghost use Rattle.edge_main.specs.Server.{AreBounds, IsServerOf, IsUnbounded, bytes_of, idle_of, limit_of, nanos_of};
 
 use crate::server::{Fetches, Server};
 use edge_setup::{Fetching, Setup};
@@ -29,6 +29,17 @@ fn idle_of(seconds: u32) -> Option<Duration>
         None
     } else {
         Some(Duration::from_secs(u64::from(seconds)))
+    }
+}
+
+// How many bytes a page may have; 0 means any number.
+fn bytes_of(count: u32) -> usize
+    ensures { result ≡ bytes_of count }
+{
+    if count == 0 {
+        usize::MAX
+    } else {
+        count as usize
     }
 }
 
@@ -79,7 +90,9 @@ pub(crate) fn server_of(setup: Setup) -> Server
             response: client,
             idle: idle_of(serving.keep_alive),
         },
-        pages: how.with_fetches(pages.fetches),
+        pages: how
+            .with_fetches(pages.fetches)
+            .with_most_bytes(bytes_of(pages.page_bytes)),
         page: limit_of(fetching.page_timeout),
         capacity: usize::from(pages.capacity),
         at_once: Capacity {

@@ -1,7 +1,7 @@
 -- The subcommand `serve`, by `clap`'s definitions of commands.
 use Rattle.std.specs.Prelude.{codes}
 use Rattle.clap.specs.Words.{App, new_app, with_rule}
-use Rattle.edge_setup.specs.Numbers.{capacity, client_timeout, connections, fetches, keep_alive, levels, numeric_option, origin_fetches, origin_keep_alive, origin_rest, page_timeout, threads, timeout, workers}
+use Rattle.edge_setup.specs.Numbers.{capacity, client_timeout, connections, fetches, keep_alive, levels, numeric_option, origin_fetches, origin_keep_alive, origin_rest, page_bytes, page_timeout, threads, timeout, workers}
 use Rattle.edge_setup.specs.Rules.{named_flag, named_option, repeated, wanted}
 
 -- where the server listens, and which origins it asks
@@ -12,12 +12,13 @@ with_addresses command = with_rule (with_rule command
 
 -- how pages are assembled and kept
 abbrev pub with_pages : App → App
-with_pages command = with_rule (with_rule (with_rule (with_rule (with_rule command
+with_pages command = with_rule (with_rule (with_rule (with_rule (with_rule (with_rule command
     (numeric_option workers))
     (numeric_option fetches))
     (named_option (codes "ahead")))
     (numeric_option levels))
-    (numeric_option capacity)
+    (numeric_option capacity))
+    (numeric_option page_bytes)
 
 -- how origins are asked
 abbrev pub with_fetching : App → App

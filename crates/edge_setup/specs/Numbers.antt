@@ -39,6 +39,10 @@ levels = record { name = codes "levels"; least = 1; most = 8; default = codes "4
 abbrev pub capacity : Numeric
 capacity = record { name = codes "capacity"; least = 1; most = 1024; default = codes "128"; refusal = codes "error: --capacity takes a number from 1 to 1024" }
 
+-- the bytes that a page may have
+abbrev pub page_bytes : Numeric
+page_bytes = record { name = codes "page-bytes"; least = 0; most = 4294967295; default = codes "0"; refusal = codes "error: --page-bytes takes a number from 0 to 4294967295" }
+
 -- the milliseconds that a fetch may take, at most a day
 abbrev pub timeout : Numeric
 timeout = record { name = codes "timeout"; least = 0; most = 86400000; default = codes "10000"; refusal = codes "error: --timeout takes milliseconds, from 0 to 86400000" }

@@ -8,7 +8,7 @@ use Rattle.std.specs.declared.net.socket_addr.SocketAddr.{SocketAddr}
 use Rattle.clap.specs.Words.{Row, Text, all_of, first_of}
 use Rattle.edge_types.specs.Halves.{around}
 use Rattle.decimals.specs.Decimal.{decimal_of}
-use Rattle.edge_setup.specs.Numbers.{Numeric, ahead, ahead_said, capacity, client_timeout, connections, fetches, keep_alive, levels, origin_fetches, origin_keep_alive, origin_rest, page_timeout, said_of, threads, timeout, workers}
+use Rattle.edge_setup.specs.Numbers.{Numeric, ahead, ahead_said, capacity, client_timeout, connections, fetches, keep_alive, levels, origin_fetches, origin_keep_alive, origin_rest, page_bytes, page_timeout, said_of, threads, timeout, workers}
 use Rattle.surrogate_headers.specs.Token.{is_token}
 use Rattle.edge_setup.specs.OriginWord.{is_authority, IsFaultOf, IsPlace}
 use Rattle.edge_setup.specs.OriginWord.{refusal_of as origin_refusal}
@@ -108,6 +108,7 @@ pub record SaysPages (rows : List Row) (pages : Pages) : Type 0 where
   pub ahead_is : ahead_said pages.fetches (first_of (codes "ahead") rows) ≡ Some pages.ahead
   pub levels_are : said_of levels rows ≡ Some pages.levels
   pub capacity_is : said_of capacity rows ≡ Some pages.capacity
+  pub page_bytes_are : said_of page_bytes rows ≡ Some pages.page_bytes
 
 -- how origins are asked
 pub record SaysFetching (rows : List Row) (fetching : Fetching) : Type 0 where
@@ -145,6 +146,7 @@ IsWrong rows named.Fetches = said_of fetches rows ≡ None
 IsWrong rows named.Ahead = ahead_said 1 (first_of (codes "ahead") rows) ≡ None
 IsWrong rows named.Levels = said_of levels rows ≡ None
 IsWrong rows named.Capacity = said_of capacity rows ≡ None
+IsWrong rows named.PageBytes = said_of page_bytes rows ≡ None
 IsWrong rows named.Timeout = said_of timeout rows ≡ None
 IsWrong rows named.PageTimeout = said_of page_timeout rows ≡ None
 IsWrong rows named.OriginKeepAlive = said_of origin_keep_alive rows ≡ None
@@ -171,7 +173,7 @@ abbrev pub HasAhead : List Row → Type 0
 HasAhead rows = IsSome (ahead_said 1 (first_of (codes "ahead") rows))
 
 abbrev pub HasPages : List Row → Type 0
-HasPages rows = Has workers rows × Has fetches rows × HasAhead rows × Has levels rows × Has capacity rows
+HasPages rows = Has workers rows × Has fetches rows × HasAhead rows × Has levels rows × Has capacity rows × Has page_bytes rows
 
 abbrev pub HasFetching : List Row → Type 0
 HasFetching rows = Has timeout rows × Has page_timeout rows × Has origin_keep_alive rows × Has origin_fetches rows × Has origin_rest rows
@@ -190,6 +192,7 @@ AreValidBefore rows named.Fetches = HasAddress rows × Has workers rows
 AreValidBefore rows named.Ahead = HasAddress rows × Has workers rows × Has fetches rows
 AreValidBefore rows named.Levels = HasAddress rows × Has workers rows × Has fetches rows × HasAhead rows
 AreValidBefore rows named.Capacity = HasAddress rows × Has workers rows × Has fetches rows × HasAhead rows × Has levels rows
+AreValidBefore rows named.PageBytes = HasAddress rows × Has workers rows × Has fetches rows × HasAhead rows × Has levels rows × Has capacity rows
 AreValidBefore rows named.Timeout = HasAddress rows × HasPages rows
 AreValidBefore rows named.PageTimeout = HasAddress rows × HasPages rows × Has timeout rows
 AreValidBefore rows named.OriginKeepAlive = HasAddress rows × HasPages rows × Has timeout rows × Has page_timeout rows
@@ -217,6 +220,7 @@ refusal_of named.Fetches = fetches.refusal
 refusal_of named.Ahead = ahead.refusal
 refusal_of named.Levels = levels.refusal
 refusal_of named.Capacity = capacity.refusal
+refusal_of named.PageBytes = page_bytes.refusal
 refusal_of named.Timeout = timeout.refusal
 refusal_of named.PageTimeout = page_timeout.refusal
 refusal_of named.OriginKeepAlive = origin_keep_alive.refusal

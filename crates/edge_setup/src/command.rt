@@ -6,7 +6,7 @@ ghost use Rattle.edge_setup.specs.Command.{serve_command, with_addresses, with_f
 
 use crate::number::{
     CAPACITY, CLIENT_TIMEOUT, CONNECTIONS, FETCHES, KEEP_ALIVE, LEVELS, ORIGIN_FETCHES,
-    ORIGIN_KEEP_ALIVE, ORIGIN_REST, PAGE_TIMEOUT, THREADS, TIMEOUT, WORKERS,
+    ORIGIN_KEEP_ALIVE, ORIGIN_REST, PAGE_BYTES, PAGE_TIMEOUT, THREADS, TIMEOUT, WORKERS,
 };
 use crate::options::{flag, option, with_option};
 use clap::{ArgAction, Command};
@@ -66,11 +66,13 @@ fn with_pages<'a>(alloc: Global, command: Command<'a>) -> Result<Command<'a>, Al
     );
     let levels = LEVELS.arg(alloc);
     let capacity = CAPACITY.arg(alloc);
+    let page_bytes = PAGE_BYTES.arg(alloc);
     let command = with_option(command, workers)?;
     let command = with_option(command, fetches)?;
     let command = with_option(command, ahead)?;
     let command = with_option(command, levels)?;
-    with_option(command, capacity)
+    let command = with_option(command, capacity)?;
+    with_option(command, page_bytes)
 }
 
 // How origins are asked.

@@ -76,6 +76,16 @@ pub(crate) const CAPACITY: NumericOption = NumericOption {
     refusal: "error: --capacity takes a number from 1 to 1024",
 };
 
+/// The bytes that a page may have.
+pub(crate) const PAGE_BYTES: NumericOption = NumericOption {
+    name: "page-bytes",
+    help: "Bytes that a page may have, a longer one is refused; 0 for no bound",
+    least: 0,
+    most: 4_294_967_295,
+    default: "0",
+    refusal: "error: --page-bytes takes a number from 0 to 4294967295",
+};
+
 /// The milliseconds that a fetch may take, at most a day.
 pub(crate) const TIMEOUT: NumericOption = NumericOption {
     name: "timeout",

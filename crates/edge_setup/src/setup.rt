@@ -6,7 +6,7 @@ ghost use Rattle.edge_setup.specs.declared.setup.SetupFault.TheVariants as fault
 
 use crate::number::{
     AHEAD, CAPACITY, CLIENT_TIMEOUT, CONNECTIONS, FETCHES, KEEP_ALIVE, LEVELS, ORIGIN_FETCHES,
-    ORIGIN_KEEP_ALIVE, ORIGIN_REST, PAGE_TIMEOUT, THREADS, TIMEOUT, WORKERS,
+    ORIGIN_KEEP_ALIVE, ORIGIN_REST, PAGE_BYTES, PAGE_TIMEOUT, THREADS, TIMEOUT, WORKERS,
 };
 use crate::origin::{OriginFault, Place};
 use std::alloc::AllocError;
@@ -34,6 +34,8 @@ pub struct Pages {
     pub levels: u8,
     /// The answers that each shard of the cache keeps.
     pub capacity: u16,
+    /// The most bytes that a page may have; 0 means any number.
+    pub page_bytes: u32,
 }
 
 /// How origins are asked.
@@ -104,6 +106,8 @@ pub enum Named {
     Levels,
     /// `--capacity`: not a number within the limits.
     Capacity,
+    /// `--page-bytes`: not a number within the limits.
+    PageBytes,
     /// `--timeout`: not a number within the limits.
     Timeout,
     /// `--page-timeout`: not a number within the limits.
@@ -141,6 +145,7 @@ impl Named {
             Named::Ahead => AHEAD.refusal,
             Named::Levels => LEVELS.refusal,
             Named::Capacity => CAPACITY.refusal,
+            Named::PageBytes => PAGE_BYTES.refusal,
             Named::Timeout => TIMEOUT.refusal,
             Named::PageTimeout => PAGE_TIMEOUT.refusal,
             Named::OriginKeepAlive => ORIGIN_KEEP_ALIVE.refusal,

@@ -7,7 +7,7 @@ ghost use Rattle.edge_setup.specs.Words.{accepts_of, is_set, name_of, IsAddress,
 
 use crate::number::{
     AHEAD, CAPACITY, CLIENT_TIMEOUT, CONNECTIONS, FETCHES, KEEP_ALIVE, LEVELS, ORIGIN_FETCHES,
-    ORIGIN_KEEP_ALIVE, ORIGIN_REST, PAGE_TIMEOUT, THREADS, TIMEOUT, WORKERS,
+    ORIGIN_KEEP_ALIVE, ORIGIN_REST, PAGE_BYTES, PAGE_TIMEOUT, THREADS, TIMEOUT, WORKERS,
 };
 use crate::origins::origins_of;
 use crate::setup::{Fetching, Named, Pages, Serving, Setup, SetupFault};
@@ -107,6 +107,7 @@ fn pages_of(matches: &ArgMatches<'_>) -> Result<Pages, Named>
         ahead: ahead_of(word_of(matches, "ahead"), fetches).ok_or(Named::Ahead)?,
         levels: LEVELS.u8_of(matches).ok_or(Named::Levels)?,
         capacity: CAPACITY.u16_of(matches).ok_or(Named::Capacity)?,
+        page_bytes: PAGE_BYTES.u32_of(matches).ok_or(Named::PageBytes)?,
     })
 }
 

@@ -163,7 +163,11 @@ impl Assembling {
     /// The same, for pages of at most so many bytes. One that would have more is refused as if there were no memory
     /// for it.
     pub fn with_most_bytes(self, bytes: usize) -> Assembling
-        ensures { result ≡ record self { bytes = bytes } }
+        ensures ahead { result.ahead ≡ self.ahead }
+        ensures workers { result.workers ≡ self.workers }
+        ensures levels { result.levels ≡ self.levels }
+        ensures fetches { result.fetches ≡ self.fetches }
+        ensures bytes { result.bytes ≡ bytes }
     {
         Assembling { bytes, ..self }
     }

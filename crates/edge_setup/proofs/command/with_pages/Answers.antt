@@ -9,8 +9,9 @@ returns-clause-app c =
     let two = c.in_ok-command-2.ensures.app ∙ ap₂ with_rule one c.arg-fetches.ensures.rule in
     let three = c.in_ok-command-3.ensures.app ∙ ap₂ with_rule two c.option-ahead.ensures.rule in
     let four = c.in_ok-command-4.ensures.app ∙ ap₂ with_rule three c.arg-levels.ensures.rule in
-    IfOk-weaker c.with_option-5.result _ _ (λ more is. is ∙ ap₂ with_rule four c.arg-capacity.ensures.rule) c.with_option-5.ensures.app
+    let five = c.in_ok-command-5.ensures.app ∙ ap₂ with_rule four c.arg-capacity.ensures.rule in
+    IfOk-weaker c.with_option-6.result _ _ (λ more is. is ∙ ap₂ with_rule five c.arg-page_bytes.ensures.rule) c.with_option-6.ensures.app
 
 pub returns-clause-local : goal.returns-clause-local
 returns-clause-local c =
-    IfOk-weaker c.with_option-5.result _ _ (λ more is. is ∙ c.in_ok-command-4.ensures.local ∙ c.in_ok-command-3.ensures.local ∙ c.in_ok-command-2.ensures.local ∙ c.in_ok-command.ensures.local) c.with_option-5.ensures.local
+    IfOk-weaker c.with_option-6.result _ _ (λ more is. is ∙ c.in_ok-command-5.ensures.local ∙ c.in_ok-command-4.ensures.local ∙ c.in_ok-command-3.ensures.local ∙ c.in_ok-command-2.ensures.local ∙ c.in_ok-command.ensures.local) c.with_option-6.ensures.local
