@@ -1,6 +1,6 @@
 //! Pages that are assembled by several threads.
 
-ghost use Rattle.std.specs.Prelude.{◌≡◌, ◌≤◌, map, IfOk, IfErr, IsTrue};
+ghost use Rattle.std.specs.Prelude.{◌≡◌, ◌<◌, ◌≤◌, map, IfOk, IfErr, IsTrue};
 ghost use Rattle.std.specs.Arc.{arc_value};
 ghost use Rattle.edge_types.specs.Outcome.{shown};
 ghost use Rattle.esi_meaning.specs.Ahead.{IsLegal};
@@ -157,7 +157,13 @@ impl Assembling {
         ensures fetches { result.fetches ≡ fetches }
         ensures bytes { result.bytes ≡ self.bytes }
     {
-        Assembling { fetches, ..self }
+        Assembling {
+            ahead: self.ahead,
+            workers: self.workers,
+            levels: self.levels,
+            fetches,
+            bytes: self.bytes,
+        }
     }
 
     /// The same, for pages of at most so many bytes. One that would have more is refused as if there were no memory
@@ -169,7 +175,13 @@ impl Assembling {
         ensures fetches { result.fetches ≡ self.fetches }
         ensures bytes { result.bytes ≡ bytes }
     {
-        Assembling { bytes, ..self }
+        Assembling {
+            ahead: self.ahead,
+            workers: self.workers,
+            levels: self.levels,
+            fetches: self.fetches,
+            bytes,
+        }
     }
 
     /// Assembles a page by these numbers, with a gate that is passed before each fetch.
