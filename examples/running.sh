@@ -130,6 +130,13 @@ same_bytes() { same "$1" "$(sha256sum <"$2")" "$(sha256sum <"$3")"; }
 # lines PATTERN FILE: how many lines have it
 lines() { grep -cE -- "$1" "$2"; }
 
+# has_lines COUNT PATTERN FILE ..: whether these have so many lines with it. An edge writes its line after the answer.
+has_lines() {
+    local count=$1 pattern=$2
+    shift 2
+    [ "$(cat "$@" | grep -cE -- "$pattern")" -ge "$count" ]
+}
+
 # connections PORT: how many connections clients have, or had until a minute ago, to this port of 127.0.0.1
 connections() { awk -v at="$(printf '0100007F:%04X' "$1")" '$3 == at && $4 != "0A" || $2 == at && $4 == "06" { print $2 $3 }' /proc/net/tcp | sort -u | wc -l; }
 
@@ -149,8 +156,11 @@ if [ -z "$program" ]; then
     [ ! -x "$examples/../esi_edge" ] || program=$examples/../esi_edge
 fi
 need "$program" curl
+program=$(realpath "$(command -v "$program")") || exit 2
 # Built first: it takes a while the first time, and says how far it is.
 "$program" --version >/dev/null || exit 2
 room=$(mktemp -d) || exit 2
 trap end_all EXIT
 trap 'exit 1' INT TERM
+# HAProxy wants to be able to return to the folder that it is started in.
+cd "$room" || exit 1
