@@ -124,7 +124,8 @@ impl Entries {
 
     // The answer of the URL's entry before its expiry plus its extension.
     pub(crate) fn bridge(&self, url: &PageUrl, now: u64) -> Result<Option<SharedAnswer>, NoMemory>
-        ensures { IfOk result (λ found. found ≡ bridging self.now.entries url.now now) }
+        ensures ok { IfOk result (λ found. found ≡ bridging self.now.entries url.now now) }
+        ensures err { OnErr result (IsSome (bridging self.now.entries url.now now)) }
     {
         let Some(stored) = self.cache.peek(url) else {
             return Ok(None);

@@ -30,6 +30,7 @@ pub enum Begun {
 ///
 /// ```text
 ///  look  --         the stored answer, before its expiry, or nothing
+///  bridging --      the stored answer, before its expiry plus its extension, or nothing
 ///  begin -- Hit     the stored answer, before its expiry
 ///        -- Join    a flight of the URL flies: pick its answer up later
 ///        -- Lead    none does: fetch, and land --+-- stored, or not
@@ -236,9 +237,31 @@ impl Shard {
 }
 
 impl Shard {
-    ghost use Rattle.std.specs.Prelude.{◌≡◌, Some, IsTrue, IfSome};
+    ghost use Rattle.std.specs.Prelude.{◌≡◌, None, Some, IsTrue, IsSome, IfOk, IfSome, OnErr, MatchOption};
+    ghost use Rattle.std.specs.Arc.{arc_value};
     ghost use Rattle.fragment_cache.specs.Times.{is_failing};
     ghost use Rattle.fragment_cache.specs.Machine.{bridging};
+
+    /// Returns the stored answer of a URL if now is before its expiry plus its extension, with which a
+    /// landing for the URL would be bridged if its origin failed now; else `None`. Nothing changes, and no
+    /// flight is begun or joined.
+    ///
+    /// `NoMemory` if a second owner of the answer can't be made.
+    ///
+    /// Our profile.
+    pub fn bridging(&self, url: &PageUrl, now: u64) -> Result<Option<Arc<Answer>>, NoMemory>
+        ensures ok { IfOk result (λ found. MatchOption found
+            (bridging self.now.entries url.now now ≡ None)
+            (λ answer. bridging self.now.entries url.now now ≡ Some (arc_value answer))) }
+        ensures err { OnErr result (IsSome (bridging self.now.entries url.now now)) }
+        ensures named { IfOk result (λ found. IfSome found (λ answer. (arc_value answer).url ≡ url.now)) }
+    {
+        self.entries.sound();
+        match self.entries.bridge(url, now)? {
+            Some(found) => Ok(Some(found.into_arc())),
+            None => Ok(None),
+        }
+    }
 
     // The stored answer that replaces a failing one.
     fn bridge(&self, flight: &Flight, answer: &SharedAnswer, now: u64) -> Option<SharedAnswer>
