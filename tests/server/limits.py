@@ -71,6 +71,23 @@ def a_page_has_no_more_than_its_bytes():
             same("a fragment with %s bytes" % most, (200, b"x" * 1000), told(edge, "/kilobyte"))
 
 
+def a_late_page_shows_older_answers():
+    """Past its time a page has what would bridge a failing origin, and nobody is asked for it: by a thread for each fetch,
+    or several fetches of one. What nothing bridges fails."""
+    texts = {
+        "/slow": slow("s"),
+        "/older": wire("HTTP/1.1 200 OK|surrogate-control: max-age=1+600|content-length: 1||1"),
+        "/expired": wire("HTTP/1.1 200 OK|surrogate-control: max-age=1|content-length: 1||2"),
+        "/p": page_of(ALTERNATIVE % "/slow" + "<esi:include src='/older'/>" + ALTERNATIVE % "/expired"),
+    }
+    for several in ((), ("--fetches", "2")):
+        with Wires(texts) as origin, before(origin, "--workers", "1", "--ahead", "0", "--page-timeout", "200", *several) as edge:
+            same("stored", [(200, b"1"), (200, b"2")], [told(edge, "/older"), told(edge, "/expired")])
+            time.sleep(1.1)
+            same("past the limit", (200, b"s1late"), told(edge, "/p"))
+            same("what was asked for", ["/older", "/expired", "/p", "/slow"], origin.asked())
+
+
 def free_port():
     with socket.create_server(("127.0.0.1", 0)) as found:
         return found.getsockname()[1]
@@ -160,6 +177,7 @@ TESTS = (
     a_page_ends_soon_after_its_time,
     what_is_stored_counts_past_a_page_s_time,
     a_page_has_no_more_than_its_bytes,
+    a_late_page_shows_older_answers,
     an_edge_that_asks_itself_ends_at_once,
     a_circle_of_two_edges_ends_by_their_limits,
     a_request_that_was_here_is_refused,

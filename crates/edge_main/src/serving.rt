@@ -42,11 +42,12 @@ where
         answers_head,
         logs,
     } = server;
+    let most_waiting = fetches.bounds.and_then(|bounds| bounds.most_in_flight);
     let mut source = source_of(rt, origins, fetches)?;
     if let Some(name) = &name {
         source = named(rt, source, name.as_slice())?;
     }
-    let mut service = service_of(rt, source, capacity, pages)?.limited_to(page);
+    let mut service = service_of(rt, source, most_waiting, capacity, pages)?.limited_to(page);
     if let Some(name) = name {
         service = service.named(name);
     }
@@ -166,6 +167,7 @@ fn named(rt: &impl AllocGlobal, source: HyperSource, name: &[u8]) -> Result<Hype
 fn service_of<R>(
     rt: &R,
     source: HyperSource,
+    most_waiting: Option<u32>,
     capacity: usize,
     pages: Assembling,
 ) -> Result<EdgeService<Kept, R>, Status>
@@ -175,7 +177,7 @@ where
     requires few { capacity ≤ 1024 }
 {
     let alloc = rt.alloc();
-    let kept = Cache::new(alloc, source, MonotonicSeconds, capacity)?;
+    let kept = Cache::new(alloc, source, MonotonicSeconds, capacity)?.bounded(most_waiting);
     let Ok(shared) = Arc::new(alloc, kept) else {
         return Err(Status::NoMemory);
     };

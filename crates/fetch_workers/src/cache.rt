@@ -29,6 +29,8 @@ pub struct Cache<S, C> {
     source: S,
     clock: C,
     shards: [SharedShard; SHARDS],
+    // How many may wait for one flight, where that is bounded.
+    most_waiting: Option<u32>,
 }
 
 // The shard of a URL.
@@ -56,7 +58,18 @@ impl<S: Drop, C: Drop> Cache<S, C> {
             source,
             clock,
             shards: array::try_from_fn(|_| SharedShard::new(alloc, capacity))?,
+            most_waiting: None,
         })
+    }
+
+    /// The same cache with this bound, if any, on how many wait for one fetch, apart from who makes it. Whoever is
+    /// one too many gets what would bridge the fetch at once, else a failed answer, and fetches nothing.
+    ///
+    /// Our profile.
+    pub fn bounded(self, most: Option<u32>) -> Cache<S, C> {
+        let mut cache = self;
+        cache.most_waiting = most;
+        cache
     }
 }
 
@@ -108,6 +121,24 @@ impl<S, C> Cache<S, C> {
 }
 
 impl<S, C> Cache<S, C> {
+    // What is given at once for a URL while as many as may wait for its flight.
+    fn crowded_out<R: Wait>(
+        &self,
+        rt: &R,
+        alloc: Global,
+        url: &PageUrl,
+    ) -> Result<Arc<Answer>, NoMemory>
+    where
+        C: Clock<R>,
+        ensures { IfOk result (λ answer. (arc_value answer).url ≡ url.now) }
+    {
+        let shard = &self.shards[shard_of(url)];
+        match shard.bridging(rt, url, self.clock.now(rt))? {
+            Some(answer) => Ok(answer),
+            None => Ok(Arc::new(alloc, Answer::failed(url.share()?))?),
+        }
+    }
+
     // Begins the fetch of a flight that the thread leads. Without room for it the flight lands at once.
     fn depart<R: Wait>(
         &self,
@@ -299,13 +330,17 @@ impl<R: Wait, S: ConcurrentSource<R>, C: Clock<R>> ConcurrentSource<R> for Cache
     ) -> Result<(), NoMemory> {
         in_flight.reserve()?;
         let own = url.share()?;
-        match self.shards[shard_of(url)].begin(rt, url, self.clock.now(rt)) {
-            Begun::Hit(answer) => Ok(in_flight.here.push(answer)?),
-            Begun::Join(number) => Ok(in_flight.joined.push_back(Joined { url: own, number })?),
-            Begun::Lead(flight, ready) => {
+        let shard = &self.shards[shard_of(url)];
+        match shard.begin(rt, url, self.clock.now(rt), self.most_waiting) {
+            None => Ok(in_flight.here.push(self.crowded_out(rt, alloc, url)?)?),
+            Some(Begun::Hit(answer)) => Ok(in_flight.here.push(answer)?),
+            Some(Begun::Join(number)) => {
+                Ok(in_flight.joined.push_back(Joined { url: own, number })?)
+            }
+            Some(Begun::Lead(flight, ready)) => {
                 self.depart(rt, alloc, in_flight, Led::new(flight, ready))
             }
-            Begun::Bypass => self.source.begin(rt, alloc, &mut in_flight.fetches, url),
+            Some(Begun::Bypass) => self.source.begin(rt, alloc, &mut in_flight.fetches, url),
         }
     }
 
@@ -344,11 +379,12 @@ impl<R: Wait, S: Source<R>, C: Clock<R>> Source<R> for Cache<S, C> {
 
     fn fetch(&self, rt: &R, alloc: Global, url: &PageUrl) -> Result<Arc<Answer>, NoMemory> {
         let shard = &self.shards[shard_of(url)];
-        match shard.begin(rt, url, self.clock.now(rt)) {
-            Begun::Hit(answer) => Ok(answer),
-            Begun::Join(number) => self.join(rt, alloc, shard, url, number),
-            Begun::Lead(flight, ready) => self.lead(rt, alloc, shard, flight, ready),
-            Begun::Bypass => self.source.fetch(rt, alloc, url),
+        match shard.begin(rt, url, self.clock.now(rt), self.most_waiting) {
+            None => self.crowded_out(rt, alloc, url),
+            Some(Begun::Hit(answer)) => Ok(answer),
+            Some(Begun::Join(number)) => self.join(rt, alloc, shard, url, number),
+            Some(Begun::Lead(flight, ready)) => self.lead(rt, alloc, shard, flight, ready),
+            Some(Begun::Bypass) => self.source.fetch(rt, alloc, url),
         }
     }
 
@@ -359,5 +395,14 @@ impl<R: Wait, S: Source<R>, C: Clock<R>> Source<R> for Cache<S, C> {
         url: &PageUrl,
     ) -> Result<Option<Arc<Answer>>, NoMemory> {
         self.shards[shard_of(url)].look(rt, url, self.clock.now(rt))
+    }
+
+    fn bridging(
+        &self,
+        rt: &R,
+        _alloc: Global,
+        url: &PageUrl,
+    ) -> Result<Option<Arc<Answer>>, NoMemory> {
+        self.shards[shard_of(url)].bridging(rt, url, self.clock.now(rt))
     }
 }

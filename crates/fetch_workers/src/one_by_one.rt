@@ -29,6 +29,15 @@ impl<'a, R, S: Source<R>> Source<R> for OneByOne<'a, S> {
     fn ready(&self, rt: &R, alloc: Global, url: &PageUrl) -> Result<Option<Arc<Answer>>, NoMemory> {
         self.source.ready(rt, alloc, url)
     }
+
+    fn bridging(
+        &self,
+        rt: &R,
+        alloc: Global,
+        url: &PageUrl,
+    ) -> Result<Option<Arc<Answer>>, NoMemory> {
+        self.source.bridging(rt, alloc, url)
+    }
 }
 
 impl<'a, R, S: Source<R>> ConcurrentSource<R> for OneByOne<'a, S> {

@@ -42,10 +42,18 @@ impl Shelf {
         landed
     }
 
-    // Whether anybody waits for a flight, apart from its leader.
-    fn is_awaited(&self, flight: &Flight) -> bool {
-        let left = self.left.get(&flight.number()).copied();
-        u64::from(self.shard.pick_ups(flight)) > left.unwrap_or(0)
+    // How many wait for the flight with this number, apart from its leader.
+    fn waiting(&self, number: u64) -> u64 {
+        let left = self.left.get(&number).copied().unwrap_or(0);
+        u64::from(self.shard.pick_ups(number)).saturating_sub(left)
+    }
+
+    // Whether as many wait for the URL's flight as may.
+    fn is_crowded(&self, url: &PageUrl, most: u32) -> bool {
+        match self.shard.under_way(url) {
+            Some(number) => self.waiting(number) >= u64::from(most),
+            None => false,
+        }
     }
 
     // Notes that one more has left a flight.
@@ -85,10 +93,21 @@ impl SharedShard {
         shelf
     }
 
-    pub(crate) fn begin<R: Wait>(&self, rt: &R, url: &PageUrl, now: u64) -> Begun
-        ensures { NamesUrl url.now (begun_answer result) }
+    // Begins for a URL, unless as many as may already wait for its flight: then nothing is begun or joined.
+    pub(crate) fn begin<R: Wait>(
+        &self,
+        rt: &R,
+        url: &PageUrl,
+        now: u64,
+        most: Option<u32>,
+    ) -> Option<Begun>
+        ensures { IfSome result (λ begun. NamesUrl url.now (begun_answer begun)) }
     {
-        self.lock(rt).shard.begin(url, now)
+        let mut shelf = self.lock(rt);
+        match most {
+            Some(most) if shelf.is_crowded(url, most) => None,
+            _ => Some(shelf.shard.begin(url, now)),
+        }
     }
 
     pub(crate) fn look<R: Wait>(
@@ -100,6 +119,18 @@ impl SharedShard {
         ensures { IfOk result (λ found. IfSome found (λ answer. (arc_value answer).url ≡ url.now)) }
     {
         self.lock(rt).shard.look(url, now)
+    }
+
+    // The stored answer that would bridge a failing landing for the URL.
+    pub(crate) fn bridging<R: Wait>(
+        &self,
+        rt: &R,
+        url: &PageUrl,
+        now: u64,
+    ) -> Result<Option<Arc<Answer>>, NoMemory>
+        ensures { IfOk result (λ found. IfSome found (λ answer. (arc_value answer).url ≡ url.now)) }
+    {
+        self.lock(rt).shard.bridging(url, now)
     }
 
     // Lands a flight, and wakes those who wait for it to land.
@@ -123,7 +154,7 @@ impl SharedShard {
         ensures { IfSome result (λ kept. kept.flight ≡ led.flight) }
     {
         let mut shelf = self.lock(rt);
-        if shelf.is_awaited(&led.flight) {
+        if shelf.waiting(led.flight.number()) > 0 {
             return Some(led);
         }
         let (flight, ready) = led.into_parts();

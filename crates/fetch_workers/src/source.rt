@@ -33,5 +33,18 @@ pub trait Source<R> {
         Ok(None)
     }
 
+    /// The answer that would bridge a failing origin for a URL, if it is there without waiting; by default a source
+    /// has none. Nothing is fetched for it.
+    fn bridging(
+        &self,
+        _rt: &R,
+        _alloc: Global,
+        _url: &PageUrl,
+    ) -> Result<Option<Arc<Answer>>, NoMemory>
+        ensures { IfOk result (λ found. IfSome found (λ answer. gives self.now _url.now (arc_value answer))) }
+    {
+        Ok(None)
+    }
+
     ghost names_url: { (source : Self) (url : List ℕ) (answer : Answered) → gives source url answer → answer.url ≡ url };
 }

@@ -176,11 +176,11 @@ impl Flights {
         Ok((Flight { number, url: own }, ready))
     }
 
-    // How many pick-ups a flight has left.
-    pub(crate) fn pick_ups(&self, flight: &Flight) -> u16
-        ensures { result ≡ picks_at self.now.flights flight.now.number }
+    // How many pick-ups the flight with a number has left.
+    pub(crate) fn pick_ups(&self, number: u64) -> u16
+        ensures { result ≡ picks_at self.now.flights number }
     {
-        picks(&self.kept, flight.number)
+        picks(&self.kept, number)
     }
 
     // Lands a flight that is under way, with its pick-ups; it is gone if it has none, or if a second

@@ -54,7 +54,7 @@ impl Model for Shard {
 impl Shard {
     ghost use Rattle.std.specs.Prelude.{◌≡◌, ◌<◌, ◌≤◌, ◌+◌, ◌++◌, ◌∷◌, [], ℕ, None, Some, IfOk, IfSome, OnErr, MatchOption};
     ghost use Rattle.std.specs.Arc.{arc_value};
-    ghost use Rattle.fragment_cache.specs.Machine.{empty, fresh, picks_at};
+    ghost use Rattle.fragment_cache.specs.Machine.{empty, fresh, picks_at, flying_at, NoneFlies};
     ghost use Rattle.fragment_cache.specs.Steps.{Begins, Looks, Found, Missing, Refused, LandsSomehow, Picks};
     ghost use Rattle.fragment_cache.specs.Shown.{begun_answer, picked_answer};
     ghost use Rattle.fragment_cache.specs.Sound.{IsSound, NamesUrl};
@@ -142,13 +142,25 @@ impl Shard {
         self.flights.sound();
     }
 
-    /// How many pick-ups of a flight have been noted and not been made: for how many others its leader fetches too.
+    /// How many pick-ups of the flight with a number have been noted and not been made: for how many others its
+    /// leader fetches too. 0 if there is no such flight.
     ///
     /// Our profile.
-    pub fn pick_ups(&self, flight: &Flight) -> u16
-        ensures { result ≡ picks_at self.now.flights flight.now.number }
+    pub fn pick_ups(&self, number: u64) -> u16
+        ensures { result ≡ picks_at self.now.flights number }
     {
-        self.flights.pick_ups(flight)
+        self.flights.pick_ups(number)
+    }
+
+    /// The number of the flight that is under way for a URL, which a `begin` joins where no entry answers;
+    /// `None` if none is.
+    ///
+    /// Our profile.
+    pub fn under_way(&self, url: &PageUrl) -> Option<u64>
+        ensures { MatchOption result (NoneFlies self.now.flights url.now)
+            (λ number. flying_at self.now.flights number ≡ Some url.now) }
+    {
+        self.flights.flying(url)
     }
 
     // Joins the flight of a URL that no entry answers, or leads a new one.

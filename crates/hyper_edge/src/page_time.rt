@@ -1,5 +1,7 @@
 //! The time that a page may take.
 
+ghost use Rattle.std.specs.Prelude.{◌≡◌, IfOk};
+ghost use Rattle.std.specs.Arc.{arc_value};
 ghost use Rattle.hyper_edge.specs.PageTime.{GivesInTime, names_url};
 
 use edge_types::{Answer, NoMemory, PageUrl};
@@ -8,8 +10,8 @@ use std::alloc::Global;
 use std::sync::Arc;
 use std::time::{Clock, Instant};
 
-/// A source as one page sees it: once the page's time is over, each fetch fails at once. What the source has ready
-/// costs no time, so it is still given.
+/// A source as one page sees it: once the page's time is over, nothing is fetched, and what would have been is
+/// bridged, or fails at once. What the source has ready costs no time, so it is still given.
 #[derive(Drop)]
 pub(crate) struct WithinTime<'a, S> {
     pub source: &'a S,
@@ -22,6 +24,19 @@ impl<'a, S> WithinTime<'a, S> {
         match (self.until, Instant::now(clock)) {
             (Some(until), Ok(now)) => until < now,
             _ => false,
+        }
+    }
+
+    // What is given for a URL that is asked for too late: what would bridge its failing origin, else a failed answer.
+    fn too_late<R>(&self, rt: &R, alloc: Global, url: &PageUrl) -> Result<Arc<Answer>, NoMemory>
+    where
+        S: Source<R>,
+        ensures given { IfOk result (λ answer. GivesInTime (S.gives self.now.source.now) url.now (arc_value answer)) }
+        ensures named { IfOk result (λ answer. (arc_value answer).url ≡ url.now) }
+    {
+        match self.source.bridging(rt, alloc, url)? {
+            Some(answer) => Ok(answer),
+            None => Ok(Arc::new(alloc, Answer::failed(url.share()?))?),
         }
     }
 }
@@ -39,13 +54,22 @@ impl<'a, R: Clock, S: Source<R>> Source<R> for WithinTime<'a, S> {
 
     fn fetch(&self, rt: &R, alloc: Global, url: &PageUrl) -> Result<Arc<Answer>, NoMemory> {
         if self.is_over(rt) {
-            return Ok(Arc::new(alloc, Answer::failed(url.share()?))?);
+            return self.too_late(rt, alloc, url);
         }
         self.source.fetch(rt, alloc, url)
     }
 
     fn ready(&self, rt: &R, alloc: Global, url: &PageUrl) -> Result<Option<Arc<Answer>>, NoMemory> {
         self.source.ready(rt, alloc, url)
+    }
+
+    fn bridging(
+        &self,
+        rt: &R,
+        alloc: Global,
+        url: &PageUrl,
+    ) -> Result<Option<Arc<Answer>>, NoMemory> {
+        self.source.bridging(rt, alloc, url)
     }
 }
 
@@ -80,7 +104,7 @@ impl<'a, R: Clock, S: ConcurrentSource<R>> ConcurrentSource<R> for WithinTime<'a
         in_flight: &mut FlightsInTime<S::InFlight>,
     ) -> Result<Option<Arc<Answer>>, NoMemory> {
         match in_flight.late.pop() {
-            Some(url) => Ok(Some(Arc::new(alloc, Answer::failed(url))?)),
+            Some(url) => Ok(Some(self.too_late(rt, alloc, &url)?)),
             None => self.source.next(rt, alloc, &mut in_flight.fetches),
         }
     }

@@ -16,6 +16,8 @@ use surrogate_headers::{control, own_device};
 /// ```text
 /// begin PATH NOW             the answer that is there, or who is to fetch it
 /// look PATH NOW              the answer that is there, if any
+/// bridging PATH NOW          the answer that would bridge a failing origin, if any
+/// waiting PATH               how many wait for the flight that is under way, if one is
 /// land FLIGHT NOW TOLD       the answer for those who wait for the flight
 /// pick FLIGHT                the answer for one of those who joined it
 /// ```
@@ -115,6 +117,16 @@ impl Desk {
                 let url = self.url(alloc, first)?;
                 self.look(&url, number(rest)?, line)
             }
+            b"bridging" => {
+                let url = self.url(alloc, first)?;
+                push_found(line, self.shard.bridging(&url, number(rest)?).ok()?);
+                Some(())
+            }
+            b"waiting" => {
+                let url = self.url(alloc, first)?;
+                self.waiting(&url, line);
+                Some(())
+            }
             b"land" => self.land(alloc, number(first)?, rest, line),
             b"pick" => self.pick(number(first)?, line),
             _ => None,
@@ -154,11 +166,15 @@ impl Desk {
     }
 
     fn look(&mut self, url: &PageUrl, now: u64, line: &mut Line) -> Option<()> {
-        match self.shard.look(url, now).ok()? {
-            Some(answer) => push_body(line, "hit ", &answer),
-            None => line.push("nothing"),
-        }
+        push_found(line, self.shard.look(url, now).ok()?);
         Some(())
+    }
+
+    fn waiting(&self, url: &PageUrl, line: &mut Line) {
+        match self.shard.under_way(url) {
+            Some(number) => push_number(line, "waiting ", u64::from(self.shard.pick_ups(number))),
+            None => line.push("none flies"),
+        }
     }
 
     fn land(&mut self, alloc: Global, number: u64, words: &[u8], line: &mut Line) -> Option<()> {
@@ -204,6 +220,13 @@ fn told_answer(alloc: Global, url: &PageUrl, told: &[u8]) -> Option<Option<Arc<A
 fn push_number(line: &mut Line, word: &str, number: u64) {
     line.push(word);
     line.display(&number);
+}
+
+fn push_found(line: &mut Line, found: Option<Arc<Answer>>) {
+    match found {
+        Some(answer) => push_body(line, "hit ", &answer),
+        None => line.push("nothing"),
+    }
 }
 
 fn push_body(line: &mut Line, word: &str, answer: &Answer) {
