@@ -1,0 +1,6 @@
+pub mod Clock
+pub mod Faults
+pub mod Escapes
+pub mod Lines
+pub mod Queued
+pub mod Queue

@@ -1,0 +1,130 @@
+-- The lines of the log.
+use Rattle.std.specs.Prelude.{◌≡◌, ℕ, List, [], ◌++◌, codes, decimal, length, ◌==◌, Option, Some, None, if◌then◌else◌}
+use Rattle.std.specs.Net.Text.{ip_text}
+use Rattle.std.specs.declared.net.ip_addr.IpAddr.{IpAddr}
+use Rattle.access_log.specs.Clock.{IsDateOf, internet_time, log_time}
+use Rattle.access_log.specs.Escapes.{json_escaped, log_escaped}
+use Rattle.access_log.specs.Faults.{name_of}
+use Rattle.access_log.specs.declared.format.LogFormat.{LogFormat}
+use Rattle.access_log.specs.declared.format.LogFormat.TheVariants.{Line, Combined, Json}
+use Rattle.access_log.specs.declared.record.Fault.{Fault}
+use Rattle.access_log.specs.declared.record.Place.{Place}
+use Rattle.access_log.specs.declared.record.RequestRecord.{RequestRecord}
+use Rattle.access_log.specs.declared.record.Version.{Version}
+use Rattle.access_log.specs.declared.record.Version.TheVariants.{Http10, Http11}
+
+-- ---- parts
+
+abbrev pub field : List ℕ → List ℕ
+field text = text ++ codes " "
+
+abbrev pub or_dash : List ℕ → List ℕ
+or_dash text = if length text == 0 then codes "-" else text
+
+abbrev pub client_text : Option IpAddr → List ℕ
+client_text (Some address) = ip_text address
+client_text None = codes "-"
+
+abbrev pub version_text : Version → List ℕ
+version_text Http10 = codes "HTTP/1.0"
+version_text Http11 = codes "HTTP/1.1"
+
+-- ---- fields with spaces between them
+
+-- when and what was asked
+abbrev pub asked_fields : ℕ → RequestRecord → List ℕ
+asked_fields second request = field (decimal second) ++ field (or_dash request.method.items) ++ field (or_dash request.url.items)
+
+-- and how that was answered
+abbrev pub answer_fields : RequestRecord → List ℕ
+answer_fields request = field (decimal request.status) ++ field (decimal request.body) ++ field (decimal request.answers) ++ decimal request.micros ++ codes "\n"
+
+abbrev pub plain_line : ℕ → RequestRecord → List ℕ
+plain_line second request = asked_fields second request ++ answer_fields request
+
+-- ---- the Combined Log Format (Apache HTTP Server, "Log Files"; nginx, `log_format combined`)
+
+abbrev pub quoted : List ℕ → List ℕ
+quoted text = codes "\"" ++ log_escaped (or_dash text) ++ codes "\""
+
+-- the request line, between quotes
+abbrev pub request_line : RequestRecord → List ℕ
+request_line request = codes "\"" ++ log_escaped request.method.items ++ codes " " ++ log_escaped request.target.items ++ codes " " ++ version_text request.version ++ codes "\" "
+
+-- who asked, and when
+unfoldable pub log_head : List ℕ → Option IpAddr → List ℕ
+log_head date client = client_text client ++ codes " - - [" ++ log_time date ++ codes "] "
+
+-- what was sent, and what the client says of itself
+abbrev pub log_end : RequestRecord → List ℕ
+log_end request = field (decimal request.status) ++ field (decimal request.body) ++ quoted request.referer.items ++ codes " " ++ quoted request.agent.items ++ codes "\n"
+
+abbrev pub combined_line : List ℕ → RequestRecord → List ℕ
+combined_line date request = log_head date request.client ++ request_line request ++ log_end request
+
+-- ---- JSON (RFC 8259)
+
+abbrev pub member_name : List ℕ → List ℕ
+member_name name = codes ",\"" ++ name ++ codes "\":"
+
+unfoldable pub text_member : List ℕ → List ℕ → List ℕ
+text_member name text = member_name name ++ codes "\"" ++ json_escaped text ++ codes "\""
+
+abbrev pub number_member : List ℕ → ℕ → List ℕ
+number_member name number = member_name name ++ decimal number
+
+-- what a fault is about: ` http://a.test/p 3:14`
+abbrev pub url_part : List ℕ → List ℕ
+url_part url = if length url == 0 then [] else codes " " ++ json_escaped url
+
+abbrev pub place_part : Option Place → List ℕ
+place_part None = []
+place_part (Some place) = codes " " ++ decimal place.line ++ codes ":" ++ decimal place.column
+
+unfoldable pub fault_member : Option Fault → List ℕ
+fault_member None = []
+fault_member (Some fault) = codes ",\"fault\":\"" ++ name_of fault.reason ++ url_part fault.url.items ++ place_part fault.place ++ codes "\""
+
+unfoldable pub time_member : List ℕ → List ℕ
+time_member date = codes "{\"time\":\"" ++ internet_time date ++ codes "\""
+
+-- who asked for what
+unfoldable pub asked_members : RequestRecord → List ℕ
+asked_members request =
+    text_member (codes "client") (client_text request.client) ++ text_member (codes "method") request.method.items ++ text_member (codes "url") request.url.items
+
+-- and how that was answered
+unfoldable pub answer_members : RequestRecord → List ℕ
+answer_members request =
+    number_member (codes "status") request.status ++ number_member (codes "bytes") request.body ++ number_member (codes "microseconds") request.micros
+    ++ number_member (codes "answers") request.answers
+
+abbrev pub json_line : List ℕ → RequestRecord → List ℕ
+json_line date request = time_member date ++ asked_members request ++ answer_members request ++ fault_member request.fault ++ codes "}\n"
+
+-- ---- the line of a request, and the one that says how many were lost
+
+abbrev pub line : LogFormat → ℕ → List ℕ → RequestRecord → List ℕ
+line Line second date request = plain_line second request
+line Combined second date request = combined_line date request
+line Json second date request = json_line date request
+
+abbrev pub IsLineOf : LogFormat → ℕ → RequestRecord → List ℕ → Type 0
+IsLineOf format second request text = (date : List ℕ) × IsDateOf second date × (text ≡ line format second date request)
+
+abbrev pub plain_report : ℕ → ℕ → List ℕ
+plain_report second lost = field (decimal second) ++ codes "LOST " ++ decimal lost ++ codes " 0 0 0 0\n"
+
+abbrev pub combined_report : List ℕ → ℕ → List ℕ
+combined_report date lost = log_head date None ++ codes "\"-\" 0 0 \"-\" \"" ++ decimal lost ++ codes " lines lost\"\n"
+
+abbrev pub json_report : List ℕ → ℕ → List ℕ
+json_report date lost = time_member date ++ number_member (codes "lost") lost ++ codes "}\n"
+
+abbrev pub report : LogFormat → ℕ → List ℕ → ℕ → List ℕ
+report Line second date lost = plain_report second lost
+report Combined second date lost = combined_report date lost
+report Json second date lost = json_report date lost
+
+abbrev pub IsReportOf : LogFormat → ℕ → ℕ → List ℕ → Type 0
+IsReportOf format second lost text = (date : List ℕ) × IsDateOf second date × (text ≡ report format second date lost)

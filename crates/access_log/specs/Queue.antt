@@ -1,0 +1,41 @@
+-- The bytes of lines that wait until they are written.
+use Rattle.std.specs.Prelude.{◌≡◌, ◌⊎◌, ℕ, ◌+◌, ◌-◌, ◌^◌, ◌<◌, min, Bool, true, false, not, nat_eq, nat_le, List, [], ◌++◌, length, take, drop, if◌then◌else◌}
+use Rattle.access_log.specs.Lines.{IsReportOf}
+use Rattle.access_log.specs.Queued.{Queued}
+use Rattle.access_log.specs.declared.format.LogFormat.{LogFormat}
+
+abbrev pub empty : ℕ → Queued
+empty most = record { waiting = []; most = most; lost = 0; is_written = false }
+
+-- there is room for these bytes
+abbrev pub fits : List ℕ → Queued → Bool
+fits text queue = nat_le (length queue.waiting + length text) queue.most
+
+-- they wait, and with them it is told what was lost before
+abbrev pub kept : List ℕ → Queued → Queued
+kept text queue = record queue { waiting = queue.waiting ++ text; lost = 0 }
+
+-- a line is lost
+abbrev pub lost_one : Queued → Queued
+lost_one queue = record queue { lost = min (queue.lost + 1) (2 ^ 64 - 1) }
+
+-- the text is a line, and before it, where some were lost, the line that says how many
+abbrev pub IsTold : LogFormat → ℕ → ℕ → List ℕ → List ℕ → Type 0
+IsTold format second lost line text =
+    ((lost ≡ 0) × (text ≡ line)) ⊎ ((0 < lost) × ((report : List ℕ) × IsReportOf format second lost report × (text ≡ report ++ line)))
+
+-- the line waits if there is room for it and for what it tells
+abbrev pub Tells : LogFormat → ℕ → List ℕ → Queued → Queued → Type 0
+Tells format second line old new =
+    (text : List ℕ) × IsTold format second old.lost line text × (new ≡ (if fits text old then kept text old else lost_one old))
+
+-- somebody writes
+abbrev pub begun : Queued → Queued
+begun queue = record queue { is_written = true }
+
+abbrev pub stopped : Queued → Queued
+stopped queue = record queue { is_written = false }
+
+-- so many of the first bytes are taken; whoever finds none writes no more
+abbrev pub taken : ℕ → Queued → Queued
+taken count queue = record queue { waiting = drop count queue.waiting; is_written = if nat_eq count 0 then false else queue.is_written }

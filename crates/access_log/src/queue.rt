@@ -1,0 +1,158 @@
+//! The bytes of lines that wait until they are written.
+
+ghost use Rattle.std.specs.Prelude.{◌≡◌, min, not, length, take, OnOk, OnErr, if◌then◌else◌};
+
+use crate::format::LogFormat;
+use crate::line::report_of;
+use std::alloc::{AllocError, Global};
+use std::marker::Model;
+
+/// Lines that wait until somebody writes them, as many as there is room for: whoever has a line leaves it here, and
+/// writes what waits only where nobody else does. What there is no room for is lost, and the next line that is kept
+/// comes behind one that says how many were.
+///
+/// Our profile.
+#[derive(Drop)]
+pub struct LineQueue {
+    bytes: Vec<u8>,
+    // What is before it was taken.
+    start: usize,
+    most: usize,
+    lost: u64,
+    is_written: bool,
+}
+
+impl Model for LineQueue {
+    ghost use Rattle.std.specs.Prelude.{vec_len, drop, ◌≤◌};
+    ghost use Rattle.access_log.specs.Queued.{Queued};
+
+    ghost Value = { Queued };
+
+    ghost view = { λ q. record { waiting = drop q.start q.bytes.items; most = q.most; lost = q.lost; is_written = q.is_written } };
+
+    ghost invariant = { λ q. q.start ≤ vec_len q.bytes };
+}
+
+impl LineQueue {
+    ghost use Rattle.access_log.specs.Queue.{Tells, begun, empty, fits, kept, lost_one, stopped, taken};
+
+    /// A queue in which this many bytes may wait. Takes no memory.
+    pub fn new(alloc: Global, most: usize) -> LineQueue
+        ensures { result ≡ empty most }
+    {
+        LineQueue {
+            bytes: Vec::new(alloc),
+            start: 0,
+            most,
+            lost: 0,
+            is_written: false,
+        }
+    }
+
+    /// A line of this second since 1970 is to be written, with the line before it that says how many were lost, if some
+    /// were. Where there is no room for both, it is lost too; without memory as well, which is the only refusal.
+    pub fn tell(
+        &mut self,
+        alloc: Global,
+        format: LogFormat,
+        second: u64,
+        line: &[u8],
+    ) -> Result<(), AllocError>
+        ensures ok { OnOk result (Tells format second line.now self.old self.new) }
+        ensures err { OnErr result (self.new ≡ lost_one self.old) }
+    {
+        let told = self.try_to_tell(alloc, format, second, line);
+        if told.is_err() {
+            self.lose();
+        }
+        told
+    }
+
+    fn try_to_tell(
+        &mut self,
+        alloc: Global,
+        format: LogFormat,
+        second: u64,
+        line: &[u8],
+    ) -> Result<(), AllocError>
+        ensures ok { OnOk result (Tells format second line.now self.old self.new) }
+        ensures err { OnErr result (self.new ≡ self.old) }
+    {
+        if self.lost == 0 {
+            return self.keep(line);
+        }
+        let mut text = report_of(alloc, format, second, self.lost)?;
+        text.extend_from_slice(line)?;
+        self.keep(text.as_slice())
+    }
+
+    // Has bytes wait that tell of all that was lost, if there is room for them.
+    fn keep(&mut self, text: &[u8]) -> Result<(), AllocError>
+        ensures ok { OnOk result (self.new ≡ (if fits text.now self.old then kept text.now self.old else lost_one self.old)) }
+        ensures err { OnErr result (self.new ≡ self.old) }
+    {
+        let waiting = self.bytes.len() - self.start;
+        if waiting > self.most || text.len() > self.most - waiting {
+            self.lose();
+            return Ok(());
+        }
+        self.make_room();
+        self.bytes.extend_from_slice(text)?;
+        self.lost = 0;
+        Ok(())
+    }
+
+    /// A line is lost, as for want of memory.
+    pub(crate) fn lose(&mut self)
+        ensures { self.new ≡ lost_one self.old }
+    {
+        self.lost = self.lost.saturating_add(1);
+    }
+
+    // Lets go of what was taken, once that is more than what waits: so each byte is moved once at most for each one taken.
+    fn make_room(&mut self)
+        ensures { self.new ≡ self.old }
+    {
+        let waiting = self.bytes.len() - self.start;
+        if waiting < self.start {
+            self.bytes.copy_within(self.start.., 0);
+            self.bytes.truncate(waiting);
+            self.start = 0;
+        }
+    }
+
+    /// Whether the caller is to write what waits, since nobody does: then nobody else is told so until it has stopped.
+    pub fn begin(&mut self) -> bool
+        ensures free { result ≡ not self.old.is_written }
+        ensures begun { self.new ≡ begun self.old }
+    {
+        let is_free = !self.is_written;
+        self.is_written = true;
+        is_free
+    }
+
+    /// Takes the first bytes that wait, as many as there are and as the chunk holds, and returns their number. Where
+    /// there are none, the caller has stopped writing.
+    pub fn take(&mut self, chunk: &mut [u8]) -> usize
+        ensures count { result ≡ min (length chunk.old) (length self.old.waiting) }
+        ensures bytes { take result chunk.new ≡ take result self.old.waiting }
+        ensures rest { self.new ≡ taken result self.old }
+    {
+        let count = chunk.len().min(self.bytes.len() - self.start);
+        if count == 0 {
+            self.stop();
+            return 0;
+        }
+        let end = self.start + count;
+        chunk[..count].copy_from_slice(&self.bytes[self.start..end]);
+        self.start = end;
+        count
+    }
+
+    /// The caller writes no more.
+    pub fn stop(&mut self)
+        ensures { self.new ≡ stopped self.old }
+    {
+        self.is_written = false;
+    }
+}
