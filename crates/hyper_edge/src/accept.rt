@@ -1,6 +1,7 @@
 //! Where connections come from.
 
 use crate::signals::{Pause, Signals};
+use std::net::IpAddr;
 use std::sync::Arc;
 use std::time::Duration;
 
@@ -23,6 +24,11 @@ pub trait Accept<R> {
     /// By what a stream tells that a response has been written, and why it can't go on. By default no stream tells
     /// anything, so none is waited for by anything but its own reads and writes.
     fn signals(&self, _io: &Self::Io) -> Option<Arc<Signals>> {
+        None
+    }
+
+    /// The address of the client of a stream, where it is known. By default none is.
+    fn client(&self, _io: &Self::Io) -> Option<IpAddr> {
         None
     }
 

@@ -9,7 +9,7 @@ use futures::task::{Context, Poll};
 use std::alloc::Global;
 use std::io;
 use std::io::{ErrorKind, Read, Write};
-use std::net::{Shutdown, TcpStream};
+use std::net::{IpAddr, Shutdown, TcpStream};
 use std::os::fd::AsRawFd;
 use std::sync::Arc;
 use std::sync::atomic::{AtomicBool, Ordering};
@@ -32,6 +32,7 @@ const LINGERS_READS: usize = 16;
 #[derive(Drop)]
 pub struct ClientStream<R> {
     socket: TcpStream,
+    client: IpAddr,
     rt: R,
     limits: Limits,
     exchange: Exchange,
@@ -43,10 +44,11 @@ pub struct ClientStream<R> {
 }
 
 impl<R: Clock + Drop> ClientStream<R> {
-    /// A connection whose first exchange begins now, and whose writes block for a moment.
+    /// A connection of this client whose first exchange begins now, and whose writes block for a moment.
     pub(crate) fn new(
         alloc: Global,
         socket: TcpStream,
+        client: IpAddr,
         rt: R,
         limits: Limits,
         may_wait: Arc<AtomicBool>,
@@ -60,6 +62,7 @@ impl<R: Clock + Drop> ClientStream<R> {
         let exchange = Exchange::begun(Stage::Accepted, deadline(&rt, limits.request)?);
         Ok(ClientStream {
             socket,
+            client,
             rt,
             limits,
             exchange,
@@ -72,6 +75,11 @@ impl<R: Clock + Drop> ClientStream<R> {
     /// What it tells whoever serves it.
     pub(crate) fn signals(&self) -> Option<Arc<Signals>> {
         self.signals.clone().ok()
+    }
+
+    /// The client's address.
+    pub(crate) fn client(&self) -> IpAddr {
+        self.client
     }
 
     fn is_kept(&self) -> bool {

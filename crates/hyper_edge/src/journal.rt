@@ -1,6 +1,6 @@
 //! What a server reports about the requests that it answered.
 
-ghost use Rattle.std.specs.Prelude.{◌≡◌, ◌/◌, ◌-◌, ◌^◌, min, length, slice_get, IfSome};
+ghost use Rattle.std.specs.Prelude.{◌≡◌, ◌/◌, ◌-◌, ◌^◌, min, length, slice_get, option_map, IfSome};
 ghost use Rattle.std.specs.Arc.{arc_value};
 ghost use Rattle.std.specs.Duration.{as_nanos};
 ghost use Rattle.edge_types.specs.Pieces.{joined};
@@ -8,10 +8,14 @@ ghost use Rattle.http.specs.Request as http;
 ghost use Rattle.page_http.specs.Sent.{sent};
 ghost use Rattle.hyper_edge.specs.Records.{IsCopyOrEmpty};
 
+use crate::faults::fault_of;
 use crate::responding::Responded;
+use access_log::{RequestRecord, Version};
 use http::Request;
+use http::header::{HeaderName, REFERER, USER_AGENT};
 use http_body::Body;
 use std::alloc::Global;
+use std::net::IpAddr;
 use std::time::{Clock, Duration, Instant};
 
 /// What each request that was answered is reported to, by the threads that serve.
@@ -37,23 +41,6 @@ impl<R> Journal<R> for NoJournal {
     fn served(&self, _rt: &R, _record: &RequestRecord) {}
 }
 
-/// A request, and how it was answered. A text for which there is no memory is empty.
-#[derive(Drop)]
-pub struct RequestRecord {
-    /// The method.
-    pub method: Vec<u8>,
-    /// The URL of the page; if none was assembled, the target of the request.
-    pub url: Vec<u8>,
-    /// The status of the response.
-    pub status: u16,
-    /// The bytes of its body.
-    pub body: u64,
-    /// The answers that the page asked the source for, its own among them; 0 for a refusal.
-    pub answers: u64,
-    /// The microseconds from the request's head until its response has been written, or its connection has ended.
-    pub micros: u64,
-}
-
 /// A request that was answered and is to be reported: when its head had come, and how it was answered.
 #[derive(Drop)]
 pub(crate) struct Unreported {
@@ -62,16 +49,17 @@ pub(crate) struct Unreported {
 }
 
 impl Unreported {
-    /// A request whose head had come at `begun`.
+    /// A request of this client whose head had come at `begun`.
     pub(crate) fn new<B>(
         alloc: Global,
         begun: Instant,
+        client: Option<IpAddr>,
         request: &Request<B>,
         responded: &Responded,
     ) -> Unreported {
         Unreported {
             begun,
-            record: record_of(alloc, request, responded),
+            record: record_of(alloc, client, request, responded),
         }
     }
 
@@ -86,20 +74,33 @@ impl Unreported {
 }
 
 // The record of how a request was answered, as long as it hasn't been reported.
-fn record_of<B>(alloc: Global, request: &Request<B>, responded: &Responded) -> RequestRecord
+fn record_of<B>(
+    alloc: Global,
+    client: Option<IpAddr>,
+    request: &Request<B>,
+    responded: &Responded,
+) -> RequestRecord
+    ensures client { result.client ≡ client }
     ensures method { IsCopyOrEmpty (http.head_of request.now).method result.method.items }
     ensures url { IfSome (slice_get responded.now.log.items 0) (λ page. IsCopyOrEmpty (arc_value page).url result.url.items) }
     ensures status { result.status ≡ (sent responded.now.response).status }
     ensures body { result.body ≡ length (joined (sent responded.now.response).frames) }
     ensures answers { result.answers ≡ length responded.now.log.items }
+    ensures fault { option_map (λ fault. fault.reason) result.fault ≡ responded.now.reason }
 {
     RequestRecord {
+        client,
         method: copy(alloc, request.method().as_str().as_bytes()),
+        target: target_of(alloc, request),
+        version: version_of(request),
         url: url_of(alloc, request, responded),
         status: responded.response.status().as_u16(),
         body: responded.response.body().size_hint().exact().unwrap_or(0),
         answers: responded.log.len() as u64,
         micros: 0,
+        referer: field_of(alloc, request, REFERER),
+        agent: field_of(alloc, request, USER_AGENT),
+        fault: fault_of(alloc, responded),
     }
 }
 
@@ -116,14 +117,37 @@ fn url_of<B>(alloc: Global, request: &Request<B>, responded: &Responded) -> Vec<
 {
     match responded.log.first() {
         Some(page) => copy(alloc, page.url().as_bytes()),
-        None => match format!(in alloc; "{}", request.uri()) {
-            Ok(target) => target.into_bytes(),
-            Err(_) => Vec::new(alloc),
-        },
+        None => target_of(alloc, request),
     }
 }
 
-fn copy(alloc: Global, text: &[u8]) -> Vec<u8>
+// The target of a request, as it was sent.
+fn target_of<B>(alloc: Global, request: &Request<B>) -> Vec<u8> {
+    match format!(in alloc; "{}", request.uri()) {
+        Ok(target) => target.into_bytes(),
+        Err(_) => Vec::new(alloc),
+    }
+}
+
+// The version of a request. The HTTP library takes no others.
+fn version_of<B>(request: &Request<B>) -> Version {
+    if request.version() == http::Version::HTTP_10 {
+        Version::Http10
+    } else {
+        Version::Http11
+    }
+}
+
+// The value of a field of a request; of several with this name the first one's.
+fn field_of<B>(alloc: Global, request: &Request<B>, name: HeaderName) -> Vec<u8> {
+    match request.headers().get(name) {
+        Some(value) => copy(alloc, value.as_bytes()),
+        None => Vec::new(alloc),
+    }
+}
+
+/// A copy of a text, or nothing where there is no memory for it.
+pub(crate) fn copy(alloc: Global, text: &[u8]) -> Vec<u8>
     ensures { IsCopyOrEmpty text.now result.items }
 {
     text.to_vec(alloc).unwrap_or(Vec::new(alloc))

@@ -1,9 +1,11 @@
 //! From the head of a request to its response.
 
-ghost use Rattle.std.specs.Prelude.{◌≡◌, ◌⊎◌, IfOk, IfSome, MatchOption};
+ghost use Rattle.std.specs.Prelude.{◌≡◌, ◌⊎◌, IfOk, IfSome, MatchOption, Some};
 ghost use Rattle.page_http.specs.Sent.{IsRefusal, refusal, sent};
 ghost use Rattle.hyper_edge.specs.Responses as spec;
 
+use crate::faults::{reason_of, status_of};
+use access_log::Reason;
 use edge_types::{Answer, NoMemory, PageUrl, Request};
 use fetch_workers::{AssembleFault, Assembling, ConcurrentSource, OneByOne, OpenGate, Source};
 use http::Response;
@@ -55,11 +57,13 @@ pub(crate) struct RequestHead<'a> {
     pub(crate) fields: &'a [Field<'a>],
 }
 
-/// A response, and the answers that it rests on: a page's own first; none for a refusal.
+/// A response, the answers that it rests on, a page's own first, none for a refusal; and why it isn't a page as it should
+/// be, if it isn't.
 #[derive(Drop)]
 pub(crate) struct Responded {
     pub(crate) response: Response<EdgeBody>,
     pub(crate) log: Vec<Arc<Answer>>,
+    pub(crate) reason: Option<Reason>,
 }
 
 /// The response to the head of a request, with the answers that the page asked the source for.
@@ -102,8 +106,8 @@ where
 {
     match answer_head(alloc, head.method, head.target, head.fields) {
         Ok((url, request)) => paged(rt, alloc, source, url, request, how),
-        Err(HeadFault::Method) => Ok(Some(refused(alloc, 405)?)),
-        Err(HeadFault::Unreadable) => Ok(Some(refused(alloc, 400)?)),
+        Err(HeadFault::Method) => Ok(Some(refused(alloc, 405, Reason::Method)?)),
+        Err(HeadFault::Unreadable) => Ok(Some(refused(alloc, 400, Reason::Unreadable)?)),
         Err(HeadFault::NoMemory) => Ok(Some(no_room(alloc)?)),
     }
 }
@@ -126,23 +130,31 @@ where
         ⊎ spec.TellsPageAt (S.gives source.now) url request how.levels (sent responded.response))) }
 {
     match how.assemble(rt, alloc, source, &OpenGate, url, request) {
-        Ok(page) => Ok(Some(Responded {
-            response: response_of(alloc, page.outcome)?,
-            log: page.log,
-        })),
+        Ok(page) => {
+            let status = status_of(&page.outcome);
+            let response = response_of(alloc, page.outcome)?;
+            let reason = reason_of(status, response.status().as_u16());
+            Ok(Some(Responded {
+                response,
+                log: page.log,
+                reason,
+            }))
+        }
         Err(AssembleFault::NoThread) => Ok(None),
         Err(AssembleFault::NoMemory | AssembleFault::Torn) => Ok(Some(no_room(alloc)?)),
     }
 }
 
-/// A refusal, which rests on no answer.
-pub(crate) fn refused(alloc: Global, status: u16) -> Result<Responded, NoMemory>
+/// A refusal for a reason, which rests on no answer.
+pub(crate) fn refused(alloc: Global, status: u16, reason: Reason) -> Result<Responded, NoMemory>
     requires { IsRefusal status }
-    ensures { IfOk result (λ responded. sent responded.response ≡ refusal status) }
+    ensures sent { IfOk result (λ responded. sent responded.response ≡ refusal status) }
+    ensures reason { IfOk result (λ responded. responded.reason ≡ Some reason) }
 {
     Ok(Responded {
         response: refusal_of(alloc, status)?,
         log: Vec::new(alloc),
+        reason: Some(reason),
     })
 }
 
@@ -150,5 +162,5 @@ pub(crate) fn refused(alloc: Global, status: u16) -> Result<Responded, NoMemory>
 pub(crate) fn no_room(alloc: Global) -> Result<Responded, NoMemory>
     ensures { IfOk result (λ responded. sent responded.response ≡ refusal 503) }
 {
-    refused(alloc, 503)
+    refused(alloc, 503, Reason::NoRoom)
 }

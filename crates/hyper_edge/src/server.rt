@@ -114,8 +114,9 @@ where
             return;
         };
         self.roster.accepted(rt, self.acceptor);
+        let client = self.acceptor.client(&io);
         let signals = self.acceptor.signals(&io);
-        match self.serving.session(opens, io, signals) {
+        match self.serving.session(opens, io, client, signals) {
             Some(session) => self.go_on(session, executor),
             None => self.roster.ended(rt),
         }

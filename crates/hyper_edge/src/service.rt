@@ -9,6 +9,7 @@ use crate::date::DateClock;
 use crate::exchange::deadline;
 use crate::page_time::WithinTime;
 use crate::responding::{RequestHead, Responded, no_room, refused, respond_with_log};
+use access_log::Reason;
 use edge_types::NoMemory;
 use fetch_workers::{Assembling, ConcurrentSource};
 use http::header::HeaderValue;
@@ -110,7 +111,7 @@ where
             return no_room(alloc);
         };
         if is_loop(self.name.as_deref(), fields.as_slice()) {
-            return refused(alloc, 508);
+            return refused(alloc, 508, Reason::Loop);
         }
         let Ok(target) = target_of(alloc, request.uri()) else {
             return no_room(alloc);

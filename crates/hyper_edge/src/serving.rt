@@ -15,6 +15,7 @@ use http::{Response, header};
 use page_http::EdgeBody;
 use std::alloc::AllocError;
 use std::mem;
+use std::net::IpAddr;
 use std::sync::{Arc, Wait};
 use std::thread::Threads;
 use std::time::{Clock, Instant};
@@ -48,6 +49,7 @@ where
 #[derive(Drop)]
 pub(crate) struct Session<F: Future> {
     connection: Connection<F>,
+    client: Option<IpAddr>,
     unreported: Vec<Unreported>,
 }
 
@@ -76,16 +78,17 @@ where
         requires callable { M.IsAlwaysCallable opens.now }
         requires opened { GivesPollable (M.post opens.now) F.can_poll }
     {
-        if let Some(session) = self.session(opens, io, None) {
+        if let Some(session) = self.session(opens, io, None, None) {
             let _ = self.serve(session, executor);
         }
     }
 
-    /// A connection over a stream that tells these signals. `None` where there is no memory for it.
+    /// A connection of this client over a stream that tells these signals. `None` where there is no memory for it.
     pub(crate) fn session<I, F, M>(
         &self,
         opens: &M,
         io: I,
+        client: Option<IpAddr>,
         signals: Option<Arc<Signals>>,
     ) -> Option<Session<F>>
     where
@@ -100,6 +103,7 @@ where
         let future = opens(io, handover.clone().ok()?);
         Some(Session {
             connection: Connection::new(future, handover, signals),
+            client,
             unreported: Vec::new(alloc),
         })
     }
@@ -115,6 +119,7 @@ where
     {
         let Session {
             mut connection,
+            client,
             mut unreported,
         } = session;
         for _ in self.rt.forever() {
@@ -125,13 +130,14 @@ where
             connection = stopped;
             match stop {
                 Stop::Asked(asked) => {
-                    let answered = self.answered(asked, &mut unreported);
+                    let answered = self.answered(asked, client, &mut unreported);
                     connection.handover().answer(answered);
                 }
                 Stop::Written => self.report(&mut unreported),
                 Stop::Paused(pause) => {
                     let session = Session {
                         connection,
+                        client,
                         unreported,
                     };
                     return Some((session, pause));
@@ -143,7 +149,12 @@ where
 
     // The response to a request. Over a connection that is kept it says that it is the last one, where something of the
     // request's body is left, which nobody reads.
-    fn answered(&self, asked: Asked, unreported: &mut Vec<Unreported>) -> Answered {
+    fn answered(
+        &self,
+        asked: Asked,
+        client: Option<IpAddr>,
+        unreported: &mut Vec<Unreported>,
+    ) -> Answered {
         let begun = match self.journal.is_kept() {
             true => Instant::now(self.rt).ok(),
             false => None,
@@ -152,7 +163,8 @@ where
             return Err(AllocError);
         };
         if let Some(begun) = begun {
-            let left = Unreported::new(self.service.alloc(), begun, &asked.head, &responded);
+            let alloc = self.service.alloc();
+            let left = Unreported::new(alloc, begun, client, &asked.head, &responded);
             let _ = unreported.push(left);
         }
         let mut response = responded.response;

@@ -10,7 +10,7 @@ use libc::net::{
 use mio::Poll;
 use os::EpollEvent;
 use std::alloc::AllocGlobal;
-use std::net::{Net, Shutdown, TcpListener, TcpStream};
+use std::net::{IpAddr, Net, Shutdown, TcpListener, TcpStream};
 use std::os::fd::{AsRawFd, OwnedFd};
 use std::sync::Arc;
 use std::sync::atomic::{AtomicBool, Ordering};
@@ -75,10 +75,10 @@ impl<R: Clock + AllocGlobal + Clone + Drop + Send> Accept<R> for Sockets {
     type Io = ClientStream<R>;
 
     fn accept(&self, rt: &R) -> Option<ClientStream<R>> {
-        let (socket, _) = self.listener.accept().ok()?;
+        let (socket, address) = self.listener.accept().ok()?;
         let rt = rt.clone().ok()?;
         let may_wait = self.may_wait.clone().ok()?;
-        ClientStream::new(rt.alloc(), socket, rt, self.limits, may_wait).ok()
+        ClientStream::new(rt.alloc(), socket, address.ip(), rt, self.limits, may_wait).ok()
     }
 
     fn rest(&self, rt: &R, pause: Duration) {
@@ -91,6 +91,10 @@ impl<R: Clock + AllocGlobal + Clone + Drop + Send> Accept<R> for Sockets {
 
     fn signals(&self, io: &ClientStream<R>) -> Option<Arc<Signals>> {
         io.signals()
+    }
+
+    fn client(&self, io: &ClientStream<R>) -> Option<IpAddr> {
+        Some(io.client())
     }
 
     fn set_may_wait(&self, may_wait: bool) {

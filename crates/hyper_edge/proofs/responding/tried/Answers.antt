@@ -9,4 +9,4 @@ pub returns-in_ok-refused-in-Err-Unreadable : goal.returns-in_ok-refused-in-Err-
 returns-in_ok-refused-in-Err-Unreadable g c =
     let get : c.args.head.now.method.now ≡ served = is_served c.args.head.now.method.now (search rules) in
     let nothing : spec.AsksNothing c.args.head.now.target.now c.args.head.now.fields.now = c.in-Err-Unreadable.ensures.unreadable (search rules) in
-    inr (get, inl (nothing, c.in_ok-refused-in-Err-Unreadable.ensures))
+    inr (get, inl (nothing, c.in_ok-refused-in-Err-Unreadable.ensures.sent))
