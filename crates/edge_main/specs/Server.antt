@@ -59,4 +59,4 @@ pub record IsServerOf (setup : Setup) (server : Server) : Type 0 where
   pub connections_are : server.at_once.connections ≡ setup.serving.connections
   pub accepts_are : server.accept ≡ setup.serving.accept
   pub head_is : server.answers_head ≡ setup.serving.answers_head
-  pub logs_is : server.logs ≡ setup.serving.logs
+  pub log_is : server.log ≡ setup.serving.log

@@ -101,6 +101,6 @@ pub(crate) fn server_of(setup: Setup) -> Server
         },
         accept: serving.accept,
         answers_head: serving.answers_head,
-        logs: serving.logs,
+        log: serving.log,
     }
 }

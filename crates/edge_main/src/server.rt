@@ -1,6 +1,7 @@
 //! The server that is to run, as its parts take it.
 ghost use Rattle.std.specs.Prelude.{◌≤◌};
 
+use access_log::LogFormat;
 use edge_setup::Origin;
 use fetch_workers::Assembling;
 use hyper_edge::{Capacity, Limits};
@@ -44,8 +45,8 @@ pub(crate) struct Server {
     pub accept: u64,
     /// Whether HEAD is answered like GET.
     pub answers_head: bool,
-    /// Whether each request is logged.
-    pub logs: bool,
+    /// How each request is logged, where it is.
+    pub log: Option<LogFormat>,
     ghost some_capacity: { 1 ≤ capacity },
     ghost few_capacity: { capacity ≤ 1024 },
 }

@@ -4,17 +4,18 @@ ghost use Rattle.std.specs.Prelude.{◌≤◌};
 use crate::open_files::{Numbers, Unreached, open_files_limit};
 use crate::server::{Fetches, Server};
 use crate::status::Status;
+use access_log::{LogFormat, LogWriter};
 use edge_setup::{Origin, Place};
 use fetch_workers::{Assembling, Cache};
 use hyper_edge::{
     EdgeService, Journal, Limits, RequestRecord, ServeEnd, ServerRuntime, Sockets, serve_accepts,
 };
 use hyper_source::{EdgeName, HyperSource};
-use std::alloc::AllocGlobal;
+use std::alloc::{AllocGlobal, Global};
 use std::io::{Eprint, Print};
 use std::net::{Net, SocketAddr, TcpListener, TcpStream, ToSocketAddrs};
 use std::random::RandomSource;
-use std::sync::Arc;
+use std::sync::{Arc, Wait};
 use std::time::{Clock, Duration};
 use std::{io, str};
 
@@ -40,7 +41,7 @@ where
         at_once,
         accept,
         answers_head,
-        logs,
+        log,
     } = server;
     let most_waiting = fetches.bounds.and_then(|bounds| bounds.most_in_flight);
     let mut source = source_of(rt, origins, fetches)?;
@@ -56,8 +57,10 @@ where
     }
     let (sockets, address) = listening(rt, listen, clients)?;
     println!(rt; "listening on {address}")?;
-    let log = AccessLog { is_kept: logs };
-    Ok(serve_accepts(rt, &sockets, &service, &log, at_once, accept))
+    let log = log_in(rt.alloc(), log);
+    let end = serve_accepts(rt, &sockets, &service, &log, at_once, accept);
+    log.finish(rt);
+    Ok(end)
 }
 
 // Says which number can't be reached for want of open files. The server runs all the same: it may never need as many.
@@ -201,39 +204,44 @@ impl<R: Clock> fetch_workers::Clock<R> for MonotonicSeconds {
     }
 }
 
-/// What is logged about each request, if that is asked for.
-#[derive(Clone, Copy)]
+/// The log of requests, if there is to be one.
+#[derive(Drop)]
 struct AccessLog {
-    is_kept: bool,
+    writer: Option<LogWriter>,
 }
 
-impl<R: AllocGlobal + Clock + Eprint> Journal<R> for AccessLog {
-    fn is_kept(&self) -> bool {
-        self.is_kept
-    }
-
-    // One write for the whole line, so that threads don't mix theirs. A line that can't be written is dropped.
-    fn served(&self, rt: &R, record: &RequestRecord) {
-        let second = match rt.since_1970() {
-            Ok(time) => time.as_secs(),
-            Err(_) => 0,
-        };
-        let method = text(record.method.as_slice());
-        let url = text(record.url.as_slice());
-        let status = record.status;
-        let body = record.body;
-        let answers = record.answers;
-        let micros = record.micros;
-        let line = format!(in rt.alloc();
-            "{second} {method} {url} {status} {body} {answers} {micros}\n"
-        );
-        if let Ok(line) = line {
-            let _ = eprint!(rt; "{line}");
+impl AccessLog {
+    // Writes what waits still.
+    fn finish<R: AllocGlobal + Clock + Wait>(&self, rt: &R) {
+        if let Some(writer) = &self.writer {
+            writer.finish(rt);
         }
     }
 }
 
-// The printable form of bytes that came from a client.
+impl<R: AllocGlobal + Clock + Wait> Journal<R> for AccessLog {
+    fn is_kept(&self) -> bool {
+        self.writer.is_some()
+    }
+
+    fn served(&self, rt: &R, record: &RequestRecord) {
+        if let Some(writer) = &self.writer {
+            writer.report(rt, record);
+        }
+    }
+}
+
+// The log in a format.
+fn log_in(alloc: Global, format: Option<LogFormat>) -> AccessLog {
+    match format {
+        Some(format) => AccessLog {
+            writer: Some(LogWriter::new(alloc, format)),
+        },
+        None => AccessLog { writer: None },
+    }
+}
+
+// The printable form of the name of a host.
 fn text(bytes: &[u8]) -> &str {
     match str::from_utf8(bytes) {
         Ok(text) if !text.is_empty() => text,

@@ -6,6 +6,8 @@ use Rattle.std.specs.Option.{option_map_or}
 use Rattle.std.specs.Net.Grammar.{IsSocketText}
 use Rattle.std.specs.declared.net.socket_addr.SocketAddr.{SocketAddr}
 use Rattle.clap.specs.Words.{Row, Text, all_of, first_of}
+use Rattle.access_log.specs.declared.format.LogFormat.{LogFormat}
+use Rattle.access_log.specs.declared.format.LogFormat.TheVariants as format
 use Rattle.edge_types.specs.Halves.{around}
 use Rattle.decimals.specs.Decimal.{decimal_of}
 use Rattle.edge_setup.specs.Numbers.{Numeric, ahead, ahead_said, capacity, client_timeout, connections, fetches, keep_alive, levels, origin_fetches, origin_keep_alive, origin_rest, page_bytes, page_timeout, said_of, threads, timeout, workers}
@@ -39,6 +41,17 @@ accepts_of (Some word) = decimal_of word most_accepts
 -- whether a flag is set
 abbrev pub is_set : Option Text → Bool
 is_set word = option_map_or (λ w. bytes_eq w (codes "true")) word false
+
+-- ---- the log
+
+-- the format that a word names: without a word there is no log
+abbrev pub log_of : Option Text → Option (Option LogFormat)
+log_of None = Some None
+log_of (Some word) =
+    if bytes_eq word (codes "line") then Some (Some format.Line)
+    else (if bytes_eq word (codes "combined") then Some (Some format.Combined)
+    else (if bytes_eq word (codes "json") then Some (Some format.Json)
+    else None))
 
 -- ---- names
 
@@ -126,7 +139,7 @@ pub record SaysServing (rows : List Row) (serving : Serving) : Type 0 where
   pub threads_are : said_of threads rows ≡ Some serving.threads
   pub connections_are : said_of connections rows ≡ Some serving.connections
   pub head_is : is_set (first_of (codes "head") rows) ≡ serving.answers_head
-  pub logs_is : is_set (first_of (codes "log") rows) ≡ serving.logs
+  pub log_is : log_of (first_of (codes "log") rows) ≡ Some serving.log
 
 -- what the options ask for
 pub record SaysSetup (rows : List Row) (setup : Setup) : Type 0 where
@@ -157,6 +170,7 @@ IsWrong rows named.ClientTimeout = said_of client_timeout rows ≡ None
 IsWrong rows named.KeepAlive = said_of keep_alive rows ≡ None
 IsWrong rows named.Threads = said_of threads rows ≡ None
 IsWrong rows named.Connections = said_of connections rows ≡ None
+IsWrong rows named.Log = log_of (first_of (codes "log") rows) ≡ None
 IsWrong rows named.Name = name_of (first_of (codes "name") rows) ≡ None
 
 -- the values of these options are valid
@@ -172,6 +186,9 @@ HasAccepts rows = IsSome (accepts_of (first_of (codes "accept") rows))
 abbrev pub HasAhead : List Row → Type 0
 HasAhead rows = IsSome (ahead_said 1 (first_of (codes "ahead") rows))
 
+abbrev pub HasLog : List Row → Type 0
+HasLog rows = IsSome (log_of (first_of (codes "log") rows))
+
 abbrev pub HasPages : List Row → Type 0
 HasPages rows = Has workers rows × Has fetches rows × HasAhead rows × Has levels rows × Has capacity rows × Has page_bytes rows
 
@@ -179,7 +196,7 @@ abbrev pub HasFetching : List Row → Type 0
 HasFetching rows = Has timeout rows × Has page_timeout rows × Has origin_keep_alive rows × Has origin_fetches rows × Has origin_rest rows
 
 abbrev pub HasServing : List Row → Type 0
-HasServing rows = HasAccepts rows × Has client_timeout rows × Has keep_alive rows × Has threads rows × Has connections rows
+HasServing rows = HasAccepts rows × Has client_timeout rows × Has keep_alive rows × Has threads rows × Has connections rows × HasLog rows
 
 abbrev pub HasName : List Row → Type 0
 HasName rows = IsSome (name_of (first_of (codes "name") rows))
@@ -203,6 +220,7 @@ AreValidBefore rows named.ClientTimeout = HasAddress rows × HasPages rows × Ha
 AreValidBefore rows named.KeepAlive = HasAddress rows × HasPages rows × HasFetching rows × HasAccepts rows × Has client_timeout rows
 AreValidBefore rows named.Threads = HasAddress rows × HasPages rows × HasFetching rows × HasAccepts rows × Has client_timeout rows × Has keep_alive rows
 AreValidBefore rows named.Connections = HasAddress rows × HasPages rows × HasFetching rows × HasAccepts rows × Has client_timeout rows × Has keep_alive rows × Has threads rows
+AreValidBefore rows named.Log = HasAddress rows × HasPages rows × HasFetching rows × HasAccepts rows × Has client_timeout rows × Has keep_alive rows × Has threads rows × Has connections rows
 AreValidBefore rows named.Name = HasAddress rows × HasPages rows × HasFetching rows × HasServing rows
 AreValidBefore rows (named.Origin fault) = HasAddress rows × HasPages rows × HasFetching rows × HasServing rows × HasName rows
 
@@ -231,6 +249,7 @@ refusal_of named.ClientTimeout = client_timeout.refusal
 refusal_of named.KeepAlive = keep_alive.refusal
 refusal_of named.Threads = threads.refusal
 refusal_of named.Connections = connections.refusal
+refusal_of named.Log = codes "error: --log takes line, combined or json"
 refusal_of named.Name = codes "error: --name takes 1 to 64 letters, digits and marks of a token, as edge-1"
 
 -- why the options are refused

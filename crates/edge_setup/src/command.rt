@@ -116,13 +116,20 @@ fn with_serving<'a>(alloc: Global, command: Command<'a>) -> Result<Command<'a>, 
     with_option(command, connections)
 }
 
-// Whether HEAD is answered, and whether each request is reported.
+// Whether HEAD is answered, and how each request is reported.
 fn with_flags<'a>(alloc: Global, command: Command<'a>) -> Result<Command<'a>, AllocError>
     ensures app { IfOk result (λ more. app_of more ≡ with_flags (app_of command.entry)) }
     ensures local { IfOk result (λ more. (fields_of more).has_globals ≡ (fields_of command.entry).has_globals) }
 {
     let head = flag(alloc, "head", "Answers HEAD like GET, without the body");
-    let log = flag(alloc, "log", "Reports each request on standard error");
+    let log = option(
+        alloc,
+        "log",
+        "FORMAT",
+        "Reports each request on standard error: line, combined or json; line where none is named",
+    )
+    .num_args(0..=1)
+    .default_missing_value("line");
     let command = with_option(command, head)?;
     with_option(command, log)
 }

@@ -9,6 +9,7 @@ use crate::number::{
     ORIGIN_KEEP_ALIVE, ORIGIN_REST, PAGE_BYTES, PAGE_TIMEOUT, THREADS, TIMEOUT, WORKERS,
 };
 use crate::origin::{OriginFault, Place};
+use access_log::LogFormat;
 use std::alloc::AllocError;
 use std::net::SocketAddr;
 
@@ -68,8 +69,8 @@ pub struct Serving {
     pub connections: u32,
     /// Whether HEAD is answered like GET, without the body.
     pub answers_head: bool,
-    /// Whether each request is reported on standard error.
-    pub logs: bool,
+    /// How each request is reported on standard error, where it is.
+    pub log: Option<LogFormat>,
 }
 
 /// What the words of `serve` ask for.
@@ -128,6 +129,8 @@ pub enum Named {
     Threads,
     /// `--connections`: not a number within the limits.
     Connections,
+    /// `--log`: not the name of a format.
+    Log,
     /// `--name`: not a token, or too long.
     Name,
 }
@@ -156,6 +159,7 @@ impl Named {
             Named::KeepAlive => KEEP_ALIVE.refusal,
             Named::Threads => THREADS.refusal,
             Named::Connections => CONNECTIONS.refusal,
+            Named::Log => "error: --log takes line, combined or json",
             Named::Name =>
                 "error: --name takes 1 to 64 letters, digits and marks of a token, as edge-1",
         }

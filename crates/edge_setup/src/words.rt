@@ -3,7 +3,7 @@ ghost use Rattle.std.specs.Prelude.{◌≡◌, ◌≤◌, option_map, IfNone, If
 ghost use Rattle.std.specs.declared.net.socket_addr.SocketAddr.{SocketAddr};
 ghost use Rattle.clap.specs.Words.{first_of, found_of, rows_of};
 ghost use Rattle.edge_setup.specs.Numbers.{ahead_said};
-ghost use Rattle.edge_setup.specs.Words.{accepts_of, is_set, name_of, IsAddress, HasAddress, HasFetching, HasPages, IsFirstWrong, IsRefusedBy, IsWithin, SaysFetching, SaysPages, SaysServing, SaysSetup};
+ghost use Rattle.edge_setup.specs.Words.{accepts_of, is_set, log_of, name_of, IsAddress, HasAddress, HasFetching, HasPages, IsFirstWrong, IsRefusedBy, IsWithin, SaysFetching, SaysPages, SaysServing, SaysSetup};
 
 use crate::number::{
     AHEAD, CAPACITY, CLIENT_TIMEOUT, CONNECTIONS, FETCHES, KEEP_ALIVE, LEVELS, ORIGIN_FETCHES,
@@ -11,6 +11,7 @@ use crate::number::{
 };
 use crate::origins::origins_of;
 use crate::setup::{Fetching, Named, Pages, Serving, Setup, SetupFault};
+use access_log::LogFormat;
 use clap::ArgMatches;
 use decimals::decimal_of;
 use std::alloc::{AllocError, Global};
@@ -78,6 +79,24 @@ pub fn is_set(word: Option<&str>) -> bool
     }
 }
 
+// The format of the log that a word names, where there is a log; `None` if it names none.
+fn log_of(word: Option<&str>) -> Option<Option<LogFormat>>
+    ensures { result ≡ log_of (option_map (λ w. w.now) word.entry) }
+{
+    let Some(word) = word else {
+        return Some(None);
+    };
+    if word == "line" {
+        Some(Some(LogFormat::Line))
+    } else if word == "combined" {
+        Some(Some(LogFormat::Combined))
+    } else if word == "json" {
+        Some(Some(LogFormat::Json))
+    } else {
+        None
+    }
+}
+
 // How many slots may be opened ahead, by a word, or else by how many fetches may be in flight: the slots are of the whole
 // page, and a fetch without a slot begins late.
 fn ahead_of(word: Option<&str>, fetches: u16) -> Option<u16>
@@ -139,7 +158,7 @@ fn serving_of(matches: &ArgMatches<'_>) -> Result<Serving, Named>
         threads: THREADS.u16_of(matches).ok_or(Named::Threads)?,
         connections: CONNECTIONS.u32_of(matches).ok_or(Named::Connections)?,
         answers_head: is_set(word_of(matches, "head")),
-        logs: is_set(word_of(matches, "log")),
+        log: log_of(word_of(matches, "log")).ok_or(Named::Log)?,
     })
 }
 
