@@ -1,0 +1,158 @@
+"""The log in each of its formats, by a strict reader of each; and a reader that stands still."""
+import datetime
+import json
+import os
+import re
+import threading
+
+from harness import PLAIN, TEMPLATE, Origin, before, client, exchange, same, wire
+
+# Apache HTTP Server, "Log Files", "Combined Log Format": no quote and no control character within quotes.
+COMBINED = re.compile(r'(\S+) - - \[(\d\d/[A-Z][a-z]{2}/\d{4}:\d\d:\d\d:\d\d \+0000)\] "([!#-~ ]*)" (\d+) (\d+) "([!#-~ ]+)" "([!#-~ ]+)"')
+PLAIN_LINE = re.compile(r"\d{10,} \S+ \S+ \d+ \d+ \d+ \d+")
+MEMBERS = ["time", "client", "method", "url", "status", "bytes", "microseconds", "answers"]
+KEPT = ("--keep-alive", "20")
+
+
+def of_combined(line):
+    """The fields of a line."""
+    found = COMBINED.fullmatch(line)
+    same("a line of the Combined Log Format: %r" % line, True, found is not None)
+    client_at, time, request, status, size, referer, agent = found.groups()
+    return client_at, datetime.datetime.strptime(time, "%d/%b/%Y:%H:%M:%S %z"), request, int(status), int(size), referer, agent
+
+
+def of_json(line):
+    """The members of a line, in order."""
+    pairs = json.loads(line, object_pairs_hook=list)
+    names = [name for name, _ in pairs]
+    same("members of %r" % line, MEMBERS, [name for name in names if name != "fault"])
+    members = dict(pairs)
+    members["time"] = datetime.datetime.strptime(members["time"], "%Y-%m-%dT%H:%M:%S%z")
+    return members
+
+
+def near_now(time):
+    return abs((datetime.datetime.now(datetime.timezone.utc) - time).total_seconds()) < 60
+
+
+def lines_of(origin, format_words, asked):
+    """What the log says of these requests, one after another."""
+    with before(origin, *format_words, "--accept", str(len(asked))) as edge:
+        for request in asked:
+            exchange(edge, request)
+        same("exit status", 0, edge.ends())
+        return edge.end().decode("ascii").split("\n")
+
+
+def logs_are_read_as_combined():
+    """--log combined: each line is whole whatever a client sends, with its address, the time, `referer` and `user-agent`."""
+    asked = (
+        wire("GET /p?a=1 HTTP/1.1|host: a.test|referer: http://a.test/|user-agent: Agent/1 (x; y)||"),
+        wire("GET /none HTTP/1.0|host: a.test||"),
+        b'GET /p HTTP/1.1\r\nhost: a.test\r\nuser-agent: "] \\ \xc3\xa9\t"\r\n\r\n',
+        wire("PUT /p HTTP/1.1|host: a.test||"),
+    )
+    with Origin(PLAIN) as origin:
+        *lines, last = lines_of(origin, ("--log", "combined"), asked)
+    same("the end of the last line", "", last)
+    wanted = (
+        ("127.0.0.1", "GET /p?a=1 HTTP/1.1", 200, 10, "http://a.test/", "Agent/1 (x; y)"),
+        ("127.0.0.1", "GET /none HTTP/1.0", 404, 23, "-", "-"),
+        ("127.0.0.1", "GET /p HTTP/1.1", 200, 10, "-", r"\x22] \x5C \xC3\xA9\x09\x22"),
+        ("127.0.0.1", "PUT /p HTTP/1.1", 405, 20, "-", "-"),
+    )
+    came = [of_combined(line) for line in lines]
+    same("lines", wanted, tuple((at, *others) for at, _, *others in came))
+    same("the time of each", [True] * len(wanted), [near_now(time) for _, time, *_ in came])
+
+
+def logs_are_read_as_json():
+    """--log json: an object a line, whatever a client sends, with the reason of each failure."""
+    bad = "A\n</esi:vars>"
+    paths = dict(PLAIN, **{
+        "/lost": (b"<esi:include src='/gone'/>", "text/html", TEMPLATE), "/bad": (bad.encode(), "text/html", TEMPLATE),
+        "/broken": (b"<esi:include src='/x'/><esi:include src='/bad'/>", "text/html", TEMPLATE),
+    })
+    rows = (
+        ("/p?a=1", 200, None), ("/none", 404, "OriginStatus http://a.test/none"), ("/lost", 502, "IncludeFailed http://a.test/gone"),
+        ("/bad", 502, "BadTemplate http://a.test/bad 2:1"), ("/broken", 502, "IncludeFailed http://a.test/bad 2:1"),
+    )
+    asked = [wire("GET %s HTTP/1.1|host: a.test||" % target) for target, _, _ in rows]
+    asked += [wire("PUT /p HTTP/1.1|host: a.test||"), b'GET /"\\ HTTP/1.0\r\n\r\n', wire("GET /p HTTP/1.1|host: b.test|cdn-loop: me||"), wire("GET / HTTP/1.1|host: c.test||")]
+    with Origin(paths) as origin:
+        words = ("--log", "json", "--name", "me", "--origin", "c.test=127.0.0.1:1")
+        *lines, last = lines_of(origin, words, asked)
+    same("the end of the last line", "", last)
+    came = [of_json(line) for line in lines]
+    wanted = [("http://a.test" + target, status, fault) for target, status, fault in rows]
+    wanted += [("/p", 405, "Method"), ('/"\\', 400, "Unreadable"), ("/p", 508, "Loop"), ("http://c.test/", 502, "PageFetch http://c.test/")]
+    same("lines", wanted, [(it["url"], it["status"], it.get("fault")) for it in came])
+    same("the client of each", {"127.0.0.1"}, {it["client"] for it in came})
+    same("the time of each", {True}, {near_now(it["time"]) for it in came})
+    same("the bytes of a page", 10, came[0]["bytes"])
+    same("its answers", 2, came[0]["answers"])
+
+
+def line_is_the_format_without_a_name():
+    """--log and --log line say the same, but for the times; another word is refused (see the tests of the program)."""
+    asked = (wire("GET /p HTTP/1.1|host: a.test||"), wire("GET / HTTP/1.0||"))
+    with Origin(PLAIN) as origin:
+        told = [lines_of(origin, words, asked) for words in (("--log",), ("--log", "line"), ("--log=line",))]
+    shapes = [[re.sub(r"^\d+|\d+$", "N", line) for line in lines] for lines in told]
+    same("lines", [["N GET http://a.test/p 200 10 2 N", "N GET / 400 27 0 N", ""]] * 3, shapes)
+
+
+def ask_on(edge, count, target):
+    """So many requests over one connection."""
+    with client(edge) as connection:
+        for _ in range(count):
+            connection.sendall(wire("GET %s HTTP/1.1|host: a.test||" % target))
+            came = b""
+            while b"[12345678]" not in came:
+                came += connection.recv(65536)
+
+
+def a_reader_that_stands_still_holds_nobody():
+    """10,000 requests while nobody reads the log: each is answered by the one thread; once somebody reads, each line is
+    whole, and for what was lost a line says how many. The end of the server doesn't wait for a reader."""
+    target = "/p?" + "x" * 200
+    with Origin(PLAIN) as origin, before(origin, "--log", "--threads", "1", "--accept", "510", *KEPT) as edge:
+        for _ in range(10):
+            ask_on(edge, 1000, target)
+        came = []
+        reader = threading.Thread(target=lambda: came.extend(iter(lambda: os.read(edge.process.stderr.fileno(), 65536), b"")))
+        reader.start()
+        # What waits goes out with the next lines.
+        for _ in range(500):
+            ask_on(edge, 1, "/p")
+        same("exit status", 0, edge.ends())
+        reader.join()
+    lines = b"".join(came).decode().split("\n")
+    same("the end of the last line", "", lines.pop())
+    lost = 0
+    told = 0
+    for line in lines:
+        same("a whole line: %r" % line, True, PLAIN_LINE.fullmatch(line) is not None)
+        if line.split(" ")[1] == "LOST":
+            lost += int(line.split(" ")[2])
+        else:
+            told += 1
+    same("lines and what was lost", 10500, told + lost)
+    same("some were lost, some weren't", (True, True), (lost > 0, told > 5000))
+
+
+def the_end_does_not_wait_for_a_reader():
+    """A server whose log nobody reads ends by itself."""
+    with Origin(PLAIN) as origin, before(origin, "--log", "--accept", "1", *KEPT) as edge:
+        ask_on(edge, 2000, "/p?" + "x" * 200)
+        same("exit status", 0, edge.ends())
+
+
+TESTS = (
+    logs_are_read_as_combined,
+    logs_are_read_as_json,
+    line_is_the_format_without_a_name,
+    a_reader_that_stands_still_holds_nobody,
+    the_end_does_not_wait_for_a_reader,
+)
