@@ -50,25 +50,9 @@ impl LineQueue {
     }
 
     /// A line of this second since 1970 is to be written, with the line before it that says how many were lost, if some
-    /// were. Where there is no room for both, it is lost too; without memory as well, which is the only refusal.
+    /// were. Where there is no room for both, it is lost too. The only refusal is running out of memory, which changes
+    /// nothing: `lose` then says that the line is lost.
     pub fn tell(
-        &mut self,
-        alloc: Global,
-        format: LogFormat,
-        second: u64,
-        line: &[u8],
-    ) -> Result<(), AllocError>
-        ensures ok { OnOk result (Tells format second line.now self.old self.new) }
-        ensures err { OnErr result (self.new ≡ lost_one self.old) }
-    {
-        let told = self.try_to_tell(alloc, format, second, line);
-        if told.is_err() {
-            self.lose();
-        }
-        told
-    }
-
-    fn try_to_tell(
         &mut self,
         alloc: Global,
         format: LogFormat,
@@ -103,7 +87,7 @@ impl LineQueue {
     }
 
     /// A line is lost, as for want of memory.
-    pub(crate) fn lose(&mut self)
+    pub fn lose(&mut self)
         ensures { self.new ≡ lost_one self.old }
     {
         self.lost = self.lost.saturating_add(1);

@@ -7,7 +7,7 @@ use crate::record::RequestRecord;
 use libc::net::{POLLOUT, poll};
 use libc::types::pollfd;
 use os::write_no_sigpipe;
-use std::alloc::{AllocGlobal, Global};
+use std::alloc::{AllocError, AllocGlobal, Global};
 use std::sync::{Mutex, Wait};
 use std::time::Clock;
 
@@ -52,11 +52,12 @@ impl LogWriter {
         let second = second_of(rt);
         let line = line_of(alloc, self.format, second, request);
         let mut queue = self.queue.lock(rt);
-        match line {
-            Ok(line) => {
-                let _ = queue.tell(alloc, self.format, second, line.as_slice());
-            }
-            Err(_) => queue.lose(),
+        let told = match line {
+            Ok(line) => queue.tell(alloc, self.format, second, line.as_slice()),
+            Err(_) => Err(AllocError),
+        };
+        if told.is_err() {
+            queue.lose();
         }
         let writes = queue.begin();
         drop(queue);

@@ -221,30 +221,6 @@ impl<S, C> Cache<S, C> {
         Ok(None)
     }
 
-    // The next answer once none of the source's fetches is in flight: only now others' flights are waited for, since
-    // nobody waits for this thread's.
-    fn next_of_others<R: Wait>(
-        &self,
-        rt: &R,
-        alloc: Global,
-        in_flight: &mut CacheFlights<S::InFlight>,
-    ) -> Result<Option<Arc<Answer>>, NoMemory>
-    where
-        S: ConcurrentSource<R>,
-        C: Clock<R>,
-    {
-        // A flight whose fetch the source has lost.
-        if let Some(led) = in_flight.pop_led() {
-            return Ok(Some(self.land_ready(rt, led)));
-        }
-        let Some(joined) = in_flight.joined.pop_front() else {
-            return Ok(None);
-        };
-        let shard = &self.shards[shard_of(&joined.url)];
-        let answer = self.join(rt, alloc, shard, &joined.url, joined.number)?;
-        Ok(Some(answer))
-    }
-
     // Ends each flight that the thread leads: one that somebody else waits for by its own answer, any other by a failed
     // one.
     fn end_led<R: Wait>(&self, rt: &R, alloc: Global, in_flight: &mut CacheFlights<S::InFlight>)
@@ -356,10 +332,20 @@ impl<R: Wait, S: ConcurrentSource<R>, C: Clock<R>> ConcurrentSource<R> for Cache
         if let Some(answer) = self.joined_landed(rt, alloc, in_flight)? {
             return Ok(Some(answer));
         }
-        match self.source.next(rt, alloc, &mut in_flight.fetches)? {
-            Some(answer) => Ok(Some(self.landed(rt, in_flight, answer))),
-            None => self.next_of_others(rt, alloc, in_flight),
+        if let Some(answer) = self.source.next(rt, alloc, &mut in_flight.fetches)? {
+            return Ok(Some(self.landed(rt, in_flight, answer)));
         }
+        // A flight whose fetch the source has lost.
+        if let Some(led) = in_flight.pop_led() {
+            return Ok(Some(self.land_ready(rt, led)));
+        }
+        // Only now others' flights are waited for, since nobody waits for this thread's.
+        let Some(joined) = in_flight.joined.pop_front() else {
+            return Ok(None);
+        };
+        let shard = &self.shards[shard_of(&joined.url)];
+        let answer = self.join(rt, alloc, shard, &joined.url, joined.number)?;
+        Ok(Some(answer))
     }
 
     fn give_up(&self, rt: &R, alloc: Global, in_flight: CacheFlights<S::InFlight>) {
