@@ -8,7 +8,7 @@ use crate::cache_flights::{CacheFlights, Joined, Led};
 use crate::clock::Clock;
 use crate::concurrent_source::ConcurrentSource;
 use crate::shared_shard::SharedShard;
-use crate::source::Source;
+use crate::source::{Found, Source};
 use edge_types::{Answer, NoMemory, PageUrl};
 use fragment_cache::{Begun, Flight, MAX_CAPACITY, Picked};
 use std::alloc::Global;
@@ -203,7 +203,7 @@ impl<S, C> Cache<S, C> {
         rt: &R,
         alloc: Global,
         in_flight: &mut CacheFlights<S::InFlight>,
-    ) -> Result<Option<Arc<Answer>>, NoMemory>
+    ) -> Found
     where
         S: ConcurrentSource<R>,
     {
@@ -320,12 +320,7 @@ impl<R: Wait, S: ConcurrentSource<R>, C: Clock<R>> ConcurrentSource<R> for Cache
         }
     }
 
-    fn next(
-        &self,
-        rt: &R,
-        alloc: Global,
-        in_flight: &mut CacheFlights<S::InFlight>,
-    ) -> Result<Option<Arc<Answer>>, NoMemory> {
+    fn next(&self, rt: &R, alloc: Global, in_flight: &mut CacheFlights<S::InFlight>) -> Found {
         if let Some(answer) = in_flight.here.pop() {
             return Ok(Some(answer));
         }
@@ -374,21 +369,11 @@ impl<R: Wait, S: Source<R>, C: Clock<R>> Source<R> for Cache<S, C> {
         }
     }
 
-    fn ready(
-        &self,
-        rt: &R,
-        _alloc: Global,
-        url: &PageUrl,
-    ) -> Result<Option<Arc<Answer>>, NoMemory> {
+    fn ready(&self, rt: &R, _alloc: Global, url: &PageUrl) -> Found {
         self.shards[shard_of(url)].look(rt, url, self.clock.now(rt))
     }
 
-    fn bridging(
-        &self,
-        rt: &R,
-        _alloc: Global,
-        url: &PageUrl,
-    ) -> Result<Option<Arc<Answer>>, NoMemory> {
+    fn bridging(&self, rt: &R, _alloc: Global, url: &PageUrl) -> Found {
         self.shards[shard_of(url)].bridging(rt, url, self.clock.now(rt))
     }
 }

@@ -30,5 +30,5 @@ pub use concurrent_source::ConcurrentSource;
 pub use fault::AssembleFault;
 pub use gate::{Gate, OpenGate};
 pub use one_by_one::OneByOne;
-pub use source::Source;
+pub use source::{Found, Source};
 pub use table_source::TableSource;

@@ -3,7 +3,7 @@
 ghost use Rattle.std.specs.Prelude.{◌≡◌};
 
 use crate::concurrent_source::ConcurrentSource;
-use crate::source::Source;
+use crate::source::{Found, Source};
 use edge_types::{Answer, NoMemory, PageUrl};
 use std::alloc::Global;
 use std::collections::VecDeque;
@@ -26,16 +26,11 @@ impl<'a, R, S: Source<R>> Source<R> for OneByOne<'a, S> {
         self.source.fetch(rt, alloc, url)
     }
 
-    fn ready(&self, rt: &R, alloc: Global, url: &PageUrl) -> Result<Option<Arc<Answer>>, NoMemory> {
+    fn ready(&self, rt: &R, alloc: Global, url: &PageUrl) -> Found {
         self.source.ready(rt, alloc, url)
     }
 
-    fn bridging(
-        &self,
-        rt: &R,
-        alloc: Global,
-        url: &PageUrl,
-    ) -> Result<Option<Arc<Answer>>, NoMemory> {
+    fn bridging(&self, rt: &R, alloc: Global, url: &PageUrl) -> Found {
         self.source.bridging(rt, alloc, url)
     }
 }
@@ -58,12 +53,7 @@ impl<'a, R, S: Source<R>> ConcurrentSource<R> for OneByOne<'a, S> {
         Ok(())
     }
 
-    fn next(
-        &self,
-        rt: &R,
-        alloc: Global,
-        in_flight: &mut VecDeque<PageUrl>,
-    ) -> Result<Option<Arc<Answer>>, NoMemory> {
+    fn next(&self, rt: &R, alloc: Global, in_flight: &mut VecDeque<PageUrl>) -> Found {
         match in_flight.pop_front() {
             Some(url) => Ok(Some(self.fetch(rt, alloc, &url)?)),
             None => Ok(None),

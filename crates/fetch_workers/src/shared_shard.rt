@@ -8,6 +8,7 @@ ghost use Rattle.fragment_cache.specs.Shown.{begun_answer};
 ghost use Rattle.fragment_cache.specs.Sound.{IsSound, NamesUrl};
 
 use crate::cache_flights::Led;
+use crate::source::Found;
 use edge_types::{Answer, NoMemory, PageUrl};
 use fragment_cache::{Begun, Flight, MAX_CAPACITY, Picked, Shard};
 use std::alloc::Global;
@@ -110,24 +111,14 @@ impl SharedShard {
         }
     }
 
-    pub(crate) fn look<R: Wait>(
-        &self,
-        rt: &R,
-        url: &PageUrl,
-        now: u64,
-    ) -> Result<Option<Arc<Answer>>, NoMemory>
+    pub(crate) fn look<R: Wait>(&self, rt: &R, url: &PageUrl, now: u64) -> Found
         ensures { IfOk result (λ found. IfSome found (λ answer. (arc_value answer).url ≡ url.now)) }
     {
         self.lock(rt).shard.look(url, now)
     }
 
     // The stored answer that would bridge a failing landing for the URL.
-    pub(crate) fn bridging<R: Wait>(
-        &self,
-        rt: &R,
-        url: &PageUrl,
-        now: u64,
-    ) -> Result<Option<Arc<Answer>>, NoMemory>
+    pub(crate) fn bridging<R: Wait>(&self, rt: &R, url: &PageUrl, now: u64) -> Found
         ensures { IfOk result (λ found. IfSome found (λ answer. (arc_value answer).url ≡ url.now)) }
     {
         self.lock(rt).shard.bridging(url, now)

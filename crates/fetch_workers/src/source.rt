@@ -8,6 +8,9 @@ use edge_types::{Answer, NoMemory, PageUrl};
 use std::alloc::Global;
 use std::sync::Arc;
 
+/// The answer of a URL, if there is one; `NoMemory` if an allocation failed.
+pub type Found = Result<Option<Arc<Answer>>, NoMemory>;
+
 /// What gives the answers of URLs, to any number of threads at once. An implementation takes from its
 /// runtime what it needs.
 ///
@@ -22,12 +25,7 @@ pub trait Source<R> {
 
     /// The answer of a URL, if it is there without waiting; by default a source has none. Whoever gets it
     /// doesn't fetch, so a page's gate isn't called.
-    fn ready(
-        &self,
-        _rt: &R,
-        _alloc: Global,
-        _url: &PageUrl,
-    ) -> Result<Option<Arc<Answer>>, NoMemory>
+    fn ready(&self, _rt: &R, _alloc: Global, _url: &PageUrl) -> Found
         ensures { IfOk result (λ found. IfSome found (λ answer. gives self.now _url.now (arc_value answer))) }
     {
         Ok(None)
@@ -35,12 +33,7 @@ pub trait Source<R> {
 
     /// The answer that would bridge a failing origin for a URL, if it is there without waiting; by default a source
     /// has none. Nothing is fetched for it.
-    fn bridging(
-        &self,
-        _rt: &R,
-        _alloc: Global,
-        _url: &PageUrl,
-    ) -> Result<Option<Arc<Answer>>, NoMemory>
+    fn bridging(&self, _rt: &R, _alloc: Global, _url: &PageUrl) -> Found
         ensures { IfOk result (λ found. IfSome found (λ answer. gives self.now _url.now (arc_value answer))) }
     {
         Ok(None)

@@ -4,7 +4,7 @@ ghost use Rattle.std.specs.Prelude.{◌≡◌};
 
 use crate::concurrent_source::ConcurrentSource;
 use crate::one_by_one::OneByOne;
-use crate::source::Source;
+use crate::source::{Found, Source};
 use edge_types::{Answer, NoMemory, PageUrl, Table};
 use std::alloc::Global;
 use std::collections::VecDeque;
@@ -69,12 +69,7 @@ impl<R> ConcurrentSource<R> for TableSource {
         OneByOne { source: self }.begin(rt, alloc, in_flight, url)
     }
 
-    fn next(
-        &self,
-        rt: &R,
-        alloc: Global,
-        in_flight: &mut VecDeque<PageUrl>,
-    ) -> Result<Option<Arc<Answer>>, NoMemory> {
+    fn next(&self, rt: &R, alloc: Global, in_flight: &mut VecDeque<PageUrl>) -> Found {
         OneByOne { source: self }.next(rt, alloc, in_flight)
     }
 
