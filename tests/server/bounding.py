@@ -1,6 +1,7 @@
 """Bounds for each origin: how many fetches may be in flight to it, and how long it rests once it has failed."""
 import threading
 import time
+from itertools import product
 
 from harness import PATIENCE, UNASSEMBLED, Edge, Origin, Wires, all_at_once, before, get, same, told, wire
 
@@ -43,6 +44,32 @@ def hanging_fetches_hold_no_more_threads_than_may_be():
             for thread in threads:
                 thread.join()
             same("asked again", (200, b"1"), (get(edge, "/x", host="b.test").status, get(edge, "/x", host="b.test").body))
+
+
+def a_hanging_fetch_holds_no_more_threads_than_may_wait():
+    """Of 64 readers of one URL whose origin hangs one fetches and 16 wait for it. The others get the older answer at once,
+    or fail where there is none, and a kept page of another origin is answered meanwhile: by threads that fetch one by one,
+    and by those that may have several fetches in flight."""
+    for several, older in product(((), ("--fetches", "2")), ((200, b"x"), UNASSEMBLED)):
+        released, came = threading.Event(), []
+        with Wires({"/x": BRIDGED}) as hangs, Origin({"/k": (b"kept", "text/plain", "max-age=600")}) as other:
+            with Edge("--origin", "a.test=" + other.at, "--origin", "b.test=" + hangs.at, "--origin-fetches", "16", *several) as edge:
+                path = "/x" if older != UNASSEMBLED else "/y"
+                same("kept", [b"kept", 200], [get(edge, "/k").body, get(edge, "/x", host="b.test").status])
+                time.sleep(1.1)
+                hangs.texts[path] = lambda _: released.wait(PATIENCE) and ONE
+                asked = len(hangs.heads)
+                threads = [threading.Thread(target=lambda: came.append(told(edge, path, host="b.test"))) for _ in range(64)]
+                for thread in threads:
+                    thread.start()
+                soon("47 don't wait", lambda: len(came) == 47)
+                same("what they get, and how often it is asked for", ([older] * 47, asked + 1), (came, len(hangs.heads)))
+                taken = min(timed(lambda: same("kept", b"kept", get(edge, "/k").body))[1] for _ in range(5))
+                same("a kept page meanwhile (%.4f s)" % taken, True, taken < 0.02)
+                released.set()
+                for thread in threads:
+                    thread.join()
+                same("those who waited", ([(200, b"1")] * 17, asked + 1), (came[47:], len(hangs.heads)))
 
 
 def others_are_asked_beside_one_that_is_full():
@@ -123,6 +150,7 @@ def an_answer_is_no_failure():
 
 TESTS = (
     hanging_fetches_hold_no_more_threads_than_may_be,
+    a_hanging_fetch_holds_no_more_threads_than_may_wait,
     others_are_asked_beside_one_that_is_full,
     an_origin_that_hangs_rests,
     an_origin_that_refuses_rests,

@@ -280,8 +280,8 @@ UNASSEMBLED = (502, b"The page could not be assembled.\n")
 ASKED = wire("GET /p HTTP/1.1|host: a.test||")
 
 
-def told(edge, target="/p"):
-    got = get(edge, target)
+def told(edge, target="/p", host="a.test"):
+    got = get(edge, target, host)
     return got.status, got.body
 
 

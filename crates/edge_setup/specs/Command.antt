@@ -2,7 +2,7 @@
 use Rattle.std.specs.Prelude.{codes}
 use Rattle.clap.specs.Words.{App, new_app, with_rule}
 use Rattle.edge_setup.specs.Numbers.{capacity, client_timeout, connections, fetches, keep_alive, levels, numeric_option, origin_fetches, origin_keep_alive, origin_rest, page_bytes, page_timeout, threads, timeout, workers}
-use Rattle.edge_setup.specs.Rules.{named_flag, named_option, repeated, wanted, with_missing}
+use Rattle.edge_setup.specs.Rules.{named_flag, named_option, repeated, wanted}
 
 -- where the server listens, and which origins it asks
 abbrev pub with_addresses : App → App
@@ -39,12 +39,14 @@ with_serving command = with_rule (with_rule (with_rule (with_rule (with_rule com
     (numeric_option threads))
     (numeric_option connections)
 
--- whether HEAD is answered, and how each request is reported
+-- whether HEAD is answered, and whether each request is reported
 abbrev pub with_flags : App → App
-with_flags command = with_rule (with_rule command
-    (named_flag (codes "head")))
-    (with_missing (codes "line") (named_option (codes "log")))
+with_flags command = with_rule (with_rule command (named_flag (codes "head"))) (named_flag (codes "log"))
+
+-- in which format each request is reported
+abbrev pub with_format : App → App
+with_format command = with_rule command (named_option (codes "log-format"))
 
 -- the subcommand `serve`
 abbrev pub serve_command : App
-serve_command = with_flags (with_serving (with_fetching (with_pages (with_addresses (new_app (codes "serve"))))))
+serve_command = with_format (with_flags (with_serving (with_fetching (with_pages (with_addresses (new_app (codes "serve")))))))

@@ -11,10 +11,6 @@ named_option name = record (new_rule name) { long = Some name; value_names = 1 }
 abbrev pub with_default : Text → Rule → Rule
 with_default word option = record option { defaults = word ∷ [] }
 
--- such an option whose word may be left out; then it is this one
-abbrev pub with_missing : Text → Rule → Rule
-with_missing word option = record option { range = Some (record { start_inclusive = 0; end_inclusive = 1 }); missing = word ∷ [] }
-
 -- the same, which has to be there
 abbrev pub wanted : Rule → Rule
 wanted option = record option { required = true }

@@ -44,14 +44,18 @@ is_set word = option_map_or (λ w. bytes_eq w (codes "true")) word false
 
 -- ---- the log
 
--- the format that a word names: without a word there is no log
-abbrev pub log_of : Option Text → Option (Option LogFormat)
-log_of None = Some None
-log_of (Some word) =
+-- the format of the log that a word names; without a word, lines where a log is asked for
+abbrev pub log_of : Bool → Option Text → Option (Option LogFormat)
+log_of is_asked None = Some (if is_asked then Some format.Line else None)
+log_of is_asked (Some word) =
     if bytes_eq word (codes "line") then Some (Some format.Line)
     else (if bytes_eq word (codes "combined") then Some (Some format.Combined)
     else (if bytes_eq word (codes "json") then Some (Some format.Json)
     else None))
+
+-- the log that the options ask for
+abbrev pub log_said : List Row → Option (Option LogFormat)
+log_said rows = log_of (is_set (first_of (codes "log") rows)) (first_of (codes "log-format") rows)
 
 -- ---- names
 
@@ -139,7 +143,7 @@ pub record SaysServing (rows : List Row) (serving : Serving) : Type 0 where
   pub threads_are : said_of threads rows ≡ Some serving.threads
   pub connections_are : said_of connections rows ≡ Some serving.connections
   pub head_is : is_set (first_of (codes "head") rows) ≡ serving.answers_head
-  pub log_is : log_of (first_of (codes "log") rows) ≡ Some serving.log
+  pub log_is : log_said rows ≡ Some serving.log
 
 -- what the options ask for
 pub record SaysSetup (rows : List Row) (setup : Setup) : Type 0 where
@@ -170,7 +174,7 @@ IsWrong rows named.ClientTimeout = said_of client_timeout rows ≡ None
 IsWrong rows named.KeepAlive = said_of keep_alive rows ≡ None
 IsWrong rows named.Threads = said_of threads rows ≡ None
 IsWrong rows named.Connections = said_of connections rows ≡ None
-IsWrong rows named.Log = log_of (first_of (codes "log") rows) ≡ None
+IsWrong rows named.LogFormat = log_said rows ≡ None
 IsWrong rows named.Name = name_of (first_of (codes "name") rows) ≡ None
 
 -- the values of these options are valid
@@ -187,7 +191,7 @@ abbrev pub HasAhead : List Row → Type 0
 HasAhead rows = IsSome (ahead_said 1 (first_of (codes "ahead") rows))
 
 abbrev pub HasLog : List Row → Type 0
-HasLog rows = IsSome (log_of (first_of (codes "log") rows))
+HasLog rows = IsSome (log_said rows)
 
 abbrev pub HasPages : List Row → Type 0
 HasPages rows = Has workers rows × Has fetches rows × HasAhead rows × Has levels rows × Has capacity rows × Has page_bytes rows
@@ -220,7 +224,7 @@ AreValidBefore rows named.ClientTimeout = HasAddress rows × HasPages rows × Ha
 AreValidBefore rows named.KeepAlive = HasAddress rows × HasPages rows × HasFetching rows × HasAccepts rows × Has client_timeout rows
 AreValidBefore rows named.Threads = HasAddress rows × HasPages rows × HasFetching rows × HasAccepts rows × Has client_timeout rows × Has keep_alive rows
 AreValidBefore rows named.Connections = HasAddress rows × HasPages rows × HasFetching rows × HasAccepts rows × Has client_timeout rows × Has keep_alive rows × Has threads rows
-AreValidBefore rows named.Log = HasAddress rows × HasPages rows × HasFetching rows × HasAccepts rows × Has client_timeout rows × Has keep_alive rows × Has threads rows × Has connections rows
+AreValidBefore rows named.LogFormat = HasAddress rows × HasPages rows × HasFetching rows × HasAccepts rows × Has client_timeout rows × Has keep_alive rows × Has threads rows × Has connections rows
 AreValidBefore rows named.Name = HasAddress rows × HasPages rows × HasFetching rows × HasServing rows
 AreValidBefore rows (named.Origin fault) = HasAddress rows × HasPages rows × HasFetching rows × HasServing rows × HasName rows
 
@@ -249,7 +253,7 @@ refusal_of named.ClientTimeout = client_timeout.refusal
 refusal_of named.KeepAlive = keep_alive.refusal
 refusal_of named.Threads = threads.refusal
 refusal_of named.Connections = connections.refusal
-refusal_of named.Log = codes "error: --log takes line, combined or json"
+refusal_of named.LogFormat = codes "error: --log-format takes line, combined or json"
 refusal_of named.Name = codes "error: --name takes 1 to 64 letters, digits and marks of a token, as edge-1"
 
 -- why the options are refused

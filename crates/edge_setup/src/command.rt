@@ -2,7 +2,7 @@
 ghost use Rattle.std.specs.Prelude.{◌≡◌, false, IfOk};
 ghost use Rattle.clap.specs.Words.{app_of};
 ghost use Rattle.clap.specs.declared.builder.command.Command.TheViews.{out-Command as fields_of};
-ghost use Rattle.edge_setup.specs.Command.{serve_command, with_addresses, with_fetching, with_flags, with_pages, with_serving};
+ghost use Rattle.edge_setup.specs.Command.{serve_command, with_addresses, with_fetching, with_flags, with_format, with_pages, with_serving};
 
 use crate::number::{
     CAPACITY, CLIENT_TIMEOUT, CONNECTIONS, FETCHES, KEEP_ALIVE, LEVELS, ORIGIN_FETCHES,
@@ -24,7 +24,8 @@ pub fn serve_command<'a>(alloc: Global) -> Result<Command<'a>, AllocError>
     let command = with_pages(alloc, command)?;
     let command = with_fetching(alloc, command)?;
     let command = with_serving(alloc, command)?;
-    with_flags(alloc, command)
+    let command = with_flags(alloc, command)?;
+    with_format(alloc, command)
 }
 
 // Where the server listens, and which origins it asks.
@@ -116,20 +117,27 @@ fn with_serving<'a>(alloc: Global, command: Command<'a>) -> Result<Command<'a>, 
     with_option(command, connections)
 }
 
-// Whether HEAD is answered, and how each request is reported.
+// Whether HEAD is answered, and whether each request is reported.
 fn with_flags<'a>(alloc: Global, command: Command<'a>) -> Result<Command<'a>, AllocError>
     ensures app { IfOk result (λ more. app_of more ≡ with_flags (app_of command.entry)) }
     ensures local { IfOk result (λ more. (fields_of more).has_globals ≡ (fields_of command.entry).has_globals) }
 {
     let head = flag(alloc, "head", "Answers HEAD like GET, without the body");
-    let log = option(
-        alloc,
-        "log",
-        "FORMAT",
-        "Reports each request on standard error: line, combined or json; line where none is named",
-    )
-    .num_args(0..=1)
-    .default_missing_value("line");
+    let log = flag(alloc, "log", "Reports each request on standard error");
     let command = with_option(command, head)?;
     with_option(command, log)
+}
+
+// In which format each request is reported.
+fn with_format<'a>(alloc: Global, command: Command<'a>) -> Result<Command<'a>, AllocError>
+    ensures app { IfOk result (λ more. app_of more ≡ with_format (app_of command.entry)) }
+    ensures local { IfOk result (λ more. (fields_of more).has_globals ≡ (fields_of command.entry).has_globals) }
+{
+    let format = option(
+        alloc,
+        "log-format",
+        "FORMAT",
+        "Reports each request on standard error in this format: line, combined or json",
+    );
+    with_option(command, format)
 }

@@ -129,8 +129,8 @@ pub enum Named {
     Threads,
     /// `--connections`: not a number within the limits.
     Connections,
-    /// `--log`: not the name of a format.
-    Log,
+    /// `--log-format`: not the name of a format.
+    LogFormat,
     /// `--name`: not a token, or too long.
     Name,
 }
@@ -159,7 +159,7 @@ impl Named {
             Named::KeepAlive => KEEP_ALIVE.refusal,
             Named::Threads => THREADS.refusal,
             Named::Connections => CONNECTIONS.refusal,
-            Named::Log => "error: --log takes line, combined or json",
+            Named::LogFormat => "error: --log-format takes line, combined or json",
             Named::Name =>
                 "error: --name takes 1 to 64 letters, digits and marks of a token, as edge-1",
         }

@@ -3,7 +3,7 @@ ghost use Rattle.std.specs.Prelude.{◌≡◌, ◌≤◌, option_map, IfNone, If
 ghost use Rattle.std.specs.declared.net.socket_addr.SocketAddr.{SocketAddr};
 ghost use Rattle.clap.specs.Words.{first_of, found_of, rows_of};
 ghost use Rattle.edge_setup.specs.Numbers.{ahead_said};
-ghost use Rattle.edge_setup.specs.Words.{accepts_of, is_set, log_of, name_of, IsAddress, HasAddress, HasFetching, HasPages, IsFirstWrong, IsRefusedBy, IsWithin, SaysFetching, SaysPages, SaysServing, SaysSetup};
+ghost use Rattle.edge_setup.specs.Words.{accepts_of, is_set, log_of, log_said, name_of, IsAddress, HasAddress, HasFetching, HasPages, IsFirstWrong, IsRefusedBy, IsWithin, SaysFetching, SaysPages, SaysServing, SaysSetup};
 
 use crate::number::{
     AHEAD, CAPACITY, CLIENT_TIMEOUT, CONNECTIONS, FETCHES, KEEP_ALIVE, LEVELS, ORIGIN_FETCHES,
@@ -79,12 +79,17 @@ pub fn is_set(word: Option<&str>) -> bool
     }
 }
 
-// The format of the log that a word names, where there is a log; `None` if it names none.
-fn log_of(word: Option<&str>) -> Option<Option<LogFormat>>
-    ensures { result ≡ log_of (option_map (λ w. w.now) word.entry) }
+// The format of the log that a word names, where there is one; without it lines, if a log is asked for. `None` if the
+// word names no format.
+fn log_of(is_asked: bool, word: Option<&str>) -> Option<Option<LogFormat>>
+    ensures { result ≡ log_of is_asked (option_map (λ w. w.now) word.entry) }
 {
     let Some(word) = word else {
-        return Some(None);
+        return Some(if is_asked {
+            Some(LogFormat::Line)
+        } else {
+            None
+        });
     };
     if word == "line" {
         Some(Some(LogFormat::Line))
@@ -95,6 +100,14 @@ fn log_of(word: Option<&str>) -> Option<Option<LogFormat>>
     } else {
         None
     }
+}
+
+// The log that the options ask for.
+fn log_said(matches: &ArgMatches<'_>) -> Option<Option<LogFormat>>
+    ensures { result ≡ log_said (rows_of (found_of matches.now)) }
+{
+    let is_asked = is_set(word_of(matches, "log"));
+    log_of(is_asked, word_of(matches, "log-format"))
 }
 
 // How many slots may be opened ahead, by a word, or else by how many fetches may be in flight: the slots are of the whole
@@ -158,7 +171,7 @@ fn serving_of(matches: &ArgMatches<'_>) -> Result<Serving, Named>
         threads: THREADS.u16_of(matches).ok_or(Named::Threads)?,
         connections: CONNECTIONS.u32_of(matches).ok_or(Named::Connections)?,
         answers_head: is_set(word_of(matches, "head")),
-        log: log_of(word_of(matches, "log")).ok_or(Named::Log)?,
+        log: log_said(matches).ok_or(Named::LogFormat)?,
     })
 }
 
