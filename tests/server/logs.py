@@ -46,7 +46,7 @@ def lines_of(origin, format_words, asked):
 
 
 def logs_are_read_as_combined():
-    """--log combined: each line is whole whatever a client sends, with its address, the time, `referer` and `user-agent`."""
+    """--log-format combined: each line is whole whatever a client sends, with its address, the time, `referer` and `user-agent`."""
     asked = (
         wire("GET /p?a=1 HTTP/1.1|host: a.test|referer: http://a.test/|user-agent: Agent/1 (x; y)||"),
         wire("GET /none HTTP/1.0|host: a.test||"),
@@ -54,7 +54,7 @@ def logs_are_read_as_combined():
         wire("PUT /p HTTP/1.1|host: a.test||"),
     )
     with Origin(PLAIN) as origin:
-        *lines, last = lines_of(origin, ("--log", "combined"), asked)
+        *lines, last = lines_of(origin, ("--log-format", "combined"), asked)
     same("the end of the last line", "", last)
     wanted = (
         ("127.0.0.1", "GET /p?a=1 HTTP/1.1", 200, 10, "http://a.test/", "Agent/1 (x; y)"),
@@ -68,7 +68,7 @@ def logs_are_read_as_combined():
 
 
 def logs_are_read_as_json():
-    """--log json: an object a line, whatever a client sends, with the reason of each failure."""
+    """--log-format json: an object a line, whatever a client sends, with the reason of each failure."""
     bad = "A\n</esi:vars>"
     paths = dict(PLAIN, **{
         "/lost": (b"<esi:include src='/gone'/>", "text/html", TEMPLATE), "/bad": (bad.encode(), "text/html", TEMPLATE),
@@ -81,7 +81,7 @@ def logs_are_read_as_json():
     asked = [wire("GET %s HTTP/1.1|host: a.test||" % target) for target, _, _ in rows]
     asked += [wire("PUT /p HTTP/1.1|host: a.test||"), b'GET /"\\ HTTP/1.0\r\n\r\n', wire("GET /p HTTP/1.1|host: b.test|cdn-loop: me||"), wire("GET / HTTP/1.1|host: c.test||")]
     with Origin(paths) as origin:
-        words = ("--log", "json", "--name", "me", "--origin", "c.test=127.0.0.1:1")
+        words = ("--log-format", "json", "--name", "me", "--origin", "c.test=127.0.0.1:1")
         *lines, last = lines_of(origin, words, asked)
     same("the end of the last line", "", last)
     came = [of_json(line) for line in lines]
@@ -95,10 +95,10 @@ def logs_are_read_as_json():
 
 
 def line_is_the_format_without_a_name():
-    """--log and --log line say the same, but for the times; another word is refused (see the tests of the program)."""
+    """--log and --log-format line say the same, but for the times; another word is refused (see the tests of the program)."""
     asked = (wire("GET /p HTTP/1.1|host: a.test||"), wire("GET / HTTP/1.0||"))
     with Origin(PLAIN) as origin:
-        told = [lines_of(origin, words, asked) for words in (("--log",), ("--log", "line"), ("--log=line",))]
+        told = [lines_of(origin, words, asked) for words in (("--log",), ("--log-format", "line"), ("--log", "--log-format=line"))]
     shapes = [[re.sub(r"^\d+|\d+$", "N", line) for line in lines] for lines in told]
     same("lines", [["N GET http://a.test/p 200 10 2 N", "N GET / 400 27 0 N", ""]] * 3, shapes)
 
