@@ -12,6 +12,7 @@ pub mod laws;
 mod open_files;
 mod options;
 mod program;
+mod requests_log;
 mod server;
 mod serving;
 mod status;

@@ -2,20 +2,18 @@
 ghost use Rattle.std.specs.Prelude.{◌≤◌};
 
 use crate::open_files::{Numbers, Unreached, open_files_limit};
+use crate::requests_log::AccessLog;
 use crate::server::{Fetches, Server};
 use crate::status::Status;
-use access_log::{LogFormat, LogWriter};
 use edge_setup::{Origin, Place};
 use fetch_workers::{Assembling, Cache};
-use hyper_edge::{
-    EdgeService, Journal, Limits, RequestRecord, ServeEnd, ServerRuntime, Sockets, serve_accepts,
-};
+use hyper_edge::{EdgeService, Limits, ServeEnd, ServerRuntime, Sockets, serve_accepts};
 use hyper_source::{EdgeName, HyperSource};
-use std::alloc::{AllocGlobal, Global};
+use std::alloc::AllocGlobal;
 use std::io::{Eprint, Print};
 use std::net::{Net, SocketAddr, TcpListener, TcpStream, ToSocketAddrs};
 use std::random::RandomSource;
-use std::sync::{Arc, Wait};
+use std::sync::Arc;
 use std::time::{Clock, Duration};
 use std::{io, str};
 
@@ -57,7 +55,7 @@ where
     }
     let (sockets, address) = listening(rt, listen, clients)?;
     println!(rt; "listening on {address}")?;
-    let log = log_in(rt.alloc(), log);
+    let log = AccessLog::new(rt.alloc(), log);
     let end = serve_accepts(rt, &sockets, &service, &log, at_once, accept);
     log.finish(rt);
     Ok(end)
@@ -201,43 +199,6 @@ impl<R: Clock> fetch_workers::Clock<R> for MonotonicSeconds {
             Ok(time) => time.as_secs(),
             Err(_) => 0,
         }
-    }
-}
-
-/// The log of requests, if there is to be one.
-#[derive(Drop)]
-struct AccessLog {
-    writer: Option<LogWriter>,
-}
-
-impl AccessLog {
-    // Writes what waits still.
-    fn finish<R: AllocGlobal + Clock + Wait>(&self, rt: &R) {
-        if let Some(writer) = &self.writer {
-            writer.finish(rt);
-        }
-    }
-}
-
-impl<R: AllocGlobal + Clock + Wait> Journal<R> for AccessLog {
-    fn is_kept(&self) -> bool {
-        self.writer.is_some()
-    }
-
-    fn served(&self, rt: &R, record: &RequestRecord) {
-        if let Some(writer) = &self.writer {
-            writer.report(rt, record);
-        }
-    }
-}
-
-// The log in a format.
-fn log_in(alloc: Global, format: Option<LogFormat>) -> AccessLog {
-    match format {
-        Some(format) => AccessLog {
-            writer: Some(LogWriter::new(alloc, format)),
-        },
-        None => AccessLog { writer: None },
     }
 }
 

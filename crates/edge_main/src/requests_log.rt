@@ -1,0 +1,132 @@
+//! The log of requests, on standard error.
+
+use access_log::{LineQueue, LogFormat, line_of};
+use hyper_edge::{Journal, RequestRecord};
+use libc::net::{POLLOUT, poll};
+use libc::types::pollfd;
+use std::alloc::{AllocError, AllocGlobal, Global};
+use std::io::Eprint;
+use std::str;
+use std::sync::{Mutex, Wait};
+use std::time::Clock;
+
+const STANDARD_ERROR: i32 = 2;
+
+// How many bytes may wait for the reader of the log.
+const MOST_WAITING: usize = 1_048_576;
+
+// A pipe that is ready takes so many bytes at once without a wait (POSIX's PIPE_BUF, on Linux), and so many of these
+// are all that may wait.
+const CHUNK: usize = 4_096;
+
+const CHUNKS: usize = MOST_WAITING / CHUNK;
+
+// For how many milliseconds the end of the server waits for a reader that takes nothing.
+const PATIENCE_MILLIS: i32 = 1_000;
+
+/// The log of requests, if there is to be one. Whoever reports a request leaves its line in a queue, and writes what
+/// waits there only where nobody else does, and only while the reader takes it. So a reader that stalls holds no
+/// thread, and costs lines: once the queue is full, further ones are counted in their place.
+#[derive(Drop)]
+pub(crate) struct AccessLog {
+    format: Option<LogFormat>,
+    // Nothing is written under the lock.
+    queue: Mutex<LineQueue>,
+}
+
+impl AccessLog {
+    /// A log in this format, or none. Takes no memory.
+    pub(crate) fn new(alloc: Global, format: Option<LogFormat>) -> AccessLog {
+        AccessLog {
+            format,
+            queue: Mutex::new(LineQueue::new(alloc, MOST_WAITING)),
+        }
+    }
+
+    /// Writes what is left at the end of the server, as long as the reader takes some of it within a second.
+    pub(crate) fn finish<R: Wait + Clock + Eprint + AllocGlobal>(&self, rt: &R) {
+        if let Some(format) = self.format {
+            // With no line, only what was lost is told.
+            self.tell(rt, format, seconds(rt), Ok(&[]), PATIENCE_MILLIS);
+        }
+    }
+
+    // Leaves a line, and writes what waits if nobody does. A line for which there is no memory is lost like one for
+    // which there is no room.
+    fn tell<R: Wait + Eprint + AllocGlobal>(
+        &self,
+        rt: &R,
+        format: LogFormat,
+        second: u64,
+        line: Result<&[u8], AllocError>,
+        patience: i32,
+    ) {
+        let mut queue = self.queue.lock(rt);
+        let told = match line {
+            Ok(line) => queue.tell(rt.alloc(), format, second, line),
+            Err(_) => Err(AllocError),
+        };
+        if told.is_err() {
+            queue.lose();
+        }
+        let writes = queue.begin();
+        drop(queue);
+        if writes {
+            self.write(rt, patience);
+        }
+    }
+
+    // Writes what waits, while standard error takes more within so many milliseconds.
+    fn write<R: Wait + Eprint>(&self, rt: &R, patience: i32) {
+        let mut chunk = [0; CHUNK];
+        for _ in 0..CHUNKS {
+            if !is_ready(patience) {
+                break;
+            }
+            let count = self.queue.lock(rt).take(&mut chunk);
+            if count == 0 {
+                return;
+            }
+            // Lines are ASCII. What can't be written is dropped, since nobody reads it.
+            if let Ok(text) = str::from_utf8(&chunk[..count]) {
+                let _ = eprint!(rt; "{text}");
+            }
+        }
+        self.queue.lock(rt).stop();
+    }
+}
+
+impl<R: AllocGlobal + Clock + Eprint + Wait> Journal<R> for AccessLog {
+    fn is_kept(&self) -> bool {
+        self.format.is_some()
+    }
+
+    fn served(&self, rt: &R, record: &RequestRecord) {
+        let Some(format) = self.format else {
+            return;
+        };
+        let second = seconds(rt);
+        match line_of(rt.alloc(), format, second, record) {
+            Ok(line) => self.tell(rt, format, second, Ok(line.as_slice()), 0),
+            Err(_) => self.tell(rt, format, second, Err(AllocError), 0),
+        }
+    }
+}
+
+// The second since 1970; 0 where the clock can't be read.
+fn seconds(rt: &impl Clock) -> u64 {
+    match rt.since_1970() {
+        Ok(time) => time.as_secs(),
+        Err(_) => 0,
+    }
+}
+
+// Whether standard error takes bytes, or is gone, within so many milliseconds.
+fn is_ready(patience: i32) -> bool {
+    let mut watched = [pollfd {
+        fd: STANDARD_ERROR,
+        events: POLLOUT,
+        revents: 0,
+    }];
+    poll(&mut watched, patience) > 0
+}
