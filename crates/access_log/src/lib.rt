@@ -9,11 +9,9 @@ mod line;
 mod parts;
 mod queue;
 mod record;
-mod writer;
 
 pub use clock::date_of;
 pub use format::LogFormat;
 pub use line::{line_of, report_of};
 pub use queue::LineQueue;
 pub use record::{Fault, Place, Reason, RequestRecord, Version};
-pub use writer::LogWriter;
