@@ -103,6 +103,20 @@ def line_is_the_format_without_a_name():
     same("lines", [["N GET http://a.test/p 200 10 2 N", "N GET / 400 27 0 N", ""]] * 3, shapes)
 
 
+def clients_behind_a_proxy_are_told():
+    """--forwarded FIELD: the client is the last address of the field's last line; where that is none, whoever asks."""
+    fields = (
+        ("", "127.0.0.1"), ("x-forwarded-for: 203.0.113.9|", "203.0.113.9"), ("X-Forwarded-For: 192.0.2.1,\t2001:db8::1 |", "2001:db8::1"),
+        ("x-forwarded-for: 192.0.2.1|x-forwarded-for: 192.0.2.2|", "192.0.2.2"), ("x-forwarded-for: 192.0.2.1, unknown|", "127.0.0.1"),
+        ("x-forwarded-for: 192.0.2.1,|", "127.0.0.1"), ("x-forwarded-for: 192.0.2.1:80|", "127.0.0.1"), ("forwarded: 192.0.2.1|", "127.0.0.1"),
+    )
+    asked = [wire("GET /p HTTP/1.1|host: a.test|%s|" % field) for field, _ in fields]
+    for words, wanted in ((("--forwarded", "X-Forwarded-For"), [told for _, told in fields]), ((), ["127.0.0.1"] * len(fields))):
+        with Origin(PLAIN) as origin:
+            *lines, _ = lines_of(origin, ("--log-format", "combined", *words), asked)
+        same("clients with %s" % (words,), wanted, [of_combined(line)[0] for line in lines])
+
+
 def ask_on(edge, count, target):
     """So many requests over one connection."""
     with client(edge) as connection:
@@ -153,6 +167,7 @@ TESTS = (
     logs_are_read_as_combined,
     logs_are_read_as_json,
     line_is_the_format_without_a_name,
+    clients_behind_a_proxy_are_told,
     a_reader_that_stands_still_holds_nobody,
     the_end_does_not_wait_for_a_reader,
 )

@@ -60,3 +60,4 @@ pub record IsServerOf (setup : Setup) (server : Server) : Type 0 where
   pub accepts_are : server.accept ≡ setup.serving.accept
   pub head_is : server.answers_head ≡ setup.serving.answers_head
   pub log_is : server.log ≡ setup.serving.log
+  pub forwarded_is : server.forwarded ≡ setup.forwarded

@@ -73,6 +73,7 @@ pub(crate) fn server_of(setup: Setup) -> Server
         fetching,
         serving,
         name,
+        forwarded,
     } = setup;
     let client = limit_of(serving.client_timeout);
     let how = Assembling::new(pages.ahead, pages.workers, pages.levels);
@@ -102,5 +103,6 @@ pub(crate) fn server_of(setup: Setup) -> Server
         accept: serving.accept,
         answers_head: serving.answers_head,
         log: serving.log,
+        forwarded,
     }
 }

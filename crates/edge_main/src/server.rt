@@ -47,6 +47,8 @@ pub(crate) struct Server {
     pub answers_head: bool,
     /// How each request is logged, where it is.
     pub log: Option<LogFormat>,
+    /// The name of the field by which a trusted proxy names the client to log, where there is one.
+    pub forwarded: Option<Vec<u8>>,
     ghost some_capacity: { 1 ≤ capacity },
     ghost few_capacity: { capacity ≤ 1024 },
 }

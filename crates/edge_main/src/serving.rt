@@ -40,6 +40,7 @@ where
         accept,
         answers_head,
         log,
+        forwarded,
     } = server;
     let most_waiting = fetches.bounds.and_then(|bounds| bounds.most_in_flight);
     let mut source = source_of(rt, origins, fetches)?;
@@ -49,6 +50,13 @@ where
     let mut service = service_of(rt, source, most_waiting, capacity, pages)?.limited_to(page);
     if let Some(name) = name {
         service = service.named(name);
+    }
+    if let Some(field) = forwarded {
+        // The setup has a name of a field, so only memory may be missing.
+        let Ok(told) = service.forwarded_by(field.as_slice()) else {
+            return Err(Status::NoMemory);
+        };
+        service = told;
     }
     if answers_head {
         service = service.answering_head();

@@ -43,10 +43,10 @@ with_serving command = with_rule (with_rule (with_rule (with_rule (with_rule com
 abbrev pub with_flags : App → App
 with_flags command = with_rule (with_rule command (named_flag (codes "head"))) (named_flag (codes "log"))
 
--- in which format each request is reported
-abbrev pub with_format : App → App
-with_format command = with_rule command (named_option (codes "log-format"))
+-- in which format each request is reported, and as whose
+abbrev pub with_reports : App → App
+with_reports command = with_rule (with_rule command (named_option (codes "log-format"))) (named_option (codes "forwarded"))
 
 -- the subcommand `serve`
 abbrev pub serve_command : App
-serve_command = with_format (with_flags (with_serving (with_fetching (with_pages (with_addresses (new_app (codes "serve")))))))
+serve_command = with_reports (with_flags (with_serving (with_fetching (with_pages (with_addresses (new_app (codes "serve")))))))

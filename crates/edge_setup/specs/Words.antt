@@ -59,10 +59,10 @@ log_said rows = log_of (is_set (first_of (codes "log") rows)) (first_of (codes "
 
 -- ---- names
 
--- the edge's name that a word writes: a token of at most 64 bytes; without a word it has none
-abbrev pub name_of : Option Text → Option (Option Text)
-name_of None = Some None
-name_of (Some word) = if is_token word && nat_le (length word) 64 then Some (Some word) else None
+-- the name of an edge or of a field that a word writes: a token of at most 64 bytes; without a word there is none
+abbrev pub token_of : Option Text → Option (Option Text)
+token_of None = Some None
+token_of (Some word) = if is_token word && nat_le (length word) 64 then Some (Some word) else None
 
 -- ---- addresses
 
@@ -152,7 +152,8 @@ pub record SaysSetup (rows : List Row) (setup : Setup) : Type 0 where
   pub pages_are : SaysPages rows setup.pages
   pub fetching_is : SaysFetching rows setup.fetching
   pub serving_is : SaysServing rows setup.serving
-  pub name_is : name_of (first_of (codes "name") rows) ≡ Some (option_map (λ name. name.items) setup.name)
+  pub name_is : token_of (first_of (codes "name") rows) ≡ Some (option_map (λ name. name.items) setup.name)
+  pub forwarded_is : token_of (first_of (codes "forwarded") rows) ≡ Some (option_map (λ field. field.items) setup.forwarded)
 
 -- the value of an option is invalid
 abbrev pub IsWrong : List Row → Named → Type 0
@@ -175,7 +176,8 @@ IsWrong rows named.KeepAlive = said_of keep_alive rows ≡ None
 IsWrong rows named.Threads = said_of threads rows ≡ None
 IsWrong rows named.Connections = said_of connections rows ≡ None
 IsWrong rows named.LogFormat = log_said rows ≡ None
-IsWrong rows named.Name = name_of (first_of (codes "name") rows) ≡ None
+IsWrong rows named.Name = token_of (first_of (codes "name") rows) ≡ None
+IsWrong rows named.Forwarded = token_of (first_of (codes "forwarded") rows) ≡ None
 
 -- the values of these options are valid
 abbrev pub HasAddress : List Row → Type 0
@@ -203,7 +205,10 @@ abbrev pub HasServing : List Row → Type 0
 HasServing rows = HasAccepts rows × Has client_timeout rows × Has keep_alive rows × Has threads rows × Has connections rows × HasLog rows
 
 abbrev pub HasName : List Row → Type 0
-HasName rows = IsSome (name_of (first_of (codes "name") rows))
+HasName rows = IsSome (token_of (first_of (codes "name") rows))
+
+abbrev pub HasForwarded : List Row → Type 0
+HasForwarded rows = IsSome (token_of (first_of (codes "forwarded") rows))
 
 -- the values of the options that are read before this one are valid
 abbrev pub AreValidBefore : List Row → Named → Type 0
@@ -226,7 +231,8 @@ AreValidBefore rows named.Threads = HasAddress rows × HasPages rows × HasFetch
 AreValidBefore rows named.Connections = HasAddress rows × HasPages rows × HasFetching rows × HasAccepts rows × Has client_timeout rows × Has keep_alive rows × Has threads rows
 AreValidBefore rows named.LogFormat = HasAddress rows × HasPages rows × HasFetching rows × HasAccepts rows × Has client_timeout rows × Has keep_alive rows × Has threads rows × Has connections rows
 AreValidBefore rows named.Name = HasAddress rows × HasPages rows × HasFetching rows × HasServing rows
-AreValidBefore rows (named.Origin fault) = HasAddress rows × HasPages rows × HasFetching rows × HasServing rows × HasName rows
+AreValidBefore rows named.Forwarded = HasAddress rows × HasPages rows × HasFetching rows × HasServing rows × HasName rows
+AreValidBefore rows (named.Origin fault) = HasAddress rows × HasPages rows × HasFetching rows × HasServing rows × HasName rows × HasForwarded rows
 
 -- this is the first option, in the order of reading, whose value is invalid
 pub record IsFirstWrong (rows : List Row) (option : Named) : Type 0 where
@@ -255,6 +261,7 @@ refusal_of named.Threads = threads.refusal
 refusal_of named.Connections = connections.refusal
 refusal_of named.LogFormat = codes "error: --log-format takes line, combined or json"
 refusal_of named.Name = codes "error: --name takes 1 to 64 letters, digits and marks of a token, as edge-1"
+refusal_of named.Forwarded = codes "error: --forwarded takes the name of a field, as x-forwarded-for"
 
 -- why the options are refused
 abbrev pub IsRefusedBy : List Row → SetupFault → Type 0

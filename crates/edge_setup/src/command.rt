@@ -2,7 +2,7 @@
 ghost use Rattle.std.specs.Prelude.{◌≡◌, false, IfOk};
 ghost use Rattle.clap.specs.Words.{app_of};
 ghost use Rattle.clap.specs.declared.builder.command.Command.TheViews.{out-Command as fields_of};
-ghost use Rattle.edge_setup.specs.Command.{serve_command, with_addresses, with_fetching, with_flags, with_format, with_pages, with_serving};
+ghost use Rattle.edge_setup.specs.Command.{serve_command, with_addresses, with_fetching, with_flags, with_pages, with_reports, with_serving};
 
 use crate::number::{
     CAPACITY, CLIENT_TIMEOUT, CONNECTIONS, FETCHES, KEEP_ALIVE, LEVELS, ORIGIN_FETCHES,
@@ -25,7 +25,7 @@ pub fn serve_command<'a>(alloc: Global) -> Result<Command<'a>, AllocError>
     let command = with_fetching(alloc, command)?;
     let command = with_serving(alloc, command)?;
     let command = with_flags(alloc, command)?;
-    with_format(alloc, command)
+    with_reports(alloc, command)
 }
 
 // Where the server listens, and which origins it asks.
@@ -128,9 +128,9 @@ fn with_flags<'a>(alloc: Global, command: Command<'a>) -> Result<Command<'a>, Al
     with_option(command, log)
 }
 
-// In which format each request is reported.
-fn with_format<'a>(alloc: Global, command: Command<'a>) -> Result<Command<'a>, AllocError>
-    ensures app { IfOk result (λ more. app_of more ≡ with_format (app_of command.entry)) }
+// In which format each request is reported, and as whose.
+fn with_reports<'a>(alloc: Global, command: Command<'a>) -> Result<Command<'a>, AllocError>
+    ensures app { IfOk result (λ more. app_of more ≡ with_reports (app_of command.entry)) }
     ensures local { IfOk result (λ more. (fields_of more).has_globals ≡ (fields_of command.entry).has_globals) }
 {
     let format = option(
@@ -139,5 +139,12 @@ fn with_format<'a>(alloc: Global, command: Command<'a>) -> Result<Command<'a>, A
         "FORMAT",
         "Reports each request on standard error in this format: line, combined or json",
     );
-    with_option(command, format)
+    let forwarded = option(
+        alloc,
+        "forwarded",
+        "FIELD",
+        "Field by which a trusted proxy names the client to report, as x-forwarded-for",
+    );
+    let command = with_option(command, format)?;
+    with_option(command, forwarded)
 }

@@ -88,6 +88,8 @@ pub struct Setup {
     pub serving: Serving,
     /// The edge's name among others, a token of at most 64 bytes, where it has one.
     pub name: Option<Vec<u8>>,
+    /// The name of the field by which a trusted proxy names the client, a token of at most 64 bytes, where there is one.
+    pub forwarded: Option<Vec<u8>>,
 }
 
 /// The options of `serve` whose values may be invalid.
@@ -133,6 +135,8 @@ pub enum Named {
     LogFormat,
     /// `--name`: not a token, or too long.
     Name,
+    /// `--forwarded`: not the name of a field, or too long.
+    Forwarded,
 }
 
 impl Named {
@@ -162,6 +166,7 @@ impl Named {
             Named::LogFormat => "error: --log-format takes line, combined or json",
             Named::Name =>
                 "error: --name takes 1 to 64 letters, digits and marks of a token, as edge-1",
+            Named::Forwarded => "error: --forwarded takes the name of a field, as x-forwarded-for",
         }
     }
 }

@@ -3,7 +3,7 @@ ghost use Rattle.std.specs.Prelude.{◌≡◌, ◌≤◌, option_map, IfNone, If
 ghost use Rattle.std.specs.declared.net.socket_addr.SocketAddr.{SocketAddr};
 ghost use Rattle.clap.specs.Words.{first_of, found_of, rows_of};
 ghost use Rattle.edge_setup.specs.Numbers.{ahead_said};
-ghost use Rattle.edge_setup.specs.Words.{accepts_of, is_set, log_of, log_said, name_of, IsAddress, HasAddress, HasFetching, HasPages, IsFirstWrong, IsRefusedBy, IsWithin, SaysFetching, SaysPages, SaysServing, SaysSetup};
+ghost use Rattle.edge_setup.specs.Words.{accepts_of, is_set, log_of, log_said, token_of, IsAddress, HasAddress, HasFetching, HasPages, IsFirstWrong, IsRefusedBy, IsWithin, SaysFetching, SaysPages, SaysServing, SaysSetup};
 
 use crate::number::{
     AHEAD, CAPACITY, CLIENT_TIMEOUT, CONNECTIONS, FETCHES, KEEP_ALIVE, LEVELS, ORIGIN_FETCHES,
@@ -35,29 +35,29 @@ fn accepts_of(word: Option<&str>) -> Option<u64>
     }
 }
 
-// The longest name of an edge.
-const MAX_NAME: usize = 64;
+// The longest name of an edge or of a field.
+const MAX_TOKEN: usize = 64;
 
-// The name that a word writes, where there is one; `None` if it is none.
-fn name_of(word: Option<&str>) -> Option<Option<&str>>
-    ensures { option_map (λ name. option_map (λ n. n.now) name) result ≡ name_of (option_map (λ w. w.now) word.entry) }
+// The token that a word writes, where there is one; `None` if it isn't one.
+fn token_of(word: Option<&str>) -> Option<Option<&str>>
+    ensures { option_map (λ token. option_map (λ t. t.now) token) result ≡ token_of (option_map (λ w. w.now) word.entry) }
 {
-    let Some(name) = word else {
+    let Some(token) = word else {
         return Some(None);
     };
-    if is_token(name.as_bytes()) && name.len() <= MAX_NAME {
-        Some(Some(name))
+    if is_token(token.as_bytes()) && token.len() <= MAX_TOKEN {
+        Some(Some(token))
     } else {
         None
     }
 }
 
-// A copy of a name.
-fn copy_of(alloc: Global, name: Option<&str>) -> Result<Option<Vec<u8>>, AllocError>
-    ensures { IfOk result (λ copy. option_map (λ c. c.items) copy ≡ option_map (λ n. n.now) name.entry) }
+// A copy of a token.
+fn copy_of(alloc: Global, token: Option<&str>) -> Result<Option<Vec<u8>>, AllocError>
+    ensures { IfOk result (λ copy. option_map (λ c. c.items) copy ≡ option_map (λ t. t.now) token.entry) }
 {
-    match name {
-        Some(name) => Ok(Some(name.as_bytes().to_vec(alloc)?)),
+    match token {
+        Some(token) => Ok(Some(token.as_bytes().to_vec(alloc)?)),
         None => Ok(None),
     }
 }
@@ -187,7 +187,8 @@ pub fn setup_of(alloc: Global, matches: &ArgMatches<'_>) -> Result<Setup, SetupF
     let pages = pages_of(matches)?;
     let fetching = fetching_of(matches)?;
     let serving = serving_of(matches)?;
-    let name = name_of(word_of(matches, "name")).ok_or(Named::Name)?;
+    let name = token_of(word_of(matches, "name")).ok_or(Named::Name)?;
+    let forwarded = token_of(word_of(matches, "forwarded")).ok_or(Named::Forwarded)?;
     let origins = match origins_of(alloc, matches)? {
         Ok(origins) => origins,
         Err(fault) => return Err(SetupFault::Wrong(Named::Origin(fault))),
@@ -199,5 +200,6 @@ pub fn setup_of(alloc: Global, matches: &ArgMatches<'_>) -> Result<Setup, SetupF
         fetching,
         serving,
         name: copy_of(alloc, name)?,
+        forwarded: copy_of(alloc, forwarded)?,
     })
 }

@@ -6,3 +6,4 @@ pub mod Responses
 pub mod Records
 pub mod Lines
 pub mod Methods
+pub mod Forwarded

@@ -11,6 +11,7 @@ mod date;
 mod exchange;
 mod executor;
 mod faults;
+mod forwarded;
 mod handover;
 mod journal;
 mod page_time;

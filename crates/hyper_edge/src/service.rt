@@ -7,18 +7,20 @@ ghost use Rattle.hyper_edge.specs.Methods.{answered_as};
 
 use crate::date::DateClock;
 use crate::exchange::deadline;
+use crate::forwarded::client_of;
 use crate::page_time::WithinTime;
 use crate::responding::{RequestHead, Responded, no_room, refused, respond_with_log};
 use access_log::Reason;
 use edge_types::NoMemory;
 use fetch_workers::{Assembling, ConcurrentSource};
-use http::header::HeaderValue;
+use http::header::{HeaderName, HeaderNameError, HeaderValue};
 use http::{HeaderMap, Request, Uri};
 use page_http::{Field, has_passed};
 use std::alloc::Global;
 use std::borrow::CowStr;
 use std::hash::RandomState;
 use std::io;
+use std::net::IpAddr;
 use std::random::RandomSource;
 use std::sync::{Arc, Wait};
 use std::thread::Threads;
@@ -36,6 +38,8 @@ pub struct EdgeService<S, R> {
     answers_head: bool,
     // The name by which the edge knows a request that it has sent itself.
     name: Option<Vec<u8>>,
+    // The field by which a trusted proxy names the client.
+    forwarded: Option<HeaderName>,
     // The hash keys of the maps of fields.
     keys: RandomState,
 }
@@ -60,6 +64,7 @@ impl<S: Drop, R: Drop> EdgeService<S, R> {
             limit: None,
             answers_head: false,
             name: None,
+            forwarded: None,
             keys,
         })
     }
@@ -88,6 +93,16 @@ impl<S: Drop, R: Drop> EdgeService<S, R> {
     pub fn named(mut self, name: Vec<u8>) -> EdgeService<S, R> {
         self.name = Some(name);
         self
+    }
+
+    /// The same, and the client of a request is the one that its field of this name reports: the last address there,
+    /// which is what the nearest proxy has added; where it reports none, whoever the connection is from. So only trusted
+    /// proxies may reach the server. Refused if it isn't the name of a field, or an allocation fails.
+    ///
+    /// Source: our profile, of the field `x-forwarded-for` as nginx and HAProxy write it.
+    pub fn forwarded_by(mut self, field: &[u8]) -> Result<EdgeService<S, R>, HeaderNameError> {
+        self.forwarded = Some(HeaderName::from_bytes(self.alloc, field)?);
+        Ok(self)
     }
 
     pub(crate) fn alloc(&self) -> Global {
@@ -126,6 +141,17 @@ where
             until: deadline(&self.rt, self.limit).ok().flatten(),
         };
         respond_with_log(&self.rt, alloc, &source, &head, self.how)
+    }
+}
+
+impl<S, R> EdgeService<S, R> {
+    /// The client of a request over a connection from this peer.
+    pub(crate) fn client_of<B>(
+        &self,
+        request: &Request<B>,
+        peer: Option<IpAddr>,
+    ) -> Option<IpAddr> {
+        client_of(self.forwarded.as_ref(), request.headers(), peer)
     }
 }
 

@@ -164,6 +164,7 @@ where
         };
         if let Some(begun) = begun {
             let alloc = self.service.alloc();
+            let client = self.service.client_of(&asked.head, client);
             let left = Unreported::new(alloc, begun, client, &asked.head, &responded);
             let _ = unreported.push(left);
         }
