@@ -99,7 +99,7 @@ def an_edge_that_asks_itself_ends_at_once():
     with Edge("--origin", "*=127.0.0.1:%d" % port, "--name", "edge-a", port=port) as edge:
         begun = time.monotonic()
         got = get(edge, "/p")
-        same("the answer", (508, b"The request has passed this edge before.\n"), (got.status, got.body))
+        same("the answer", (508, b"The request has passed this edge before, or too many edges.\n"), (got.status, got.body))
         same("at once", True, time.monotonic() - begun < 1)
 
 

@@ -3,3 +3,4 @@ pub mod Faults
 pub mod Rests
 pub mod Laws
 pub mod Shards
+pub mod Circles

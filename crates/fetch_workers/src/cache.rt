@@ -1,15 +1,17 @@
 //! One cache shared by all pages.
 
-ghost use Rattle.std.specs.Prelude.{◌≡◌, ◌≤◌, ◌<◌, [], IfOk};
+ghost use Rattle.std.specs.Prelude.{◌≡◌, ◌⊎◌, ◌↔◌, ◌≤◌, ◌<◌, [], IsTrue, IfOk, IfSome};
 ghost use Rattle.std.specs.Arc.{arc_value};
+ghost use Rattle.fetch_workers.specs.Circles.{IsForAll, says_circle};
 ghost use Rattle.fetch_workers.specs.Shards.{shard_of};
 
 use crate::cache_flights::{CacheFlights, Joined, Led};
 use crate::clock::Clock;
 use crate::concurrent_source::ConcurrentSource;
+use crate::on_behalf::OnBehalf;
 use crate::shared_shard::SharedShard;
 use crate::source::{Found, Source};
-use edge_types::{Answer, NoMemory, PageUrl};
+use edge_types::{Answer, NoMemory, PageUrl, Reply};
 use fragment_cache::{Begun, Flight, MAX_CAPACITY, Picked};
 use std::alloc::Global;
 use std::array;
@@ -28,7 +30,8 @@ pub const SHARDS: usize = 8;
 pub struct Cache<S, C> {
     source: S,
     clock: C,
-    shards: [SharedShard; SHARDS],
+    // Shared with the caches over sources that are asked on behalf of requests that have passed other edges.
+    shards: Arc<[SharedShard; SHARDS]>,
     // How many may wait for one flight, where that is bounded.
     most_waiting: Option<u32>,
 }
@@ -45,6 +48,27 @@ fn shard_of(url: &PageUrl) -> usize
     shard
 }
 
+// The status of a request that goes in a circle (RFC 5842, "508 Loop Detected").
+const LOOP_DETECTED: u16 = 508;
+
+// Whether the answer of somebody else's flight is for everybody who asks for its URL. One that says that its request
+// went in a circle is for whoever led the flight: which edges that request had passed is nothing of the page's.
+fn is_for_all(answer: &Answer, url: &PageUrl) -> bool
+    ensures { IsTrue result ↔ IsForAll url.now answer.now }
+{
+    answer.url() == url && !says_circle(answer.reply())
+}
+
+#[tactic(auto, unfolding(crate::specs::Circles::says_circle))]
+fn says_circle(reply: &Reply) -> bool
+    ensures { result ≡ says_circle reply.now }
+{
+    match reply {
+        Reply::Failed => false,
+        Reply::Got { status, .. } => *status == LOOP_DETECTED,
+    }
+}
+
 impl<S: Drop, C: Drop> Cache<S, C> {
     /// A cache that is still empty, over a source and a clock; each of its `SHARDS` shards keeps at
     /// most `capacity` answers, from 1 to `MAX_CAPACITY` of `fragment_cache`.
@@ -54,10 +78,13 @@ impl<S: Drop, C: Drop> Cache<S, C> {
         requires from { 1 ≤ capacity }
         requires to { capacity ≤ MAX_CAPACITY }
     {
+        let shards: [SharedShard; SHARDS] = array::try_from_fn(|_| SharedShard::new(
+            alloc, capacity,
+        ))?;
         Ok(Cache {
             source,
             clock,
-            shards: array::try_from_fn(|_| SharedShard::new(alloc, capacity))?,
+            shards: Arc::new(alloc, shards)?,
             most_waiting: None,
         })
     }
@@ -100,7 +127,7 @@ impl<S, C> Cache<S, C> {
         }
     }
 
-    // Waits for the answer of another caller's flight; fetches if it can't be picked up.
+    // Waits for the answer of another caller's flight; fetches if it can't be picked up, or isn't for all.
     fn join<R: Wait>(
         &self,
         rt: &R,
@@ -111,10 +138,12 @@ impl<S, C> Cache<S, C> {
     ) -> Result<Arc<Answer>, NoMemory>
     where
         S: Source<R>,
-        ensures { IfOk result (λ answer. (arc_value answer).url ≡ url.now) }
+        ensures named { IfOk result (λ answer. (arc_value answer).url ≡ url.now) }
+        ensures for_all { IfOk result (λ answer.
+            IsForAll url.now (arc_value answer) ⊎ S.gives self.now.source url.now (arc_value answer)) }
     {
         match shard.picked_up(rt, number) {
-            Some(answer) if answer.url() == url => Ok(answer),
+            Some(answer) if is_for_all(&answer, url) => Ok(answer),
             _ => self.source.fetch(rt, alloc, url),
         }
     }
@@ -197,7 +226,7 @@ impl<S, C> Cache<S, C> {
     }
 
     // The answer of one of the flights that others lead, if it has landed; each time another one is looked at. One that
-    // can't be picked up is fetched.
+    // can't be picked up, or isn't for all, is fetched.
     fn joined_landed<R: Wait>(
         &self,
         rt: &R,
@@ -206,12 +235,13 @@ impl<S, C> Cache<S, C> {
     ) -> Found
     where
         S: ConcurrentSource<R>,
+        ensures { IfOk result (λ found. IfSome found (λ answer. IsForAll (arc_value answer).url (arc_value answer))) }
     {
         let Some(joined) = in_flight.joined.pop_front() else {
             return Ok(None);
         };
         match self.shards[shard_of(&joined.url)].pick(rt, joined.number) {
-            Picked::Here(answer) if answer.url() == &joined.url => return Ok(Some(answer)),
+            Picked::Here(answer) if is_for_all(&answer, &joined.url) => return Ok(Some(answer)),
             Picked::Flying => in_flight.joined.push_back(joined)?,
             Picked::Here(_) | Picked::Unknown => {
                 self.source
@@ -287,6 +317,34 @@ impl<S, C> Cache<S, C> {
         }
         let _ = self.landed(rt, in_flight, answer);
         Some(led)
+    }
+}
+
+impl<S, C: Copy> Cache<S, C> {
+    // A cache with the same answers and flights over another source.
+    fn over(&self, source: S) -> Result<Cache<S, C>, NoMemory>
+    where
+        S: Drop,
+        ensures source { IfOk result (λ cache. cache.source ≡ source) }
+        ensures clock { IfOk result (λ cache. cache.clock ≡ self.now.clock) }
+        ensures shards { IfOk result (λ cache. arc_value cache.shards ≡ arc_value self.now.shards) }
+        ensures most { IfOk result (λ cache. cache.most_waiting ≡ self.now.most_waiting) }
+    {
+        Ok(Cache {
+            source,
+            clock: self.clock,
+            shards: Arc::try_clone(&self.shards)?,
+            most_waiting: self.most_waiting,
+        })
+    }
+}
+
+impl<R: Wait, S: OnBehalf<R> + Drop, C: Clock<R> + Copy> OnBehalf<R> for Cache<S, C> {
+    fn on_behalf(&self, alloc: Global, passed: &[u8]) -> Result<Option<Cache<S, C>>, NoMemory> {
+        match self.source.on_behalf(alloc, passed)? {
+            Some(source) => Ok(Some(self.over(source)?)),
+            None => Ok(None),
+        }
     }
 }
 

@@ -3,6 +3,7 @@
 ghost use Rattle.std.specs.Prelude.{◌≡◌};
 
 use crate::concurrent_source::ConcurrentSource;
+use crate::on_behalf::OnBehalf;
 use crate::one_by_one::OneByOne;
 use crate::source::{Found, Source};
 use edge_types::{Answer, NoMemory, PageUrl, Table};
@@ -77,3 +78,6 @@ impl<R> ConcurrentSource<R> for TableSource {
         OneByOne { source: self }.give_up(rt, alloc, in_flight);
     }
 }
+
+// It asks nobody.
+impl<R> OnBehalf<R> for TableSource {}

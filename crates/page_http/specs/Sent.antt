@@ -44,7 +44,7 @@ abbrev pub refusal : ℕ → Sent
 refusal status =
     if status == 400 then own 400 (codes "The request can't be read.\n") [] else (
     if status == 405 then own 405 (codes "Only GET is served.\n") (field (codes "allow") (codes "GET") ∷ []) else (
-    if status == 508 then own 508 (codes "The request has passed this edge before.\n") [] else
+    if status == 508 then own 508 (codes "The request has passed this edge before, or too many edges.\n") [] else
     own 503 (codes "The edge has no room for the page.\n") []))
 
 -- a status under which no body is sent (RFC 9110, sections 15.3.5 and 15.4.5)

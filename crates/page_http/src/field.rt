@@ -1,6 +1,10 @@
 //! Lines of a request's head.
-ghost use Rattle.std.specs.Prelude.{◌≡◌, ◌<◌, [], ◌∷◌, length, MatchOption, IfSome};
+ghost use Rattle.std.specs.Prelude.{◌≡◌, ◌<◌, ◌++◌, [], ◌∷◌, length, MatchOption, IfOk, IfSome};
+ghost use Rattle.std.specs.List.{flat_map, join_by};
 ghost use Rattle.page_http.specs.Head.{values_of, first_of};
+
+use edge_types::NoMemory;
+use std::alloc::Global;
 
 /// A line of a request's head.
 #[derive(Clone, Copy)]
@@ -36,4 +40,25 @@ pub(crate) fn first_value<'a>(name: &[u8], fields: &[Field<'a>]) -> &'a [u8]
         Some((value, _)) => value,
         None => &[],
     }
+}
+
+/// The values with a name as one, with the separator between them; empty if there are none.
+pub(crate) fn joined_values(
+    alloc: Global,
+    name: &[u8],
+    separator: &[u8],
+    fields: &[Field<'_>],
+) -> Result<Vec<u8>, NoMemory>
+    ensures { IfOk result (λ joined. joined.items ≡ join_by (λ value. value) separator.now (values_of name.now fields.now)) }
+{
+    let Some((first, mut left)) = next_value(name, fields) else {
+        return Ok(Vec::new(alloc));
+    };
+    let mut joined = first.to_vec(alloc)?;
+    while let Some((value, rest)) = next_value(name, left) {
+        joined.extend_from_slice(separator)?;
+        joined.extend_from_slice(value)?;
+        left = rest;
+    }
+    Ok(joined)
 }

@@ -6,7 +6,7 @@ ghost use Rattle.edge_types.specs.declared.request.Request.{Request};
 ghost use Rattle.page_http.specs.declared.head.HeadFault.TheVariants as fault;
 ghost use Rattle.page_http.specs.Head as spec;
 
-use crate::field::{Field, first_value, next_value};
+use crate::field::{Field, first_value, joined_values, next_value};
 use edge_types::{NoMemory, Octets, PageUrl, Request, RequestField, SaysFields, query_of};
 use std::alloc::Global;
 use thiserror::Error;
@@ -163,16 +163,5 @@ fn url_of(alloc: Global, host: &[u8], target: &[u8]) -> Result<Option<PageUrl>, 
 fn cookies_of(alloc: Global, fields: &[Field<'_>]) -> Result<Octets, NoMemory>
     ensures { IfOk result (λ cookie. cookie ≡ spec.cookies_of fields.now) }
 {
-    let Some((first, mut left)) = next_value(COOKIE, fields) else {
-        return Ok(Octets::empty(alloc));
-    };
-    let mut cookie = first.to_vec(alloc)?;
-    while let Some((line, rest)) = next_value(COOKIE, left) {
-        cookie.extend_from_slice(b"; ")?;
-        cookie.extend_from_slice(line)?;
-        left = rest;
-    }
-    Ok(Octets::of(cookie))
+    Ok(Octets::of(joined_values(alloc, b"cookie", b"; ", fields)?))
 }
-
-const COOKIE: &[u8] = b"cookie";

@@ -14,5 +14,5 @@ mod response;
 pub use body::EdgeBody;
 pub use field::Field;
 pub use head::{HeadFault, answer_head};
-pub use passed::has_passed;
+pub use passed::{has_passed, passed_edges};
 pub use response::{refusal_of, response_of};

@@ -1,9 +1,10 @@
 //! Which edges a request has passed.
-ghost use Rattle.std.specs.Prelude.{◌≡◌};
+ghost use Rattle.std.specs.Prelude.{◌≡◌, IfOk};
 ghost use Rattle.page_http.specs.Passed as spec;
 
-use crate::field::Field;
-use edge_types::{around, trimmed};
+use crate::field::{Field, joined_values};
+use edge_types::{NoMemory, around, trimmed};
+use std::alloc::Global;
 
 const CDN_LOOP: &[u8] = b"cdn-loop";
 
@@ -18,6 +19,18 @@ pub fn has_passed(name: &[u8], fields: &[Field<'_>]) -> bool
     fields
         .iter()
         .any(|field| field.name == CDN_LOOP && lists(name, field.value))
+}
+
+/// All edges that a request with these lines has passed, the latest one last: the values of its lines of `CDN-Loop`,
+/// joined by `, ` in their order. Empty if there is no such line, which takes no memory.
+///
+/// `NoMemory` if an allocation fails.
+///
+/// Source: RFC 8586, "The CDN-Loop Request Header Field"; RFC 9110, "Field Lines and Combined Field Value".
+pub fn passed_edges(alloc: Global, fields: &[Field<'_>]) -> Result<Vec<u8>, NoMemory>
+    ensures { IfOk result (λ edges. edges.items ≡ spec.passed_edges fields.now) }
+{
+    joined_values(alloc, CDN_LOOP, b", ", fields)
 }
 
 // Whether a member of the list names this edge.

@@ -66,7 +66,7 @@ const UNREADABLE: &str = "The request can't be read.\n";
 
 const ONLY_GET: &str = "Only GET is served.\n";
 
-const LOOP: &str = "The request has passed this edge before.\n";
+const LOOP: &str = "The request has passed this edge before, or too many edges.\n";
 
 const NO_ROOM: &str = "The edge has no room for the page.\n";
 

@@ -51,6 +51,14 @@ pub fn has_passed(alloc: Global, row: &[u8], line: &mut Line) -> Option<()> {
     Some(())
 }
 
+/// A row is the lines of a head, with a bar before each; what is printed has a bar after it.
+pub fn passed_edges(alloc: Global, row: &[u8], line: &mut Line) -> Option<()> {
+    let fields = fields(alloc, row)?;
+    let edges = page_http::passed_edges(alloc, fields.as_slice()).ok()?;
+    push_part(line, edges.as_slice());
+    Some(())
+}
+
 /// A row is two bytes as numbers; those in this range that may be in a host are printed.
 pub fn hosts(alloc: Global, row: &[u8], line: &mut Line) -> Option<()> {
     let (first, last) = pair(row);

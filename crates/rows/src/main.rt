@@ -101,6 +101,7 @@ fn answer_of_pages(rt: &HostRuntime, table: &str, row: &[u8], line: &mut Line) -
         "are_levels" => meaning::are_levels(row, line),
         "answer_head" => heads::answer_head(alloc, row, line),
         "has_passed" => heads::has_passed(alloc, row, line),
+        "passed_edges" => heads::passed_edges(alloc, row, line),
         "hosts" => heads::hosts(alloc, row, line),
         "response_of" => responses::response_of(rt, row, line),
         "refusal_of" => responses::refusal_of(rt, row, line),
