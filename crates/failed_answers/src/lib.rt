@@ -1,0 +1,13 @@
+//! URLs that failed, and aren't asked again for some seconds: whoever asks for one meanwhile gets the failing answer
+//! again.
+#![tactic(auto)]
+
+mod entries;
+mod failed_answers;
+pub mod laws;
+mod shared_failures;
+mod sparing_source;
+
+pub use failed_answers::{FailedAnswers, MAX_URLS};
+pub use shared_failures::SharedFailures;
+pub use sparing_source::{SparedFetches, SparingSource};

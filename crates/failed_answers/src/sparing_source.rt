@@ -1,0 +1,102 @@
+//! A source that spares URLs that failed.
+
+ghost use Rattle.std.specs.Prelude.{◌≡◌};
+
+use crate::shared_failures::SharedFailures;
+use edge_types::{Answer, NoMemory, PageUrl};
+use fetch_workers::{Clock, ConcurrentSource, Found, Source};
+use std::alloc::Global;
+use std::sync::{Arc, Wait};
+
+/// A source that asks another one, and doesn't ask it again for a URL that rests since it failed: whoever asks for that one
+/// gets the failing answer again, at once.
+///
+/// Any number of threads may share it. Nothing is locked while anything is fetched.
+#[derive(Drop)]
+pub struct SparingSource<S, C> {
+    source: S,
+    clock: C,
+    failures: SharedFailures,
+}
+
+impl<S: Drop, C: Drop> SparingSource<S, C> {
+    /// Over a source and a clock, with what is remembered of URLs that failed. Takes no memory.
+    ///
+    /// Our profile.
+    pub fn new(source: S, clock: C, failures: SharedFailures) -> SparingSource<S, C> {
+        SparingSource {
+            source,
+            clock,
+            failures,
+        }
+    }
+}
+
+impl<R: Wait, S: Source<R>, C: Clock<R>> Source<R> for SparingSource<S, C> {
+    ghost gives = { λ _ url answer. answer.url ≡ url };
+
+    ghost names_url = { λ _ _ _ named. named };
+
+    fn fetch(&self, rt: &R, alloc: Global, url: &PageUrl) -> Result<Arc<Answer>, NoMemory> {
+        if let Some(answer) = self.failures.failing(rt, &self.clock, url)? {
+            return Ok(answer);
+        }
+        let answer = self.source.fetch(rt, alloc, url)?;
+        self.failures.note(rt, &self.clock, &answer);
+        Ok(answer)
+    }
+
+    fn ready(&self, rt: &R, alloc: Global, url: &PageUrl) -> Found {
+        self.source.ready(rt, alloc, url)
+    }
+
+    fn bridging(&self, rt: &R, alloc: Global, url: &PageUrl) -> Found {
+        self.source.bridging(rt, alloc, url)
+    }
+}
+
+/// What one thread has in flight: the fetches of the source below, and answers that were there at once.
+pub struct SparedFetches<F> {
+    fetches: F,
+    here: Vec<Arc<Answer>>,
+}
+
+impl<R: Wait, S: ConcurrentSource<R>, C: Clock<R>> ConcurrentSource<R> for SparingSource<S, C> {
+    type InFlight = SparedFetches<S::InFlight>;
+
+    fn nothing_in_flight(&self, rt: &R, alloc: Global) -> SparedFetches<S::InFlight> {
+        SparedFetches {
+            fetches: self.source.nothing_in_flight(rt, alloc),
+            here: Vec::new(alloc),
+        }
+    }
+
+    fn begin(
+        &self,
+        rt: &R,
+        alloc: Global,
+        in_flight: &mut SparedFetches<S::InFlight>,
+        url: &PageUrl,
+    ) -> Result<(), NoMemory> {
+        match self.failures.failing(rt, &self.clock, url)? {
+            Some(answer) => Ok(in_flight.here.push(answer)?),
+            None => self.source.begin(rt, alloc, &mut in_flight.fetches, url),
+        }
+    }
+
+    fn next(&self, rt: &R, alloc: Global, in_flight: &mut SparedFetches<S::InFlight>) -> Found {
+        if let Some(answer) = in_flight.here.pop() {
+            return Ok(Some(answer));
+        }
+        let came = self.source.next(rt, alloc, &mut in_flight.fetches)?;
+        if let Some(answer) = &came {
+            self.failures.note(rt, &self.clock, answer);
+        }
+        Ok(came)
+    }
+
+    fn give_up(&self, rt: &R, alloc: Global, in_flight: SparedFetches<S::InFlight>) {
+        let SparedFetches { fetches, here: _ } = in_flight;
+        self.source.give_up(rt, alloc, fetches);
+    }
+}
