@@ -1,0 +1,5 @@
+pub mod Reasons
+pub mod Lines
+pub mod Reading
+pub mod Merging
+pub mod Writing
