@@ -4,7 +4,7 @@ ghost use Rattle.std.specs.Prelude.{◌≡◌};
 
 use crate::shared_failures::SharedFailures;
 use edge_types::{Answer, NoMemory, PageUrl};
-use fetch_workers::{Clock, ConcurrentSource, Found, Source};
+use fetch_workers::{Clock, ConcurrentSource, Found, OnBehalf, Source};
 use std::alloc::Global;
 use std::sync::{Arc, Wait};
 
@@ -52,6 +52,24 @@ impl<R: Wait, S: Source<R>, C: Clock<R>> Source<R> for SparingSource<S, C> {
 
     fn bridging(&self, rt: &R, alloc: Global, url: &PageUrl) -> Found {
         self.source.bridging(rt, alloc, url)
+    }
+}
+
+// It remembers the same failures, since 508, by which a source would say what the request has passed, isn't one.
+impl<R: Wait, S: OnBehalf<R> + Drop, C: Clock<R> + Copy> OnBehalf<R> for SparingSource<S, C> {
+    fn on_behalf(
+        &self,
+        alloc: Global,
+        passed: &[u8],
+    ) -> Result<Option<SparingSource<S, C>>, NoMemory> {
+        let Some(source) = self.source.on_behalf(alloc, passed)? else {
+            return Ok(None);
+        };
+        Ok(Some(SparingSource {
+            source,
+            clock: self.clock,
+            failures: self.failures.share()?,
+        }))
     }
 }
 
