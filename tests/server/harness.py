@@ -166,9 +166,9 @@ def all_at_once(calls):
 
 class Edge:
     """An edge, with the options of `serve` after `--listen`, at this port or a free one, which may have so many files
-    open, and threads; in this process's environment with what is added to it."""
+    open, and threads; in this process's environment with what is added to it. Its standard input is empty, or a pipe."""
 
-    def __init__(self, *options, port=0, files=None, threads=None, added=None):
+    def __init__(self, *options, port=0, files=None, threads=None, added=None, piped=False):
         words = ["esi_edge", "serve", "--listen", "127.0.0.1:%d" % port, *options]
 
         def limited():
@@ -181,7 +181,7 @@ class Edge:
         with open(PROGRAM, "rb") as program:
             self.process = subprocess.Popen(
                 words, executable="/proc/self/fd/%d" % program.fileno(), pass_fds=[program.fileno()], preexec_fn=limited,
-                env={**os.environ, **(added or {})}, stdin=subprocess.DEVNULL, stdout=subprocess.PIPE, stderr=subprocess.PIPE
+                env={**os.environ, **(added or {})}, stdin=subprocess.PIPE if piped else subprocess.DEVNULL, stdout=subprocess.PIPE, stderr=subprocess.PIPE
             )
         line = self.process.stdout.readline()
         found = re.fullmatch(rb"listening on 127\.0\.0\.1:([1-9][0-9]*)\n", line)
@@ -202,6 +202,8 @@ class Edge:
         if self.process.poll() is None:
             self.process.kill()
         self.process.wait()
+        if self.process.stdin:
+            self.process.stdin.close()
         self.process.stdout.close()
         self.said = self.process.stderr.read()
         self.process.stderr.close()

@@ -57,7 +57,7 @@ def usage_is_told():
         ["--origin-fetches", "65536"], ["--origin-rest", "5s"], ["--origin-rest", "86401"],
         ["--name", ""], ["--name", "a b"], ["--name", "a/b"], ["--name", "n" * 65], ["--name", "a", "--name", "b"],
         ["--client-timeout", "-"], ["--client-timeout", "86400001"], ["--keep-alive", "5s"], ["--keep-alive", "86401"],
-        ["--threads", "0"], ["--threads", "65"], ["--connections", "0"], ["--connections", "65537"], ["--head", "x"], ["--head=yes"], ["--log", "x"], ["--log=yes"], ["--log", "--log"], ["--log-format"], ["--log-format", "JSON"], ["--log-format="],
+        ["--threads", "0"], ["--threads", "65"], ["--connections", "0"], ["--connections", "65537"], ["--head", "x"], ["--head=yes"], ["--stop-with-input", "x"], ["--log", "x"], ["--log=yes"], ["--log", "--log"], ["--log-format"], ["--log-format", "JSON"], ["--log-format="],
         ["--forwarded", ""], ["--forwarded", "a b"], ["--forwarded", "f" * 65],
     )]
     for words in rows:

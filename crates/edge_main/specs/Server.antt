@@ -58,6 +58,7 @@ pub record IsServerOf (setup : Setup) (server : Server) : Type 0 where
   pub threads_are : server.at_once.threads ≡ setup.serving.threads
   pub connections_are : server.at_once.connections ≡ setup.serving.connections
   pub accepts_are : server.accept ≡ setup.serving.accept
+  pub stops_are : server.stops_with_input ≡ setup.serving.stops_with_input
   pub head_is : server.answers_head ≡ setup.serving.answers_head
   pub log_is : server.log ≡ setup.serving.log
   pub forwarded_is : server.forwarded ≡ setup.forwarded

@@ -101,6 +101,7 @@ pub(crate) fn server_of(setup: Setup) -> Server
             connections: serving.connections,
         },
         accept: serving.accept,
+        stops_with_input: serving.stops_with_input,
         answers_head: serving.answers_head,
         log: serving.log,
         forwarded,

@@ -1,16 +1,13 @@
 //! The log of requests, on standard error.
 
+use crate::readiness::is_writable;
 use access_log::{LineQueue, LogFormat, line_of};
 use hyper_edge::{Journal, RequestRecord};
-use libc::net::{POLLOUT, poll};
-use libc::types::pollfd;
 use std::alloc::{AllocError, AllocGlobal, Global};
 use std::io::Eprint;
 use std::str;
 use std::sync::{Mutex, Wait};
 use std::time::Clock;
-
-const STANDARD_ERROR: i32 = 2;
 
 // How many bytes may wait for the reader of the log.
 const MOST_WAITING: usize = 1_048_576;
@@ -80,7 +77,7 @@ impl AccessLog {
     fn write<R: Wait + Eprint>(&self, rt: &R, patience: i32) {
         let mut chunk = [0; CHUNK];
         for _ in 0..CHUNKS {
-            if !is_ready(patience) {
+            if !is_writable(patience) {
                 break;
             }
             let count = self.queue.lock(rt).take(&mut chunk);
@@ -119,14 +116,4 @@ fn seconds(rt: &impl Clock) -> u64 {
         Ok(time) => time.as_secs(),
         Err(_) => 0,
     }
-}
-
-// Whether standard error takes bytes, or is gone, within so many milliseconds.
-fn is_ready(patience: i32) -> bool {
-    let mut watched = [pollfd {
-        fd: STANDARD_ERROR,
-        events: POLLOUT,
-        revents: 0,
-    }];
-    poll(&mut watched, patience) > 0
 }

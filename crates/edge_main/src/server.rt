@@ -43,6 +43,8 @@ pub(crate) struct Server {
     pub at_once: Capacity,
     /// After how many connections it ends.
     pub accept: u64,
+    /// Whether it stops once standard input has ended.
+    pub stops_with_input: bool,
     /// Whether HEAD is answered like GET.
     pub answers_head: bool,
     /// How each request is logged, where it is.

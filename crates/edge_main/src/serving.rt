@@ -1,6 +1,7 @@
 //! The server: pages over a cache that all clients share, what origins answer, and the machine's clock.
 ghost use Rattle.std.specs.Prelude.{◌≤◌};
 
+use crate::end_of_input::EndOfInput;
 use crate::open_files::{Numbers, Unreached, open_files_limit};
 use crate::requests_log::AccessLog;
 use crate::server::{Fetches, Server};
@@ -10,7 +11,7 @@ use fetch_workers::{Assembling, Cache};
 use hyper_edge::{EdgeService, Limits, ServeEnd, ServerRuntime, Sockets, serve_accepts};
 use hyper_source::{EdgeName, HyperSource};
 use std::alloc::AllocGlobal;
-use std::io::{Eprint, Print};
+use std::io::{Eprint, Input, Print};
 use std::net::{Net, SocketAddr, TcpListener, TcpStream, ToSocketAddrs};
 use std::random::RandomSource;
 use std::sync::Arc;
@@ -20,10 +21,10 @@ use std::{io, str};
 // What pages are assembled from.
 type Kept = Cache<HyperSource, MonotonicSeconds>;
 
-/// Runs the server, until its number of connections have been accepted and have ended.
+/// Runs the server, until its number of connections have been accepted, or it is stopped, and they have ended.
 pub(crate) fn serve<R>(rt: &R, server: Server) -> Result<ServeEnd, Status>
 where
-    R: ServerRuntime + Print + Eprint + Send + Sync,
+    R: ServerRuntime + Input + Print + Eprint + Send + Sync,
     R: Net<Stream = TcpStream, Listener = TcpListener>,
 {
     warn_of_files(rt, Numbers::of(&server));
@@ -38,6 +39,7 @@ where
         capacity,
         at_once,
         accept,
+        stops_with_input,
         answers_head,
         log,
         forwarded,
@@ -61,7 +63,10 @@ where
     if answers_head {
         service = service.answering_head();
     }
-    let (sockets, address) = listening(rt, listen, clients)?;
+    let stop = EndOfInput {
+        is_asked: stops_with_input,
+    };
+    let (sockets, address) = listening(rt, listen, clients, stop)?;
     println!(rt; "listening on {address}")?;
     let log = AccessLog::new(rt.alloc(), log);
     let end = serve_accepts(rt, &sockets, &service, &log, at_once, accept);
@@ -101,7 +106,8 @@ fn listening<R>(
     rt: &R,
     listen: SocketAddr,
     clients: Limits,
-) -> Result<(Sockets, SocketAddr), Status>
+    stop: EndOfInput,
+) -> Result<(Sockets<EndOfInput>, SocketAddr), Status>
 where
     R: AllocGlobal + Net<Stream = TcpStream, Listener = TcpListener>,
 {
@@ -110,7 +116,7 @@ where
         Err(error) => return Err(Status::of_listening(error)),
     };
     let address = listener.local_addr()?;
-    Ok((Sockets::new(rt, listener, clients)?, address))
+    Ok((Sockets::new(rt, listener, clients, stop)?, address))
 }
 
 // Where an origin listens: of a host that is named, the first address that the system knows now.

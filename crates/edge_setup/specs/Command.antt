@@ -39,9 +39,9 @@ with_serving command = with_rule (with_rule (with_rule (with_rule (with_rule com
     (numeric_option threads))
     (numeric_option connections)
 
--- whether HEAD is answered, and whether each request is reported
+-- whether HEAD is answered, what stops the server, and whether each request is reported
 abbrev pub with_flags : App → App
-with_flags command = with_rule (with_rule command (named_flag (codes "head"))) (named_flag (codes "log"))
+with_flags command = with_rule (with_rule (with_rule command (named_flag (codes "head"))) (named_flag (codes "stop-with-input"))) (named_flag (codes "log"))
 
 -- in which format each request is reported, and as whose
 abbrev pub with_reports : App → App

@@ -142,6 +142,7 @@ pub record SaysServing (rows : List Row) (serving : Serving) : Type 0 where
   pub keep_alive_is : said_of keep_alive rows ≡ Some serving.keep_alive
   pub threads_are : said_of threads rows ≡ Some serving.threads
   pub connections_are : said_of connections rows ≡ Some serving.connections
+  pub stops_are : is_set (first_of (codes "stop-with-input") rows) ≡ serving.stops_with_input
   pub head_is : is_set (first_of (codes "head") rows) ≡ serving.answers_head
   pub log_is : log_said rows ≡ Some serving.log
 

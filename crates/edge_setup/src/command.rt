@@ -117,14 +117,20 @@ fn with_serving<'a>(alloc: Global, command: Command<'a>) -> Result<Command<'a>, 
     with_option(command, connections)
 }
 
-// Whether HEAD is answered, and whether each request is reported.
+// Whether HEAD is answered, what stops the server, and whether each request is reported.
 fn with_flags<'a>(alloc: Global, command: Command<'a>) -> Result<Command<'a>, AllocError>
     ensures app { IfOk result (λ more. app_of more ≡ with_flags (app_of command.entry)) }
     ensures local { IfOk result (λ more. (fields_of more).has_globals ≡ (fields_of command.entry).has_globals) }
 {
     let head = flag(alloc, "head", "Answers HEAD like GET, without the body");
+    let stop = flag(
+        alloc,
+        "stop-with-input",
+        "Stops once standard input has ended: accepts nobody more, and ends what is under way",
+    );
     let log = flag(alloc, "log", "Reports each request on standard error");
     let command = with_option(command, head)?;
+    let command = with_option(command, stop)?;
     with_option(command, log)
 }
 

@@ -67,6 +67,8 @@ pub struct Serving {
     pub threads: u16,
     /// The most connections that are open at once.
     pub connections: u32,
+    /// Whether the server stops once standard input has ended.
+    pub stops_with_input: bool,
     /// Whether HEAD is answered like GET, without the body.
     pub answers_head: bool,
     /// How each request is reported on standard error, where it is.

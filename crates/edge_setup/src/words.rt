@@ -170,6 +170,7 @@ fn serving_of(matches: &ArgMatches<'_>) -> Result<Serving, Named>
         keep_alive: KEEP_ALIVE.u32_of(matches).ok_or(Named::KeepAlive)?,
         threads: THREADS.u16_of(matches).ok_or(Named::Threads)?,
         connections: CONNECTIONS.u32_of(matches).ok_or(Named::Connections)?,
+        stops_with_input: is_set(word_of(matches, "stop-with-input")),
         answers_head: is_set(word_of(matches, "head")),
         log: log_said(matches).ok_or(Named::LogFormat)?,
     })

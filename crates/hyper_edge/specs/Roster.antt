@@ -1,5 +1,5 @@
 -- When connections may be accepted, when one more thread is wanted, and when failed accepts end a server.
-use Rattle.std.specs.Prelude.{ℕ, ◌≡◌, ◌+◌, ◌-◌, ◌*◌, ◌^◌, ◌<◌, ◌≤◌, min, max, false, true}
+use Rattle.std.specs.Prelude.{ℕ, ◌≡◌, ◌+◌, ◌-◌, ◌*◌, ◌^◌, ◌<◌, ◌≤◌, min, max, Bool, ◌||◌, false, true}
 use Rattle.hyper_edge.specs.declared.roster.Capacity.{Capacity}
 use Rattle.hyper_edge.specs.declared.roster.Roster.{Roster}
 use Rattle.hyper_edge.specs.Staff as staff
@@ -12,6 +12,7 @@ opened count capacity = record {
   failed = 0;
   pause = 1;
   resting = false;
+  stopped = false;
   held = 0;
   room = max capacity.connections 1;
   accepting = staff.nobody capacity.threads true;
@@ -22,10 +23,11 @@ opened count capacity = record {
 abbrev pub HasFailed : Roster → Type 0
 HasFailed roster = 16 ≤ roster.failed
 
--- a thread may accept: there is an accept left to be made, and they haven't failed
+-- a thread may accept: there is an accept left to be made, they haven't failed, and the server wasn't stopped
 pub record IsOpen (roster : Roster) : Type 0 where
   pub left : 0 < roster.left
   pub failed : roster.failed < 16
+  pub goes_on : roster.stopped ≡ false
 
 -- there is room for one more connection, even if each accept that was begun succeeds
 abbrev pub HasRoom : Roster → Type 0
@@ -52,6 +54,14 @@ given_back roster = record roster { left = min (roster.left + 1) (2 ^ 64 - 1); b
 -- the failure counts: nobody accepts until a pause is over, and the next one is twice as long, up to a second
 abbrev pub failed_once : Roster → Roster
 failed_once roster = record (given_back roster) { failed = min (roster.failed + 1) (2 ^ 32 - 1); pause = min (roster.pause * 2) 1000; resting = true }
+
+-- a failure doesn't count: another one does, or the accept was ended with the server
+abbrev pub is_no_failure : Roster → Bool
+is_no_failure roster = roster.resting || roster.stopped
+
+-- no more accepts are begun
+abbrev pub stopped : Roster → Roster
+stopped roster = record roster { stopped = true }
 
 -- the pause is over
 abbrev pub after_pause : Roster → Roster

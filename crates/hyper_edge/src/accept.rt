@@ -45,6 +45,12 @@ pub trait Accept<R> {
         None
     }
 
+    /// Whether the server is to stop: nothing more is accepted then, and what is under way ends. Asked several times a
+    /// second. By default it isn't.
+    fn is_to_stop(&self, _rt: &R) -> bool {
+        false
+    }
+
     /// Ends each accept that waits; it fails then, and so does each later one.
     fn end(&self, rt: &R);
 }

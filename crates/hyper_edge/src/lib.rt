@@ -41,5 +41,5 @@ pub use runtime::ServerRuntime;
 pub use service::EdgeService;
 pub use serving::serve_io;
 pub use signals::{Pause, Readiness, Signals};
-pub use sockets::Sockets;
+pub use sockets::{Sockets, StopSign};
 pub use threads::serve_accepts;

@@ -1,7 +1,7 @@
 //! Every decision about connections and the threads that serve them: who may accept, when one more thread is
 //! started, and when the work has ended.
 
-ghost use Rattle.std.specs.Prelude.{◌≡◌, ◌↔◌, ◌<◌, None, Some, IsTrue, IsFalse, MatchBool};
+ghost use Rattle.std.specs.Prelude.{◌≡◌, ◌↔◌, ◌<◌, not, None, Some, IsTrue, IsFalse, MatchBool};
 ghost use Rattle.hyper_edge.specs.Roster as spec;
 ghost use Rattle.hyper_edge.specs.Staff.{HasSpare, WantsThread};
 ghost use Rattle.hyper_edge.specs.declared.roster.Admission.TheVariants as admission;
@@ -29,7 +29,7 @@ pub struct Capacity {
 /// How a server ended.
 #[derive(Clone, Copy, Debug, PartialEq, Eq)]
 pub enum ServeEnd {
-    /// As many connections as it was to serve were accepted, and have ended.
+    /// As many connections as it was to serve were accepted, or it was stopped, and they have ended.
     Served,
     /// Accepts failed, sixteen in succession.
     AcceptsFailed,
@@ -55,7 +55,7 @@ pub(crate) enum AfterFailure {
     Ends,
     /// Nobody accepts until the thread has rested for so many milliseconds.
     Rests(u32),
-    /// The same failure was told by another thread, which rests.
+    /// It doesn't count: another thread rests because of the same one, or the server was stopped.
     Waits,
 }
 
@@ -79,6 +79,8 @@ pub(crate) struct Roster {
     failed: u32,
     pause: u32,
     resting: bool,
+    // Whether the server was stopped.
+    stopped: bool,
     // How many connections were accepted and haven't ended, and how many there may be.
     held: u32,
     room: u32,
@@ -97,6 +99,7 @@ impl Roster {
             failed: 0,
             pause: 1,
             resting: false,
+            stopped: false,
             held: 0,
             room: capacity.connections.max(1),
             accepting: Staff::new(capacity.threads, true),
@@ -187,17 +190,17 @@ impl Roster {
         self.held = self.held.saturating_sub(1);
     }
 
-    /// An accept has failed, and is still to be made. It counts where no pause is under way: what fails several threads
-    /// at once is one failure.
+    /// An accept has failed, and is still to be made. It counts where no pause is under way, since what fails several
+    /// threads at once is one failure, and the server wasn't stopped, which ends accepts.
     pub(crate) fn accept_failed(&mut self) -> AfterFailure
-        ensures again { IsTrue self.old.resting → (result ≡ after.Waits) × (self.new ≡ spec.given_back self.old) }
-        ensures counts { IsFalse self.old.resting → self.new ≡ spec.failed_once self.old }
-        ensures ends { IsFalse self.old.resting → spec.HasFailed self.new → result ≡ after.Ends }
-        ensures rests { IsFalse self.old.resting → ¬ (spec.HasFailed self.new) → result ≡ after.Rests self.old.pause }
+        ensures again { IsTrue (spec.is_no_failure self.old) → (result ≡ after.Waits) × (self.new ≡ spec.given_back self.old) }
+        ensures counts { IsFalse (spec.is_no_failure self.old) → self.new ≡ spec.failed_once self.old }
+        ensures ends { IsFalse (spec.is_no_failure self.old) → spec.HasFailed self.new → result ≡ after.Ends }
+        ensures rests { IsFalse (spec.is_no_failure self.old) → ¬ (spec.HasFailed self.new) → result ≡ after.Rests self.old.pause }
     {
         self.left = self.left.saturating_add(1);
         self.begun = self.begun.saturating_sub(1);
-        if self.resting {
+        if self.resting || self.stopped {
             return AfterFailure::Waits;
         }
         let pause = self.pause;
@@ -209,6 +212,16 @@ impl Roster {
         } else {
             AfterFailure::Rests(pause)
         }
+    }
+
+    /// The server is stopped: no more accepts are begun. Returns whether it wasn't stopped before.
+    pub(crate) fn stop(&mut self) -> bool
+        ensures stopped { self.new ≡ spec.stopped self.old }
+        ensures first { result ≡ not self.old.stopped }
+    {
+        let is_first = !self.stopped;
+        self.stopped = true;
+        is_first
     }
 
     /// The pause is over.
@@ -286,7 +299,7 @@ impl Roster {
     fn is_open(&self) -> bool
         ensures { IsTrue result ↔ spec.IsOpen self.now }
     {
-        0 < self.left && self.failed < MAX_FAILED
+        0 < self.left && self.failed < MAX_FAILED && !self.stopped
     }
 
     fn has_room(&self) -> bool

@@ -54,6 +54,22 @@ where
         self.roster.end()
     }
 
+    /// Stops the server if that is asked for: nobody accepts any longer, and connections that are idle are ended.
+    pub(crate) fn look_for_stop(&self) {
+        let rt = self.serving.rt;
+        if !self.acceptor.is_to_stop(rt) {
+            return;
+        }
+        if self.roster.stop(rt) {
+            self.acceptor.end(rt);
+        }
+        for _ in rt.forever() {
+            if !self.end_idle() {
+                return;
+            }
+        }
+    }
+
     /// What one thread does: it accepts and serves as long as there are accepts left to make.
     pub(crate) fn accept_all<M: Fn(A::Io, Arc<Handover>) -> F>(&self, opens: &M)
         requires callable { M.IsAlwaysCallable opens.now }
@@ -91,6 +107,7 @@ where
         let rt = self.serving.rt;
         let mut executor = None;
         for _ in rt.forever() {
+            self.look_for_stop();
             if !self.roster.is_empty(rt) {
                 self.resume(&mut executor);
             } else if self.roster.may_accept(rt) == Admission::Accepts {

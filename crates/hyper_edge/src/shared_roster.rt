@@ -5,8 +5,19 @@ use crate::roster::{Admission, AfterFailure, Roster, ServeEnd, Work};
 use std::sync::{Condvar, CondvarTimeouts, Mutex, Wait};
 use std::time::{Clock, Duration};
 
-// For how many milliseconds at most a thread waits before it looks again whether there is room for a connection.
+// For how many milliseconds at most a thread waits before it looks again whether there is room for a connection, or
+// whether the server is to stop.
 const TICK_MILLIS: u64 = 100;
+
+/// What whoever starts threads has waited for.
+pub(crate) enum Wanted {
+    /// One more thread is wanted, and counted.
+    Thread(Work),
+    /// Nothing yet: a moment has passed.
+    Nothing,
+    /// No thread ever will be wanted.
+    Nobody,
+}
 
 /// A roster under its lock. Nothing is accepted or served under it.
 #[derive(Drop)]
@@ -100,23 +111,29 @@ impl SharedRoster {
     /// Waits until there may be room for a connection, or a moment has passed.
     pub(crate) fn wait_for_room<R: Wait + Clock>(&self, rt: &R) {
         let roster = self.roster.lock(rt);
-        let tick = Duration::from_millis(TICK_MILLIS);
-        let _ = self.room.wait_timeout(rt, roster, tick);
+        let _ = self.room.wait_timeout(rt, roster, tick());
     }
 
-    /// Waits until one more thread is wanted, and counts it. `None` means that none ever will be.
-    pub(crate) fn wait_for_wanted(&self, rt: &impl Wait) -> Option<Work> {
+    /// Waits until one more thread is wanted, and counts it; or until none ever will be, or a moment has passed.
+    pub(crate) fn wait_for_wanted<R: Wait + Clock>(&self, rt: &R) -> Wanted {
         let mut roster = self.roster.lock(rt);
-        for _ in rt.forever() {
-            if roster.is_done() {
-                return None;
-            }
-            if let Some(work) = roster.take_wanted() {
-                return Some(work);
-            }
-            roster = self.moved.wait(rt, roster);
+        if roster.is_done() {
+            return Wanted::Nobody;
         }
-        unreachable!()
+        if let Some(work) = roster.take_wanted() {
+            return Wanted::Thread(work);
+        }
+        let _ = self.moved.wait_timeout(rt, roster, tick());
+        Wanted::Nothing
+    }
+
+    /// No more accepts are begun. Returns whether that is new.
+    pub(crate) fn stop(&self, rt: &impl Wait) -> bool {
+        let mut roster = self.roster.lock(rt);
+        let is_first = roster.stop();
+        drop(roster);
+        self.room.notify_all();
+        is_first
     }
 
     /// How the server has ended.
@@ -130,4 +147,8 @@ impl SharedRoster {
             self.moved.notify_all();
         }
     }
+}
+
+fn tick() -> Duration {
+    Duration::from_millis(TICK_MILLIS)
 }

@@ -23,9 +23,15 @@ const TICK_MILLIS: i32 = 100;
 // How many clients may wait to be accepted, unless the system's own limit is lower.
 const QUEUE: i32 = 1_024;
 
+/// What says that a server is to stop.
+pub trait StopSign<R> {
+    /// Whether it is to stop. Asked several times a second by one thread, which waits for nothing meanwhile.
+    fn is_given(&self, rt: &R) -> bool;
+}
+
 /// Sockets of a listener, with limits of time.
 #[derive(Drop)]
-pub struct Sockets {
+pub struct Sockets<Q> {
     listener: TcpListener,
     // A second handle to the listener's socket.
     same: TcpStream,
@@ -33,10 +39,11 @@ pub struct Sockets {
     may_wait: Arc<AtomicBool>,
     // The sockets that are watched. Several threads wait in it at once, which its own call doesn't allow.
     watched: Poll,
+    stop: Q,
 }
 
-impl Sockets {
-    /// Accepts from a listener. The sockets inherit from it for how long a write blocks: so setting it costs no call
+impl<Q: Drop> Sockets<Q> {
+    /// Accepts from a listener, until the server is to stop. The sockets inherit from it for how long a write blocks: so setting it costs no call
     /// per connection. Each write is sent at once, since a kept connection would hold a short one back.
     ///
     /// Refused if the system refuses, or there is no memory.
@@ -44,7 +51,8 @@ impl Sockets {
         rt: &R,
         listener: TcpListener,
         limits: Limits,
-    ) -> io::Result<Sockets> {
+        stop: Q,
+    ) -> io::Result<Sockets<Q>> {
         let same = TcpStream::from(OwnedFd::from(listener.try_clone()?));
         same.set_write_timeout(Some(Duration::from_millis(PATIENCE_MILLIS)))?;
         same.set_nodelay(true)?;
@@ -56,9 +64,12 @@ impl Sockets {
             limits,
             may_wait: Arc::new(rt.alloc(), AtomicBool::new(true))?,
             watched: Poll::new(rt)?,
+            stop,
         })
     }
+}
 
+impl<Q> Sockets<Q> {
     // Asks for one event of a socket, under a key.
     fn control(&self, operation: i32, key: usize, pause: &Pause) -> bool {
         let events = EPOLLONESHOT
@@ -71,7 +82,11 @@ impl Sockets {
     }
 }
 
-impl<R: Clock + AllocGlobal + Clone + Drop + Send> Accept<R> for Sockets {
+impl<R, Q> Accept<R> for Sockets<Q>
+where
+    R: Clock + AllocGlobal + Clone + Drop + Send,
+    Q: StopSign<R>,
+{
     type Io = ClientStream<R>;
 
     fn accept(&self, rt: &R) -> Option<ClientStream<R>> {
@@ -112,6 +127,10 @@ impl<R: Clock + AllocGlobal + Clone + Drop + Send> Accept<R> for Sockets {
             return None;
         }
         usize::try_from(events[0].data).ok()
+    }
+
+    fn is_to_stop(&self, rt: &R) -> bool {
+        self.stop.is_given(rt)
     }
 
     fn end(&self, _rt: &R) {

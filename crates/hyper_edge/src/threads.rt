@@ -11,13 +11,15 @@ use crate::runtime::ServerRuntime;
 use crate::server::Server;
 use crate::service::EdgeService;
 use crate::serving::Serving;
+use crate::shared_roster::Wanted;
 use fetch_workers::ConcurrentSource;
 use futures::Future;
 use std::sync::Arc;
 use std::thread;
 use tokio::io::{AsyncRead, AsyncWrite};
 
-/// Serves connections with threads, until `count` of them have been accepted and have ended.
+/// Serves connections with threads, until `count` of them have been accepted, or the server is stopped, and they have
+/// ended.
 ///
 /// Each thread accepts for itself, and serves what it accepted. One more is started only once all existing ones are
 /// serving, up to `capacity.threads`, and at least one; if it can't be started, the existing ones go on, and if there
@@ -30,6 +32,9 @@ use tokio::io::{AsyncRead, AsyncWrite};
 ///
 /// A failed accept is skipped, and doesn't add to `count`. After one nobody accepts for a moment, from a millisecond up
 /// to a second, twice as long each time; sixteen in succession end the server.
+///
+/// Where the acceptor says that the server is to stop, nobody accepts any longer, connections that are idle are ended,
+/// and what is under way goes on to its end.
 ///
 /// Where the acceptor keeps connections, each serves one request after another.
 ///
@@ -112,8 +117,13 @@ where
             requires opened { GivesPollable (M.post opens.now) F.can_poll }
         {
             for _ in rt.forever() {
-                let Some(work) = server.roster.wait_for_wanted(rt) else {
-                    return false;
+                let work = match server.roster.wait_for_wanted(rt) {
+                    Wanted::Thread(work) => work,
+                    Wanted::Nothing => {
+                        server.look_for_stop();
+                        continue;
+                    }
+                    Wanted::Nobody => return false,
                 };
                 let started = match work {
                     Work::Accepting => scope
