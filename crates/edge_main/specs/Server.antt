@@ -44,6 +44,7 @@ pub record IsServerOf (setup : Setup) (server : Server) : Type 0 where
   pub fetch_is : nanos_of server.fetches.limit ≡ limit_of setup.fetching.timeout
   pub idle_origins_are : server.fetches.idle ≡ setup.fetching.origin_keep_alive
   pub bounds_are : MatchOption server.fetches.bounds (IsUnbounded setup.fetching) (AreBounds setup.fetching)
+  pub url_rest_is : server.fetches.url_rest ≡ setup.fetching.url_rest
   pub name_is : server.name ≡ setup.name
   pub request_is : nanos_of server.clients.request ≡ limit_of setup.serving.client_timeout
   pub response_is : nanos_of server.clients.response ≡ limit_of setup.serving.client_timeout
@@ -60,5 +61,6 @@ pub record IsServerOf (setup : Setup) (server : Server) : Type 0 where
   pub accepts_are : server.accept ≡ setup.serving.accept
   pub stops_are : server.stops_with_input ≡ setup.serving.stops_with_input
   pub head_is : server.answers_head ≡ setup.serving.answers_head
+  pub close_is : server.aborts_on_close ≡ setup.serving.aborts_on_close
   pub log_is : server.log ≡ setup.serving.log
   pub forwarded_is : server.forwarded ≡ setup.forwarded

@@ -84,6 +84,7 @@ pub(crate) fn server_of(setup: Setup) -> Server
             limit: limit_of(fetching.timeout),
             idle: fetching.origin_keep_alive,
             bounds: bounds_of(fetching),
+            url_rest: fetching.url_rest,
         },
         name,
         clients: Limits {
@@ -103,6 +104,7 @@ pub(crate) fn server_of(setup: Setup) -> Server
         accept: serving.accept,
         stops_with_input: serving.stops_with_input,
         answers_head: serving.answers_head,
+        aborts_on_close: serving.aborts_on_close,
         log: serving.log,
         forwarded,
     }

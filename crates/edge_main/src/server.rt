@@ -18,6 +18,8 @@ pub(crate) struct Fetches {
     pub idle: u16,
     /// When an address may be asked, where that is bounded.
     pub bounds: Option<Bounds>,
+    /// For how many seconds a URL that failed isn't asked again.
+    pub url_rest: u32,
 }
 
 /// A server that is to run.
@@ -47,6 +49,8 @@ pub(crate) struct Server {
     pub stops_with_input: bool,
     /// Whether HEAD is answered like GET.
     pub answers_head: bool,
+    /// Whether a client that has ended its input has left.
+    pub aborts_on_close: bool,
     /// How each request is logged, where it is.
     pub log: Option<LogFormat>,
     /// The name of the field by which a trusted proxy names the client to log, where there is one.

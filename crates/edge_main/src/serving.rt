@@ -7,6 +7,7 @@ use crate::requests_log::AccessLog;
 use crate::server::{Fetches, Server};
 use crate::status::Status;
 use edge_setup::{Origin, Place};
+use failed_answers::{SharedFailures, SparingSource};
 use fetch_workers::{Assembling, Cache};
 use hyper_edge::{EdgeService, Limits, ServeEnd, ServerRuntime, Sockets, serve_accepts};
 use hyper_source::{EdgeName, HyperSource};
@@ -18,8 +19,9 @@ use std::sync::Arc;
 use std::time::{Clock, Duration};
 use std::{io, str};
 
-// What pages are assembled from.
-type Kept = Cache<HyperSource, MonotonicSeconds>;
+// What pages are assembled from: what is stored, and below it what origins answer, unless a URL rests since it failed. So
+// a URL that rests is bridged like one that is asked and fails.
+type Kept = Cache<SparingSource<HyperSource, MonotonicSeconds>, MonotonicSeconds>;
 
 /// Runs the server, until its number of connections have been accepted, or it is stopped, and they have ended.
 pub(crate) fn serve<R>(rt: &R, server: Server) -> Result<ServeEnd, Status>
@@ -41,15 +43,18 @@ where
         accept,
         stops_with_input,
         answers_head,
+        aborts_on_close,
         log,
         forwarded,
     } = server;
     let most_waiting = fetches.bounds.and_then(|bounds| bounds.most_in_flight);
+    let url_rest = fetches.url_rest;
     let mut source = source_of(rt, origins, fetches)?;
     if let Some(name) = &name {
         source = named(rt, source, name.as_slice())?;
     }
-    let mut service = service_of(rt, source, most_waiting, capacity, pages)?.limited_to(page);
+    let spared = spared(rt, source, url_rest)?;
+    let mut service = service_of(rt, spared, most_waiting, capacity, pages)?.limited_to(page);
     if let Some(name) = name {
         service = service.named(name);
     }
@@ -62,6 +67,9 @@ where
     }
     if answers_head {
         service = service.answering_head();
+    }
+    if aborts_on_close {
+        service = service.aborting_on_close();
     }
     let stop = EndOfInput {
         is_asked: stops_with_input,
@@ -178,10 +186,20 @@ fn named(rt: &impl AllocGlobal, source: HyperSource, name: &[u8]) -> Result<Hype
     }
 }
 
+// The same, where URLs that failed rest for this many seconds.
+fn spared(
+    rt: &impl AllocGlobal,
+    source: HyperSource,
+    url_rest: u32,
+) -> Result<SparingSource<HyperSource, MonotonicSeconds>, Status> {
+    let failures = SharedFailures::new(rt.alloc(), url_rest)?;
+    Ok(SparingSource::new(source, MonotonicSeconds, failures))
+}
+
 // What answers requests.
 fn service_of<R>(
     rt: &R,
-    source: HyperSource,
+    source: SparingSource<HyperSource, MonotonicSeconds>,
     most_waiting: Option<u32>,
     capacity: usize,
     pages: Assembling,

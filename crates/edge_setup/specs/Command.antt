@@ -1,7 +1,7 @@
 -- The subcommand `serve`, by `clap`'s definitions of commands.
 use Rattle.std.specs.Prelude.{codes}
 use Rattle.clap.specs.Words.{App, new_app, with_rule}
-use Rattle.edge_setup.specs.Numbers.{capacity, client_timeout, connections, fetches, keep_alive, levels, numeric_option, origin_fetches, origin_keep_alive, origin_rest, page_bytes, page_timeout, threads, timeout, workers}
+use Rattle.edge_setup.specs.Numbers.{capacity, client_timeout, connections, fetches, keep_alive, levels, numeric_option, origin_fetches, origin_keep_alive, origin_rest, page_bytes, page_timeout, threads, timeout, url_rest, workers}
 use Rattle.edge_setup.specs.Rules.{named_flag, named_option, repeated, wanted}
 
 -- where the server listens, and which origins it asks
@@ -22,12 +22,13 @@ with_pages command = with_rule (with_rule (with_rule (with_rule (with_rule (with
 
 -- how origins are asked
 abbrev pub with_fetching : App → App
-with_fetching command = with_rule (with_rule (with_rule (with_rule (with_rule (with_rule command
+with_fetching command = with_rule (with_rule (with_rule (with_rule (with_rule (with_rule (with_rule command
     (numeric_option timeout))
     (numeric_option page_timeout))
     (numeric_option origin_keep_alive))
     (numeric_option origin_fetches))
     (numeric_option origin_rest))
+    (numeric_option url_rest))
     (named_option (codes "name"))
 
 -- how connections are served
@@ -39,9 +40,13 @@ with_serving command = with_rule (with_rule (with_rule (with_rule (with_rule com
     (numeric_option threads))
     (numeric_option connections)
 
--- whether HEAD is answered, what stops the server, and whether each request is reported
+-- whether HEAD is answered, when a client has left, what stops the server, and whether each request is reported
 abbrev pub with_flags : App → App
-with_flags command = with_rule (with_rule (with_rule command (named_flag (codes "head"))) (named_flag (codes "stop-with-input"))) (named_flag (codes "log"))
+with_flags command = with_rule (with_rule (with_rule (with_rule command
+    (named_flag (codes "head")))
+    (named_flag (codes "abort-on-close")))
+    (named_flag (codes "stop-with-input")))
+    (named_flag (codes "log"))
 
 -- in which format each request is reported, and as whose
 abbrev pub with_reports : App → App

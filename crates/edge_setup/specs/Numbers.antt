@@ -63,6 +63,10 @@ origin_fetches = record { name = codes "origin-fetches"; least = 0; most = 65535
 abbrev pub origin_rest : Numeric
 origin_rest = record { name = codes "origin-rest"; least = 0; most = 86400; default = codes "0"; refusal = codes "error: --origin-rest takes seconds, from 0 to 86400" }
 
+-- the seconds that a URL rests after a failure, at most a day
+abbrev pub url_rest : Numeric
+url_rest = record { name = codes "url-rest"; least = 0; most = 86400; default = codes "0"; refusal = codes "error: --url-rest takes seconds, from 0 to 86400" }
+
 -- the milliseconds that a client may take, at most a day
 abbrev pub client_timeout : Numeric
 client_timeout = record { name = codes "client-timeout"; least = 0; most = 86400000; default = codes "60000"; refusal = codes "error: --client-timeout takes milliseconds, from 0 to 86400000" }

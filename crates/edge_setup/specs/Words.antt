@@ -10,7 +10,7 @@ use Rattle.access_log.specs.declared.format.LogFormat.{LogFormat}
 use Rattle.access_log.specs.declared.format.LogFormat.TheVariants as format
 use Rattle.edge_types.specs.Halves.{around}
 use Rattle.decimals.specs.Decimal.{decimal_of}
-use Rattle.edge_setup.specs.Numbers.{Numeric, ahead, ahead_said, capacity, client_timeout, connections, fetches, keep_alive, levels, origin_fetches, origin_keep_alive, origin_rest, page_bytes, page_timeout, said_of, threads, timeout, workers}
+use Rattle.edge_setup.specs.Numbers.{Numeric, ahead, ahead_said, capacity, client_timeout, connections, fetches, keep_alive, levels, origin_fetches, origin_keep_alive, origin_rest, page_bytes, page_timeout, said_of, threads, timeout, url_rest, workers}
 use Rattle.surrogate_headers.specs.Token.{is_token}
 use Rattle.edge_setup.specs.OriginWord.{is_authority, IsFaultOf, IsPlace}
 use Rattle.edge_setup.specs.OriginWord.{refusal_of as origin_refusal}
@@ -134,6 +134,7 @@ pub record SaysFetching (rows : List Row) (fetching : Fetching) : Type 0 where
   pub origin_keep_alive_is : said_of origin_keep_alive rows ≡ Some fetching.origin_keep_alive
   pub origin_fetches_are : said_of origin_fetches rows ≡ Some fetching.origin_fetches
   pub origin_rest_is : said_of origin_rest rows ≡ Some fetching.origin_rest
+  pub url_rest_is : said_of url_rest rows ≡ Some fetching.url_rest
 
 -- how connections are served
 pub record SaysServing (rows : List Row) (serving : Serving) : Type 0 where
@@ -144,6 +145,7 @@ pub record SaysServing (rows : List Row) (serving : Serving) : Type 0 where
   pub connections_are : said_of connections rows ≡ Some serving.connections
   pub stops_are : is_set (first_of (codes "stop-with-input") rows) ≡ serving.stops_with_input
   pub head_is : is_set (first_of (codes "head") rows) ≡ serving.answers_head
+  pub close_is : is_set (first_of (codes "abort-on-close") rows) ≡ serving.aborts_on_close
   pub log_is : log_said rows ≡ Some serving.log
 
 -- what the options ask for
@@ -171,6 +173,7 @@ IsWrong rows named.PageTimeout = said_of page_timeout rows ≡ None
 IsWrong rows named.OriginKeepAlive = said_of origin_keep_alive rows ≡ None
 IsWrong rows named.OriginFetches = said_of origin_fetches rows ≡ None
 IsWrong rows named.OriginRest = said_of origin_rest rows ≡ None
+IsWrong rows named.UrlRest = said_of url_rest rows ≡ None
 IsWrong rows named.Accept = accepts_of (first_of (codes "accept") rows) ≡ None
 IsWrong rows named.ClientTimeout = said_of client_timeout rows ≡ None
 IsWrong rows named.KeepAlive = said_of keep_alive rows ≡ None
@@ -200,7 +203,7 @@ abbrev pub HasPages : List Row → Type 0
 HasPages rows = Has workers rows × Has fetches rows × HasAhead rows × Has levels rows × Has capacity rows × Has page_bytes rows
 
 abbrev pub HasFetching : List Row → Type 0
-HasFetching rows = Has timeout rows × Has page_timeout rows × Has origin_keep_alive rows × Has origin_fetches rows × Has origin_rest rows
+HasFetching rows = Has timeout rows × Has page_timeout rows × Has origin_keep_alive rows × Has origin_fetches rows × Has origin_rest rows × Has url_rest rows
 
 abbrev pub HasServing : List Row → Type 0
 HasServing rows = HasAccepts rows × Has client_timeout rows × Has keep_alive rows × Has threads rows × Has connections rows × HasLog rows
@@ -225,6 +228,7 @@ AreValidBefore rows named.PageTimeout = HasAddress rows × HasPages rows × Has 
 AreValidBefore rows named.OriginKeepAlive = HasAddress rows × HasPages rows × Has timeout rows × Has page_timeout rows
 AreValidBefore rows named.OriginFetches = HasAddress rows × HasPages rows × Has timeout rows × Has page_timeout rows × Has origin_keep_alive rows
 AreValidBefore rows named.OriginRest = HasAddress rows × HasPages rows × Has timeout rows × Has page_timeout rows × Has origin_keep_alive rows × Has origin_fetches rows
+AreValidBefore rows named.UrlRest = HasAddress rows × HasPages rows × Has timeout rows × Has page_timeout rows × Has origin_keep_alive rows × Has origin_fetches rows × Has origin_rest rows
 AreValidBefore rows named.Accept = HasAddress rows × HasPages rows × HasFetching rows
 AreValidBefore rows named.ClientTimeout = HasAddress rows × HasPages rows × HasFetching rows × HasAccepts rows
 AreValidBefore rows named.KeepAlive = HasAddress rows × HasPages rows × HasFetching rows × HasAccepts rows × Has client_timeout rows
@@ -255,6 +259,7 @@ refusal_of named.PageTimeout = page_timeout.refusal
 refusal_of named.OriginKeepAlive = origin_keep_alive.refusal
 refusal_of named.OriginFetches = origin_fetches.refusal
 refusal_of named.OriginRest = origin_rest.refusal
+refusal_of named.UrlRest = url_rest.refusal
 refusal_of named.Accept = codes "error: --accept takes a number below 2 to the power of 64"
 refusal_of named.ClientTimeout = client_timeout.refusal
 refusal_of named.KeepAlive = keep_alive.refusal

@@ -6,7 +6,7 @@ ghost use Rattle.edge_setup.specs.Command.{serve_command, with_addresses, with_f
 
 use crate::number::{
     CAPACITY, CLIENT_TIMEOUT, CONNECTIONS, FETCHES, KEEP_ALIVE, LEVELS, ORIGIN_FETCHES,
-    ORIGIN_KEEP_ALIVE, ORIGIN_REST, PAGE_BYTES, PAGE_TIMEOUT, THREADS, TIMEOUT, WORKERS,
+    ORIGIN_KEEP_ALIVE, ORIGIN_REST, PAGE_BYTES, PAGE_TIMEOUT, THREADS, TIMEOUT, URL_REST, WORKERS,
 };
 use crate::options::{flag, option, with_option};
 use clap::{ArgAction, Command};
@@ -86,6 +86,7 @@ fn with_fetching<'a>(alloc: Global, command: Command<'a>) -> Result<Command<'a>,
     let origin_keep_alive = ORIGIN_KEEP_ALIVE.arg(alloc);
     let origin_fetches = ORIGIN_FETCHES.arg(alloc);
     let origin_rest = ORIGIN_REST.arg(alloc);
+    let url_rest = URL_REST.arg(alloc);
     let name = option(
         alloc,
         "name",
@@ -97,6 +98,7 @@ fn with_fetching<'a>(alloc: Global, command: Command<'a>) -> Result<Command<'a>,
     let command = with_option(command, origin_keep_alive)?;
     let command = with_option(command, origin_fetches)?;
     let command = with_option(command, origin_rest)?;
+    let command = with_option(command, url_rest)?;
     with_option(command, name)
 }
 
@@ -117,12 +119,17 @@ fn with_serving<'a>(alloc: Global, command: Command<'a>) -> Result<Command<'a>, 
     with_option(command, connections)
 }
 
-// Whether HEAD is answered, what stops the server, and whether each request is reported.
+// Whether HEAD is answered, when a client has left, what stops the server, and whether each request is reported.
 fn with_flags<'a>(alloc: Global, command: Command<'a>) -> Result<Command<'a>, AllocError>
     ensures app { IfOk result (λ more. app_of more ≡ with_flags (app_of command.entry)) }
     ensures local { IfOk result (λ more. (fields_of more).has_globals ≡ (fields_of command.entry).has_globals) }
 {
     let head = flag(alloc, "head", "Answers HEAD like GET, without the body");
+    let abort = flag(
+        alloc,
+        "abort-on-close",
+        "Fetches nothing more for a client that has ended its input",
+    );
     let stop = flag(
         alloc,
         "stop-with-input",
@@ -130,6 +137,7 @@ fn with_flags<'a>(alloc: Global, command: Command<'a>) -> Result<Command<'a>, Al
     );
     let log = flag(alloc, "log", "Reports each request on standard error");
     let command = with_option(command, head)?;
+    let command = with_option(command, abort)?;
     let command = with_option(command, stop)?;
     with_option(command, log)
 }

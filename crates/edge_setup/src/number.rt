@@ -136,6 +136,16 @@ pub(crate) const ORIGIN_REST: NumericOption = NumericOption {
     refusal: "error: --origin-rest takes seconds, from 0 to 86400",
 };
 
+/// The seconds that a URL rests after a failure, at most a day.
+pub(crate) const URL_REST: NumericOption = NumericOption {
+    name: "url-rest",
+    help: "Seconds for which a URL that failed isn't asked again, and its failing answer counts; 0 to ask on",
+    least: 0,
+    most: 86_400,
+    default: "0",
+    refusal: "error: --url-rest takes seconds, from 0 to 86400",
+};
+
 /// The milliseconds that a client may take, at most a day.
 pub(crate) const CLIENT_TIMEOUT: NumericOption = NumericOption {
     name: "client-timeout",

@@ -6,7 +6,7 @@ ghost use Rattle.edge_setup.specs.declared.setup.SetupFault.TheVariants as fault
 
 use crate::number::{
     AHEAD, CAPACITY, CLIENT_TIMEOUT, CONNECTIONS, FETCHES, KEEP_ALIVE, LEVELS, ORIGIN_FETCHES,
-    ORIGIN_KEEP_ALIVE, ORIGIN_REST, PAGE_BYTES, PAGE_TIMEOUT, THREADS, TIMEOUT, WORKERS,
+    ORIGIN_KEEP_ALIVE, ORIGIN_REST, PAGE_BYTES, PAGE_TIMEOUT, THREADS, TIMEOUT, URL_REST, WORKERS,
 };
 use crate::origin::{OriginFault, Place};
 use access_log::LogFormat;
@@ -52,6 +52,8 @@ pub struct Fetching {
     pub origin_fetches: u16,
     /// The seconds for which an address isn't asked after five failures in succession; 0 means that it is asked on.
     pub origin_rest: u32,
+    /// The seconds for which a URL that failed isn't asked again; 0 means that it is asked on.
+    pub url_rest: u32,
 }
 
 /// How connections are served.
@@ -71,6 +73,8 @@ pub struct Serving {
     pub stops_with_input: bool,
     /// Whether HEAD is answered like GET, without the body.
     pub answers_head: bool,
+    /// Whether a client that has ended its input has left.
+    pub aborts_on_close: bool,
     /// How each request is reported on standard error, where it is.
     pub log: Option<LogFormat>,
 }
@@ -123,6 +127,8 @@ pub enum Named {
     OriginFetches,
     /// `--origin-rest`: not a number within the limits.
     OriginRest,
+    /// `--url-rest`: not a number within the limits.
+    UrlRest,
     /// `--accept`: not a number within the limits.
     Accept,
     /// `--client-timeout`: not a number within the limits.
@@ -160,6 +166,7 @@ impl Named {
             Named::OriginKeepAlive => ORIGIN_KEEP_ALIVE.refusal,
             Named::OriginFetches => ORIGIN_FETCHES.refusal,
             Named::OriginRest => ORIGIN_REST.refusal,
+            Named::UrlRest => URL_REST.refusal,
             Named::Accept => "error: --accept takes a number below 2 to the power of 64",
             Named::ClientTimeout => CLIENT_TIMEOUT.refusal,
             Named::KeepAlive => KEEP_ALIVE.refusal,

@@ -7,7 +7,7 @@ ghost use Rattle.edge_setup.specs.Words.{accepts_of, is_set, log_of, log_said, t
 
 use crate::number::{
     AHEAD, CAPACITY, CLIENT_TIMEOUT, CONNECTIONS, FETCHES, KEEP_ALIVE, LEVELS, ORIGIN_FETCHES,
-    ORIGIN_KEEP_ALIVE, ORIGIN_REST, PAGE_BYTES, PAGE_TIMEOUT, THREADS, TIMEOUT, WORKERS,
+    ORIGIN_KEEP_ALIVE, ORIGIN_REST, PAGE_BYTES, PAGE_TIMEOUT, THREADS, TIMEOUT, URL_REST, WORKERS,
 };
 use crate::origins::origins_of;
 use crate::setup::{Fetching, Named, Pages, Serving, Setup, SetupFault};
@@ -156,6 +156,7 @@ fn fetching_of(matches: &ArgMatches<'_>) -> Result<Fetching, Named>
             .ok_or(Named::OriginKeepAlive)?,
         origin_fetches: ORIGIN_FETCHES.u16_of(matches).ok_or(Named::OriginFetches)?,
         origin_rest: ORIGIN_REST.u32_of(matches).ok_or(Named::OriginRest)?,
+        url_rest: URL_REST.u32_of(matches).ok_or(Named::UrlRest)?,
     })
 }
 
@@ -172,6 +173,7 @@ fn serving_of(matches: &ArgMatches<'_>) -> Result<Serving, Named>
         connections: CONNECTIONS.u32_of(matches).ok_or(Named::Connections)?,
         stops_with_input: is_set(word_of(matches, "stop-with-input")),
         answers_head: is_set(word_of(matches, "head")),
+        aborts_on_close: is_set(word_of(matches, "abort-on-close")),
         log: log_said(matches).ok_or(Named::LogFormat)?,
     })
 }

@@ -1,6 +1,7 @@
 pub mod Opening
 pub mod Staff
 pub mod PageTime
+pub mod Departure
 pub mod Roster
 pub mod Responses
 pub mod Records

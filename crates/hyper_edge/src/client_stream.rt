@@ -60,6 +60,7 @@ impl<R: Clock + Drop> ClientStream<R> {
             socket.set_nonblocking(true)?;
         }
         let exchange = Exchange::begun(Stage::Accepted, deadline(&rt, limits.request)?);
+        let signals = Signals::of_socket(socket.as_raw_fd());
         Ok(ClientStream {
             socket,
             client,
@@ -68,7 +69,7 @@ impl<R: Clock + Drop> ClientStream<R> {
             exchange,
             is_prompt,
             may_wait,
-            signals: Arc::new(alloc, Signals::new())?,
+            signals: Arc::new(alloc, signals)?,
         })
     }
 

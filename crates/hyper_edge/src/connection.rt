@@ -11,6 +11,7 @@ use futures::Future;
 use futures::task::{Context, Poll};
 use hyper::server::conn::http1::Builder;
 use polled_futures::Pollable;
+use std::os::fd::RawFd;
 use std::sync::{Arc, Wait};
 use std::time::Clock;
 
@@ -72,6 +73,11 @@ impl<F: Future<Output = hyper::Result<()>>> Connection<F> {
     /// Where the responses to its requests are given.
     pub(crate) fn handover(&self) -> &Handover {
         &self.handover
+    }
+
+    /// Its client's socket, where it is known.
+    pub(crate) fn socket(&self) -> Option<RawFd> {
+        self.signals.as_ref()?.socket()
     }
 
     /// Goes on until the connection stops, and says why; `None` once it has ended, or where the executor has no room.

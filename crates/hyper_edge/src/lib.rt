@@ -8,6 +8,7 @@ mod accept;
 mod client_stream;
 mod connection;
 mod date;
+mod departure;
 mod exchange;
 mod executor;
 mod faults;

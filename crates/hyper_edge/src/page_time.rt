@@ -1,30 +1,56 @@
 //! The time that a page may take.
 
-ghost use Rattle.std.specs.Prelude.{◌≡◌, IfOk};
+ghost use Rattle.std.specs.Prelude.{◌≡◌, false, None, option_map, IfOk};
 ghost use Rattle.std.specs.Arc.{arc_value};
+ghost use Rattle.std.specs.Time.{instant_nanos};
+ghost use Rattle.hyper_edge.specs.Departure.{is_over};
 ghost use Rattle.hyper_edge.specs.PageTime.{GivesInTime, names_url};
 
+use crate::departure::ClientWatch;
 use edge_types::{Answer, NoMemory, PageUrl};
 use fetch_workers::{ConcurrentSource, Source};
 use std::alloc::Global;
 use std::sync::Arc;
 use std::time::{Clock, Instant};
 
-/// A source as one page sees it: once the page's time is over, nothing is fetched, and what would have been is
-/// bridged, or fails at once. What the source has ready costs no time, so it is still given.
+/// A source as one page sees it: once the page's time is over, or its client is known to have left, nothing is fetched, and
+/// what would have been is bridged, or fails at once. What the source has ready costs no time, so it is still given.
 #[derive(Drop)]
 pub(crate) struct WithinTime<'a, S> {
     pub source: &'a S,
     /// When the page's time is over; `None` means never.
     pub until: Option<Instant>,
+    /// The client's socket, where it is looked at.
+    pub client: Option<ClientWatch>,
+}
+
+// Whether nothing more is fetched for a page: the limit of its time is past by the clock, or its client has left.
+fn is_over(until: Option<Instant>, now: Option<Instant>, has_left: bool) -> bool
+    ensures { result ≡ is_over (option_map instant_nanos until) (option_map instant_nanos now) has_left }
+{
+    if has_left {
+        return true;
+    }
+    match (until, now) {
+        (Some(until), Some(now)) => now.duration_since(until).as_nanos() > 0,
+        _ => false,
+    }
 }
 
 impl<'a, S> WithinTime<'a, S> {
-    fn is_over(&self, clock: &impl Clock) -> bool {
-        match (self.until, Instant::now(clock)) {
-            (Some(until), Ok(now)) => until < now,
-            _ => false,
-        }
+    // Neither the clock nor the socket is looked at where it can't count.
+    fn is_over(&self, clock: &impl Clock) -> bool
+        ensures { self.now.until ≡ None → self.now.client ≡ None → result ≡ false }
+    {
+        let now = match self.until {
+            Some(_) => Instant::now(clock).ok(),
+            None => None,
+        };
+        let has_left = match &self.client {
+            Some(client) => client.has_left(),
+            None => false,
+        };
+        is_over(self.until, now, has_left)
     }
 
     // What is given for a URL that is asked for too late: what would bridge its failing origin, else a failed answer.

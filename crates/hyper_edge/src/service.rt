@@ -6,6 +6,7 @@ ghost use Rattle.hyper_edge.specs.Lines.{line, lines_of};
 ghost use Rattle.hyper_edge.specs.Methods.{answered_as};
 
 use crate::date::DateClock;
+use crate::departure::watch_of;
 use crate::exchange::deadline;
 use crate::forwarded::client_of;
 use crate::page_time::WithinTime;
@@ -21,6 +22,7 @@ use std::borrow::CowStr;
 use std::hash::RandomState;
 use std::io;
 use std::net::IpAddr;
+use std::os::fd::RawFd;
 use std::random::RandomSource;
 use std::sync::{Arc, Wait};
 use std::thread::Threads;
@@ -35,6 +37,8 @@ pub struct EdgeService<S, R> {
     how: Assembling,
     // How long a page may take.
     limit: Option<Duration>,
+    // Whether a client that has ended its input has left.
+    aborts_on_close: bool,
     answers_head: bool,
     // The name by which the edge knows a request that it has sent itself.
     name: Option<Vec<u8>>,
@@ -62,6 +66,7 @@ impl<S: Drop, R: Drop> EdgeService<S, R> {
             source,
             how,
             limit: None,
+            aborts_on_close: false,
             answers_head: false,
             name: None,
             forwarded: None,
@@ -78,11 +83,21 @@ impl<S: Drop, R: Drop> EdgeService<S, R> {
     }
 
     /// The same, and a page has so long from its request's head on: what is asked for later fails at once, as if it
-    /// couldn't be fetched. A fetch that is under way then has its own limit. `None` means no limit.
+    /// couldn't be fetched. A fetch that is under way then has its own limit. `None` means no limit. With a limit, a
+    /// client whose connection was reset ends its page like it.
     ///
     /// Our profile.
     pub fn limited_to(mut self, limit: Option<Duration>) -> EdgeService<S, R> {
         self.limit = limit;
+        self
+    }
+
+    /// The same, and a client that has ended its input, or whose connection was reset, has left: nothing more is fetched for
+    /// its page, as past a limit. So one that ends its input behind its request gets only what needs no fetch.
+    ///
+    /// Our profile.
+    pub fn aborting_on_close(mut self) -> EdgeService<S, R> {
+        self.aborts_on_close = true;
         self
     }
 
@@ -119,8 +134,13 @@ where
     S: ConcurrentSource<R> + Sync,
     R: Wait + Threads + Clock + Sync,
 {
-    /// The response to a request, from a copy of its head; 503 if there is no room for the copy.
-    pub(crate) fn answer<B>(&self, request: &Request<B>) -> Result<Responded, NoMemory> {
+    /// The response to a request, from a copy of its head, to a client with this socket, where that is known; 503 if there
+    /// is no room for the copy.
+    pub(crate) fn answer<B>(
+        &self,
+        request: &Request<B>,
+        socket: Option<RawFd>,
+    ) -> Result<Responded, NoMemory> {
         let alloc = self.alloc;
         let Ok(fields) = fields_of(alloc, request.headers()) else {
             return no_room(alloc);
@@ -139,6 +159,7 @@ where
         let source = WithinTime {
             source: &*self.source,
             until: deadline(&self.rt, self.limit).ok().flatten(),
+            client: watch_of(self.limit, self.aborts_on_close, socket),
         };
         respond_with_log(&self.rt, alloc, &source, &head, self.how)
     }

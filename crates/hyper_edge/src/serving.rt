@@ -16,6 +16,7 @@ use page_http::EdgeBody;
 use std::alloc::AllocError;
 use std::mem;
 use std::net::IpAddr;
+use std::os::fd::RawFd;
 use std::sync::{Arc, Wait};
 use std::thread::Threads;
 use std::time::{Clock, Instant};
@@ -130,7 +131,8 @@ where
             connection = stopped;
             match stop {
                 Stop::Asked(asked) => {
-                    let answered = self.answered(asked, client, &mut unreported);
+                    let socket = connection.socket();
+                    let answered = self.answered(asked, client, socket, &mut unreported);
                     connection.handover().answer(answered);
                 }
                 Stop::Written => self.report(&mut unreported),
@@ -153,13 +155,14 @@ where
         &self,
         asked: Asked,
         client: Option<IpAddr>,
+        socket: Option<RawFd>,
         unreported: &mut Vec<Unreported>,
     ) -> Answered {
         let begun = match self.journal.is_kept() {
             true => Instant::now(self.rt).ok(),
             false => None,
         };
-        let Ok(responded) = self.service.answer(&asked.head) else {
+        let Ok(responded) = self.service.answer(&asked.head, socket) else {
             return Err(AllocError);
         };
         if let Some(begun) = begun {

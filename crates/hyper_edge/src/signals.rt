@@ -1,5 +1,7 @@
 //! What a stream tells those who serve its connection.
 
+ghost use Rattle.std.specs.Prelude.{◌≡◌, Some};
+
 use std::os::fd::RawFd;
 use std::sync::Mutex;
 use std::sync::atomic::{AtomicBool, Ordering};
@@ -30,6 +32,8 @@ pub struct Pause {
 /// What a connection's stream tells whoever serves it. One thread at a time does, so the lock is free.
 #[derive(Drop)]
 pub struct Signals {
+    // The stream's socket, where it has one.
+    socket: Option<RawFd>,
     written: AtomicBool,
     pause: Mutex<Option<Pause>>,
 }
@@ -38,9 +42,26 @@ impl Signals {
     /// Nothing is told yet.
     pub fn new() -> Signals {
         Signals {
+            socket: None,
             written: AtomicBool::new(false),
             pause: Mutex::new(None),
         }
+    }
+
+    /// The same, of a stream over this socket.
+    pub(crate) fn of_socket(socket: RawFd) -> Signals
+        ensures { result.socket ≡ Some socket }
+    {
+        let mut signals = Signals::new();
+        signals.socket = Some(socket);
+        signals
+    }
+
+    /// The stream's socket, where it has one. It stays open for as long as the stream is there.
+    pub(crate) fn socket(&self) -> Option<RawFd>
+        ensures { result ≡ self.now.socket }
+    {
+        self.socket
     }
 
     /// Tells that a response has been written whole.

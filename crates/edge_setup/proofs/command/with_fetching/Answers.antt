@@ -10,8 +10,9 @@ returns-clause-app c =
     let three = c.in_ok-command-3.ensures.app ∙ ap₂ with_rule two c.arg-origin_keep_alive.ensures.rule in
     let four = c.in_ok-command-4.ensures.app ∙ ap₂ with_rule three c.arg-origin_fetches.ensures.rule in
     let five = c.in_ok-command-5.ensures.app ∙ ap₂ with_rule four c.arg-origin_rest.ensures.rule in
-    IfOk-weaker c.with_option-6.result _ _ (λ more is. is ∙ ap₂ with_rule five c.option-name.ensures.rule) c.with_option-6.ensures.app
+    let six = c.in_ok-command-6.ensures.app ∙ ap₂ with_rule five c.arg-url_rest.ensures.rule in
+    IfOk-weaker c.with_option-7.result _ _ (λ more is. is ∙ ap₂ with_rule six c.option-name.ensures.rule) c.with_option-7.ensures.app
 
 pub returns-clause-local : goal.returns-clause-local
 returns-clause-local c =
-    IfOk-weaker c.with_option-6.result _ _ (λ more is. is ∙ c.in_ok-command-5.ensures.local ∙ c.in_ok-command-4.ensures.local ∙ c.in_ok-command-3.ensures.local ∙ c.in_ok-command-2.ensures.local ∙ c.in_ok-command.ensures.local) c.with_option-6.ensures.local
+    IfOk-weaker c.with_option-7.result _ _ (λ more is. is ∙ c.in_ok-command-6.ensures.local ∙ c.in_ok-command-5.ensures.local ∙ c.in_ok-command-4.ensures.local ∙ c.in_ok-command-3.ensures.local ∙ c.in_ok-command-2.ensures.local ∙ c.in_ok-command.ensures.local) c.with_option-7.ensures.local

@@ -6,5 +6,10 @@ use Rattle.edge_setup.proofs.command.with_flags.Goals as goal
 pub returns-clause-app : goal.returns-clause-app
 returns-clause-app c =
     let one = c.in_ok-command.ensures.app ∙ ap (with_rule (app_of c.args.command)) c.flag-head.ensures.rule in
-    let two = c.in_ok-command-2.ensures.app ∙ ap₂ with_rule one c.flag-stop.ensures.rule in
-    IfOk-weaker c.with_option-3.result _ _ (λ more is. is ∙ ap₂ with_rule two c.flag-log.ensures.rule) c.with_option-3.ensures.app
+    let two = c.in_ok-command-2.ensures.app ∙ ap₂ with_rule one c.flag-abort.ensures.rule in
+    let three = c.in_ok-command-3.ensures.app ∙ ap₂ with_rule two c.flag-stop.ensures.rule in
+    IfOk-weaker c.with_option-4.result _ _ (λ more is. is ∙ ap₂ with_rule three c.flag-log.ensures.rule) c.with_option-4.ensures.app
+
+pub returns-clause-local : goal.returns-clause-local
+returns-clause-local c =
+    IfOk-weaker c.with_option-4.result _ _ (λ more is. is ∙ c.in_ok-command-3.ensures.local ∙ c.in_ok-command-2.ensures.local ∙ c.in_ok-command.ensures.local) c.with_option-4.ensures.local
