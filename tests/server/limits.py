@@ -1,10 +1,8 @@
-"""What the edge does where it runs out of something: the time of a page, threads, open files; and for a request that
-goes in a circle."""
+"""What the edge does where it runs out of something: the time of a page, threads, open files."""
 import resource
-import socket
 import time
 
-from harness import PATIENCE, PLAIN, Edge, Origin, Wires, Wrong, before, client, get, same, told, wire
+from harness import PATIENCE, PLAIN, Origin, Wires, Wrong, before, client, get, same, told, wire
 
 # After how many seconds a slow answer comes.
 SLOWLY = 0.4
@@ -88,53 +86,6 @@ def a_late_page_shows_older_answers():
             same("what was asked for", ["/older", "/expired", "/p", "/slow"], origin.asked())
 
 
-def free_port():
-    with socket.create_server(("127.0.0.1", 0)) as found:
-        return found.getsockname()[1]
-
-
-def an_edge_that_asks_itself_ends_at_once():
-    """An edge that is its own origin: its own request is refused, without a further one."""
-    port = free_port()
-    with Edge("--origin", "*=127.0.0.1:%d" % port, "--name", "edge-a", port=port) as edge:
-        begun = time.monotonic()
-        got = get(edge, "/p")
-        same("the answer", (508, b"The request has passed this edge before, or too many edges.\n"), (got.status, got.body))
-        same("at once", True, time.monotonic() - begun < 1)
-
-
-def a_circle_of_two_edges_ends_by_their_limits():
-    """Two edges that ask each other: each request names one of them, so that the page isn't refused, but too late."""
-    port = free_port()
-    short = ("--timeout", "500")
-    with Edge("--origin", "*=127.0.0.1:%d" % port, "--name", "edge-a", *short) as first:
-        with Edge("--origin", "*=127.0.0.1:%d" % first.port, "--name", "edge-b", *short, port=port):
-            begun = time.monotonic()
-            same("the status", 502, get(first, "/p").status)
-            same("in time", True, time.monotonic() - begun < 3)
-
-
-def a_request_that_was_here_is_refused():
-    """By a member of `CDN-Loop` alone, whatever its parameters; without --name nobody is refused."""
-    rows = (("edge-a", 508), ("cdn.test, edge-a; x=1", 508), ("edge-ab", 200), ("b; edge-a", 200))
-    with Origin(PLAIN) as origin:
-        with before(origin, "--name", "edge-a") as edge:
-            for value, status in rows:
-                same(value, status, get(edge, "/p", fields="CDN-Loop: %s\r\n" % value).status)
-        with before(origin) as edge:
-            same("without a name", 200, get(edge, "/p", fields="CDN-Loop: edge-a, edge1\r\n").status)
-
-
-def two_edges_in_a_row_are_no_circle():
-    """An edge before another one, each with its name: the page comes, and its origin is told the name of the one that asks."""
-    with Wires({"/p": page_of("[1]")}) as origin, before(origin, "--name", "inner") as inner:
-        with Edge("--origin", "*=127.0.0.1:%d" % inner.port, "--name", "outer") as outer:
-            same("the page", (200, b"[1]"), told(outer))
-        head = origin.heads[0].decode("latin-1").lower()
-        same("the inner edge says its name", True, "\r\ncdn-loop: inner\r\n" in head)
-        same("and what it can do", True, '\r\nsurrogate-capability: inner="surrogate/1.0 esi/1.0"\r\n' in head)
-
-
 def a_page_is_assembled_by_one_thread_where_no_other_starts():
     """A page that could have sixteen workers, under a limit of threads."""
     paths = ["/%d" % at for at in range(8)]
@@ -178,10 +129,6 @@ TESTS = (
     what_is_stored_counts_past_a_page_s_time,
     a_page_has_no_more_than_its_bytes,
     a_late_page_shows_older_answers,
-    an_edge_that_asks_itself_ends_at_once,
-    a_circle_of_two_edges_ends_by_their_limits,
-    a_request_that_was_here_is_refused,
-    two_edges_in_a_row_are_no_circle,
     a_page_is_assembled_by_one_thread_where_no_other_starts,
     failed_accepts_wait,
     failed_accepts_end_the_edge_in_the_end,

@@ -8,3 +8,4 @@ pub mod Records
 pub mod Lines
 pub mod Methods
 pub mod Forwarded
+pub mod Circles

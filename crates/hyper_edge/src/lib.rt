@@ -35,11 +35,13 @@ pub use client_stream::ClientStream;
 pub use exchange::Limits;
 pub use executor::Executor;
 pub use journal::{Journal, NoJournal};
-pub use page_http::{EdgeBody, Field, HeadFault, answer_head, has_passed, refusal_of, response_of};
+pub use page_http::{
+    EdgeBody, Field, HeadFault, answer_head, has_passed, passed_edges, refusal_of, response_of,
+};
 pub use responding::respond;
 pub use roster::{Capacity, ServeEnd};
 pub use runtime::ServerRuntime;
-pub use service::EdgeService;
+pub use service::{EdgeService, MAX_PASSED};
 pub use serving::serve_io;
 pub use signals::{Pause, Readiness, Signals};
 pub use sockets::{Sockets, StopSign};

@@ -11,7 +11,7 @@ use crate::roster::{Admission, AfterFailure, Capacity, Roster, ServeEnd};
 use crate::runtime::ServerRuntime;
 use crate::serving::{Serving, Session};
 use crate::shared_roster::SharedRoster;
-use fetch_workers::ConcurrentSource;
+use fetch_workers::{ConcurrentSource, OnBehalf};
 use futures::Future;
 use std::sync::Arc;
 use std::time::{Duration, Instant};
@@ -30,7 +30,7 @@ impl<'a, R, A, S, J, F> Server<'a, R, A, S, J, F>
 where
     R: ServerRuntime + Sync,
     A: Accept<R>,
-    S: ConcurrentSource<R> + Sync + Drop,
+    S: ConcurrentSource<R> + OnBehalf<R> + Sync + Drop,
     J: Journal<R>,
     F: Future<Output = hyper::Result<()>>,
 {

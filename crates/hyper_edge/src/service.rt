@@ -1,7 +1,8 @@
 //! What answers the requests of a connection.
 
-ghost use Rattle.std.specs.Prelude.{◌≡◌, false, map, IfOk, MatchOption};
-ghost use Rattle.page_http.specs.Passed.{has_passed};
+ghost use Rattle.std.specs.Prelude.{◌≡◌, [], false, map, length, IfOk, MatchOption};
+ghost use Rattle.page_http.specs.Passed.{passed_edges};
+ghost use Rattle.hyper_edge.specs.Circles.{is_circle};
 ghost use Rattle.hyper_edge.specs.Lines.{line, lines_of};
 ghost use Rattle.hyper_edge.specs.Methods.{answered_as};
 
@@ -13,10 +14,10 @@ use crate::page_time::WithinTime;
 use crate::responding::{RequestHead, Responded, no_room, refused, respond_with_log};
 use access_log::Reason;
 use edge_types::NoMemory;
-use fetch_workers::{Assembling, ConcurrentSource};
+use fetch_workers::{Assembling, ConcurrentSource, OnBehalf};
 use http::header::{HeaderName, HeaderNameError, HeaderValue};
 use http::{HeaderMap, Request, Uri};
-use page_http::{Field, has_passed};
+use page_http::{Field, has_passed, passed_edges};
 use std::alloc::Global;
 use std::borrow::CowStr;
 use std::hash::RandomState;
@@ -27,6 +28,11 @@ use std::random::RandomSource;
 use std::sync::{Arc, Wait};
 use std::thread::Threads;
 use std::time::{Clock, Duration};
+
+/// How long the list of the edges that a request has passed may be, in bytes, where the edge has a name.
+///
+/// Our profile.
+pub const MAX_PASSED: usize = 1024;
 
 /// What answers requests for pages from a source, with a runtime of its own.
 #[derive(Drop)]
@@ -101,8 +107,9 @@ impl<S: Drop, R: Drop> EdgeService<S, R> {
         self
     }
 
-    /// The same, and a request that has passed an edge of this name before is answered 508, without a fetch. So an edge
-    /// that is its own origin ends its own requests at once.
+    /// The same, and a request that has passed an edge of this name before is answered 508, without a fetch; so is one
+    /// whose list of edges that it has passed is longer than `MAX_PASSED`. Any other is answered from the source on
+    /// behalf of these edges, so that a circle of several ends as soon as it is closed.
     ///
     /// Source: RFC 8586, "The CDN-Loop Request Header Field".
     pub fn named(mut self, name: Vec<u8>) -> EdgeService<S, R> {
@@ -131,7 +138,7 @@ impl<S: Drop, R: Drop> EdgeService<S, R> {
 
 impl<S, R> EdgeService<S, R>
 where
-    S: ConcurrentSource<R> + Sync,
+    S: ConcurrentSource<R> + OnBehalf<R> + Sync + Drop,
     R: Wait + Threads + Clock + Sync,
 {
     /// The response to a request, from a copy of its head, to a client with this socket, where that is known; 503 if there
@@ -145,7 +152,11 @@ where
         let Ok(fields) = fields_of(alloc, request.headers()) else {
             return no_room(alloc);
         };
-        if is_loop(self.name.as_deref(), fields.as_slice()) {
+        let name = self.name.as_deref();
+        let Ok(passed) = passed_by(alloc, name, fields.as_slice()) else {
+            return no_room(alloc);
+        };
+        if is_circle(name, fields.as_slice(), passed.as_slice()) {
             return refused(alloc, 508, Reason::Loop);
         }
         let Ok(target) = target_of(alloc, request.uri()) else {
@@ -156,12 +167,36 @@ where
             target: target.as_bytes(),
             fields: fields.as_slice(),
         };
+        let Ok(own) = self.source_for(passed.as_slice()) else {
+            return no_room(alloc);
+        };
+        match &own {
+            Some(source) => self.answer_from(source, &head, socket),
+            None => self.answer_from(&*self.source, &head, socket),
+        }
+    }
+
+    // A source of its own for a request that has passed these edges, where it needs one.
+    fn source_for(&self, passed: &[u8]) -> Result<Option<S>, NoMemory> {
+        if passed.is_empty() {
+            return Ok(None);
+        }
+        self.source.on_behalf(self.alloc, passed)
+    }
+
+    // The response to the head of a request, from this source.
+    fn answer_from(
+        &self,
+        source: &S,
+        head: &RequestHead<'_>,
+        socket: Option<RawFd>,
+    ) -> Result<Responded, NoMemory> {
         let source = WithinTime {
-            source: &*self.source,
+            source,
             until: deadline(&self.rt, self.limit).ok().flatten(),
             client: watch_of(self.limit, self.aborts_on_close, socket),
         };
-        respond_with_log(&self.rt, alloc, &source, &head, self.how)
+        respond_with_log(&self.rt, self.alloc, &source, head, self.how)
     }
 }
 
@@ -194,12 +229,23 @@ fn answered_as(method: &[u8], answers_head: bool) -> &[u8]
     }
 }
 
-// Whether a request with these lines was sent by an edge of this name.
-fn is_loop(name: Option<&[u8]>, fields: &[Field<'_>]) -> bool
-    ensures { MatchOption name.entry (result ≡ false) (λ name. result ≡ has_passed name.now fields.now) }
+// The edges that a request with these lines has passed, for an edge with a name: any other doesn't look.
+fn passed_by(alloc: Global, name: Option<&[u8]>, fields: &[Field<'_>]) -> Result<Vec<u8>, NoMemory>
+    ensures { IfOk result (λ passed. MatchOption name.entry (passed.items ≡ []) (λ _. passed.items ≡ passed_edges fields.now)) }
 {
     match name {
-        Some(name) => has_passed(name, fields),
+        Some(_) => passed_edges(alloc, fields),
+        None => Ok(Vec::new(alloc)),
+    }
+}
+
+// Whether a request with these lines, which has passed these edges, was sent by an edge of this name, or has passed too
+// many.
+fn is_circle(name: Option<&[u8]>, fields: &[Field<'_>], passed: &[u8]) -> bool
+    ensures { MatchOption name.entry (result ≡ false) (λ name. result ≡ is_circle name.now fields.now (length passed.now)) }
+{
+    match name {
+        Some(name) => has_passed(name, fields) || passed.len() > MAX_PASSED,
         None => false,
     }
 }

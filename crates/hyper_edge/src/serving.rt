@@ -8,7 +8,7 @@ use crate::handover::{Answered, Asked, Handover, HandsOver};
 use crate::journal::{Journal, NoJournal, Unreported};
 use crate::service::EdgeService;
 use crate::signals::{Pause, Signals};
-use fetch_workers::ConcurrentSource;
+use fetch_workers::{ConcurrentSource, OnBehalf};
 use futures::Future;
 use http::header::HeaderValue;
 use http::{Response, header};
@@ -33,7 +33,7 @@ pub fn serve_io<R, I, S>(rt: &R, executor: &mut Executor, io: I, service: EdgeSe
 where
     R: Wait + Threads + Clock + Clone + Sync + Drop,
     I: AsyncRead + AsyncWrite,
-    S: ConcurrentSource<R> + Sync + Drop,
+    S: ConcurrentSource<R> + OnBehalf<R> + Sync + Drop,
 {
     let serving = Serving {
         rt,
@@ -67,7 +67,7 @@ pub(crate) struct Serving<'a, R, S, J> {
 impl<'a, R, S, J> Serving<'a, R, S, J>
 where
     R: Wait + Threads + Clock + Clone + Sync + Drop,
-    S: ConcurrentSource<R> + Sync + Drop,
+    S: ConcurrentSource<R> + OnBehalf<R> + Sync + Drop,
     J: Journal<R>,
 {
     // Serves a connection over a stream that tells no signals.

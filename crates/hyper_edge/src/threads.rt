@@ -12,7 +12,7 @@ use crate::server::Server;
 use crate::service::EdgeService;
 use crate::serving::Serving;
 use crate::shared_roster::Wanted;
-use fetch_workers::ConcurrentSource;
+use fetch_workers::{ConcurrentSource, OnBehalf};
 use futures::Future;
 use std::sync::Arc;
 use std::thread;
@@ -55,7 +55,7 @@ where
     R: ServerRuntime + Send + Sync,
     A: Accept<R> + Sync,
     A::Io: AsyncRead + AsyncWrite,
-    S: ConcurrentSource<R> + Send + Sync + Drop,
+    S: ConcurrentSource<R> + OnBehalf<R> + Send + Sync + Drop,
     J: Journal<R> + Sync,
 {
     let keeps = acceptor.keeps();
@@ -84,7 +84,7 @@ fn serve_opened<'a, R, A, S, J, F, M>(
 where
     R: ServerRuntime + Send + Sync,
     A: Accept<R> + Sync,
-    S: ConcurrentSource<R> + Send + Sync + Drop,
+    S: ConcurrentSource<R> + OnBehalf<R> + Send + Sync + Drop,
     J: Journal<R> + Sync,
     F: Future<Output = hyper::Result<()>> + Send,
     M: Fn(A::Io, Arc<Handover>) -> F + Sync,
@@ -102,7 +102,7 @@ fn start_all<R, A, S, J, F, M>(rt: &R, server: &Server<'_, R, A, S, J, F>, opens
 where
     R: ServerRuntime + Send + Sync,
     A: Accept<R> + Sync,
-    S: ConcurrentSource<R> + Send + Sync + Drop,
+    S: ConcurrentSource<R> + OnBehalf<R> + Send + Sync + Drop,
     J: Journal<R> + Sync,
     F: Future<Output = hyper::Result<()>> + Send,
     M: Fn(A::Io, Arc<Handover>) -> F + Sync,
