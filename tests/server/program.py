@@ -1,6 +1,7 @@
 """The options of `serve`, its end and its log."""
 import ctypes
 import re
+import tempfile
 
 from harness import PLAIN, TEMPLATE, Edge, Origin, before, ended, exchange, get, same
 
@@ -115,6 +116,19 @@ def limits_are_taken():
             same(" ".join(words), b"[12345678]", get(edge, "/p", host="c.test", fields="Connection: close\r\n").body)
 
 
+def options_are_read_from_a_file():
+    """With --config: the options and origins of the file hold, beside those of the line; the log is that of the line."""
+    with Origin(PLAIN) as origin, tempfile.NamedTemporaryFile("w", suffix=".toml") as file:
+        file.write('accept = 2\nhead = true\nlog-format = "json"\n[origins]\n"a.test" = "%s"\n' % origin.at)
+        file.flush()
+        with Edge("--config", file.name, "--log-format", "combined") as edge:
+            same("a page", b"[12345678]", get(edge, "/p").body)
+            same("its head", 200, get(edge, "/p", method="HEAD").status)
+            same("exit status", 0, edge.ends())
+            lines = edge.end().decode().splitlines()
+            same("lines of the log", [True, True], [line.startswith("127.0.0.1 - - [") for line in lines])
+
+
 def a_used_port_is_told():
     """A port that somebody listens on: status 5, and a line that says so."""
     with Origin() as origin:
@@ -145,6 +159,7 @@ TESTS = (
     the_name_of_a_host_is_looked_up,
     numbers_that_no_files_are_left_for_are_told,
     limits_are_taken,
+    options_are_read_from_a_file,
     a_used_port_is_told,
     a_port_that_is_not_permitted_is_told,
 )

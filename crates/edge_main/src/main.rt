@@ -8,6 +8,7 @@ ghost use Rattle.edge_main.specs.Status.{IsEndOf, IsRefusedAs};
 mod asked;
 mod checking;
 mod command_line;
+mod config;
 mod end_of_input;
 pub mod laws;
 mod open_files;
@@ -23,6 +24,7 @@ mod why;
 use asked::Refusal;
 use checking::check;
 use clap::error::ErrorKind;
+use config::{Words, print_config, prints_config};
 use edge_setup::Named;
 use program::{Done, run_words};
 use serving::serve;
@@ -33,11 +35,14 @@ use why::explain;
 
 fn main(rt: HostRuntime) -> ExitCode {
     let status = match words(&rt) {
-        Ok(words) => match run(&rt, words.as_slice()) {
-            Done::Ran(status) => status,
-            Done::Explains(text) => explain(&rt, &text),
-            Done::Serves(server) => Status::of_serving(serve(&rt, server)),
-            Done::Checks(checking) => check(&rt, &checking),
+        Ok(line) => match Words::of(&rt, line.as_slice()) {
+            Ok(words) => match run(&rt, &words) {
+                Done::Ran(status) => status,
+                Done::Explains(text) => explain(&rt, &text),
+                Done::Serves(server) => Status::of_serving(serve(&rt, server)),
+                Done::Checks(checking) => check(&rt, &checking),
+            },
+            Err(status) => status,
         },
         Err(status) => status,
     };
@@ -56,10 +61,13 @@ fn words(rt: &HostRuntime) -> Result<Vec<String>, Status> {
     }
 }
 
-// Judges the words, and runs the case that they ask for over standard input and output.
-fn run<'a>(rt: &HostRuntime, words: &'a [String]) -> Done<'a> {
-    match run_words(rt.alloc(), words, &mut rt.reader(), &mut io::writer(rt)) {
+// Judges the words, and runs the case that they ask for over standard input and output, or prints the options that hold.
+fn run<'a>(rt: &HostRuntime, words: &'a Words<'_>) -> Done<'a> {
+    let all = words.all();
+    match run_words(rt.alloc(), all, &mut rt.reader(), &mut io::writer(rt)) {
+        Ok(Done::Serves(_)) if prints_config(all) => Done::Ran(print_config(rt, all)),
         Ok(done) => done,
+        Err(Refusal::Serve(option)) => Done::Ran(words.refused(rt, option)),
         Err(refusal) => Done::Ran(refused(rt, &refusal)),
     }
 }

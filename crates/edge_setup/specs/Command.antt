@@ -52,6 +52,14 @@ with_flags command = with_rule (with_rule (with_rule (with_rule command
 abbrev pub with_reports : App → App
 with_reports command = with_rule (with_rule command (named_option (codes "log-format"))) (named_option (codes "forwarded"))
 
+-- in which file further options stand, and whether those that hold are printed as one
+abbrev pub with_file : App → App
+with_file command = with_rule (with_rule command (named_option (codes "config"))) (named_flag (codes "print-config"))
+
+-- the subcommand `serve`, without these two
+abbrev pub without_file : App
+without_file = with_reports (with_flags (with_serving (with_fetching (with_pages (with_addresses (new_app (codes "serve")))))))
+
 -- the subcommand `serve`
 abbrev pub serve_command : App
-serve_command = with_reports (with_flags (with_serving (with_fetching (with_pages (with_addresses (new_app (codes "serve")))))))
+serve_command = with_file without_file

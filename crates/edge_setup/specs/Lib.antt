@@ -6,3 +6,4 @@ pub mod OriginWord
 pub mod Words
 pub mod Origins
 pub mod Check
+pub mod Held

@@ -78,6 +78,11 @@ pub record NamesOrigin (word : Text) (authority : List ℕ) (place : Place) : Ty
   pub written : is_authority authority ≡ true
   pub named : IsPlace last place
 
+-- the word names an origin, or something is wrong with it
+abbrev pub IsJudged : Text → Bool → Type 0
+IsJudged word true = (authority : List ℕ) × (place : Place) × NamesOrigin word authority place
+IsJudged word false = (f : OriginFault) × IsFaultOf word f
+
 -- the words name these origins, in order
 abbrev pub AreOrigins : List Text → List Origin → Type 0
 AreOrigins [] [] = Unit {0}

@@ -2,7 +2,7 @@
 ghost use Rattle.std.specs.Prelude.{◌≡◌, false, IfOk};
 ghost use Rattle.clap.specs.Words.{app_of};
 ghost use Rattle.clap.specs.declared.builder.command.Command.TheViews.{out-Command as fields_of};
-ghost use Rattle.edge_setup.specs.Command.{serve_command, with_addresses, with_fetching, with_flags, with_pages, with_reports, with_serving};
+ghost use Rattle.edge_setup.specs.Command.{serve_command, with_addresses, with_fetching, with_file, with_flags, with_pages, with_reports, with_serving, without_file};
 
 use crate::number::{
     CAPACITY, CLIENT_TIMEOUT, CONNECTIONS, FETCHES, KEEP_ALIVE, LEVELS, ORIGIN_FETCHES,
@@ -15,6 +15,15 @@ use std::alloc::{AllocError, Global};
 /// The subcommand `serve`.
 pub fn serve_command<'a>(alloc: Global) -> Result<Command<'a>, AllocError>
     ensures app { IfOk result (λ command. app_of command ≡ serve_command) }
+    ensures local { IfOk result (λ command. (fields_of command).has_globals ≡ false) }
+{
+    let command = without_file(alloc)?;
+    with_file(alloc, command)
+}
+
+// The same without the options about a file of them.
+fn without_file<'a>(alloc: Global) -> Result<Command<'a>, AllocError>
+    ensures app { IfOk result (λ command. app_of command ≡ without_file) }
     ensures local { IfOk result (λ command. (fields_of command).has_globals ≡ false) }
 {
     let command = Command::new(alloc, "serve").about(
@@ -161,4 +170,24 @@ fn with_reports<'a>(alloc: Global, command: Command<'a>) -> Result<Command<'a>, 
     );
     let command = with_option(command, format)?;
     with_option(command, forwarded)
+}
+
+// In which file further options stand, and whether those that hold are printed as one.
+fn with_file<'a>(alloc: Global, command: Command<'a>) -> Result<Command<'a>, AllocError>
+    ensures app { IfOk result (λ more. app_of more ≡ with_file (app_of command.entry)) }
+    ensures local { IfOk result (λ more. (fields_of more).has_globals ≡ (fields_of command.entry).has_globals) }
+{
+    let config = option(
+        alloc,
+        "config",
+        "FILE",
+        "TOML file of further options, by their names; what stands on the command line wins",
+    );
+    let print_config = flag(
+        alloc,
+        "print-config",
+        "Prints the options that hold, as such a file, and ends",
+    );
+    let command = with_option(command, config)?;
+    with_option(command, print_config)
 }

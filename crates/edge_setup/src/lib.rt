@@ -1,10 +1,12 @@
 //! The subcommands `case`, `serve` and `check`: which command lines they have, the addresses, origins and
-//! numbers that the options of `serve` name, and the files that are to be checked.
+//! numbers that the options of `serve` name, the same options in a configuration file, and the files that are to be
+//! checked.
 #![tactic(auto)]
 
 mod case;
 mod check;
 mod command;
+mod held;
 mod number;
 mod options;
 mod origin;
@@ -15,6 +17,7 @@ mod words;
 pub use case::case_command;
 pub use check::{Checking, check_command, checking_of};
 pub use command::serve_command;
-pub use origin::{OriginFault, Place};
+pub use held::{held_text, option_names};
+pub use origin::{OriginFault, Place, is_origin_word};
 pub use setup::{Fetching, Named, Origin, Pages, Serving, Setup, SetupFault};
 pub use words::{is_set, setup_of};

@@ -2,7 +2,7 @@
 ghost use Rattle.std.specs.Prelude.{◌≡◌, IfOk, MatchOption, MatchResult};
 ghost use Rattle.std.specs.List.{list_all, list_any};
 ghost use Rattle.edge_setup.specs.OriginWord as spec;
-ghost use Rattle.edge_setup.specs.Words.{NamesOrigin};
+ghost use Rattle.edge_setup.specs.Words.{IsJudged, NamesOrigin};
 
 use crate::setup::Origin;
 use decimals::decimal_of;
@@ -194,4 +194,14 @@ pub(crate) fn origin_of(
     };
     let authority = authority.to_vec(alloc)?;
     Ok(Ok(Origin { authority, place }))
+}
+
+/// Whether a word of `--origin` names an origin.
+pub fn is_origin_word(alloc: Global, word: &str) -> Result<bool, AllocError>
+    ensures { IfOk result (IsJudged word.now) }
+{
+    match origin_of(alloc, word.as_bytes())? {
+        Ok(_) => Ok(true),
+        Err(_) => Ok(false),
+    }
 }
