@@ -171,7 +171,7 @@ where
             return Err(Status::NoMemory);
         }
     }
-    let source = HyperSource::new(rt, alloc, asked, fetches.limit)?.keeping(alloc, fetches.idle);
+    let source = HyperSource::new(rt, alloc, asked, fetches.limit)?.keeping(fetches.idle);
     let Some(bounds) = fetches.bounds else {
         return Ok(source);
     };

@@ -53,6 +53,27 @@ pub fn answer_head(rt: &HostRuntime, name: &str) -> Option<()> {
     }
 }
 
+const EDGES: [Field<'static>; 2] = [
+    Field {
+        name: b"cdn-loop",
+        value: b"edge-1",
+    },
+    Field {
+        name: b"cdn-loop",
+        value: b"edge-2",
+    },
+];
+
+pub fn passed_edges(rt: &HostRuntime, name: &str) -> Option<()> {
+    calls(rt, name)?;
+    let read = page_http::passed_edges(rt.alloc(), &EDGES);
+    answers(rt)?;
+    match &read {
+        Ok(edges) => bytes(rt, edges.as_slice()),
+        Err(NoMemory) => out_of_memory(rt),
+    }
+}
+
 // A page of one piece.
 fn page(alloc: Global) -> Option<Arc<Outcome>> {
     let mut body = PageBody::new(alloc);

@@ -34,6 +34,7 @@ fn call(rt: &HostRuntime, name: &str) -> Option<()> {
         "Table::insert" => values::insert(rt, name),
         "capability" => values::capability(rt, name),
         "answer_head" => heads::answer_head(rt, name),
+        "passed_edges" => heads::passed_edges(rt, name),
         "response_of:page" => heads::page_response(rt, name),
         "response_of:fault" => heads::fault_response(rt, name),
         "refusal_of:503" => heads::refusal(rt, name),

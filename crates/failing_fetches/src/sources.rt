@@ -3,9 +3,9 @@
 use allocation_tools::printing::{answers, bytes, calls, out_of_memory, word};
 use allocation_tools::values::{answer, processed, stored, url};
 use edge_types::{Answer, NoMemory, PageUrl, Table};
-use fetch_workers::{Cache, Clock as Seconds, Source, TableSource};
+use fetch_workers::{Cache, Clock as Seconds, OnBehalf, Source, TableSource};
 use hyper_edge::ServerRuntime;
-use hyper_source::{HyperSource, Origin};
+use hyper_source::{EdgeName, HyperSource, Origin};
 use std::alloc::{AllocGlobal, Global};
 use std::io::Print;
 use std::net::{Net, SocketAddr, TcpStream};
@@ -20,7 +20,7 @@ const CAPACITY: usize = 2;
 const LIMIT: u64 = 10;
 
 // It is always the same second.
-#[derive(Drop)]
+#[derive(Clone, Copy)]
 pub struct Still;
 
 impl<R> Seconds<R> for Still {
@@ -118,6 +118,33 @@ pub fn new_cache<R: Wait + AllocGlobal + Print>(rt: &R, name: &str) -> Option<()
         Ok(cache) => print_again(rt, cache, "/x"),
         Err(NoMemory) => out_of_memory(rt),
     }
+}
+
+/// Makes what is asked on behalf of an edge in place of a cache over origins, of which there are none.
+pub fn cache_on_behalf<R>(rt: &R, name: &str) -> Option<()>
+where
+    R: ServerRuntime + Net<Stream = TcpStream> + Print,
+{
+    let alloc = rt.alloc();
+    let edge = EdgeName::of(alloc, b"edge-1").ok()??;
+    let source = HyperSource::new(rt, alloc, Vec::new(alloc), None).ok()?;
+    let cache = Cache::new(alloc, source.named(edge), Still, CAPACITY).ok()?;
+    calls(rt, name)?;
+    let made = made_for(rt, &cache);
+    answers(rt)?;
+    match &made {
+        Ok(Some(made)) => print_again(rt, made, "/x"),
+        Ok(None) => word(rt, "the same"),
+        Err(NoMemory) => out_of_memory(rt),
+    }
+}
+
+fn made_for<R, S>(rt: &R, source: &S) -> Result<Option<S>, NoMemory>
+where
+    R: AllocGlobal,
+    S: OnBehalf<R>,
+{
+    source.on_behalf(rt.alloc(), b"edge-2")
 }
 
 // Fetches through a cache, and then once more with memory.

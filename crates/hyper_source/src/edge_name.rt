@@ -1,6 +1,6 @@
 //! The name of an edge.
 
-ghost use Rattle.std.specs.Prelude.{◌≡◌};
+ghost use Rattle.std.specs.Prelude.{◌≡◌, IfOk};
 ghost use Rattle.surrogate_headers.specs.Token.{capability_of};
 ghost use Rattle.hyper_source.specs.Names as spec;
 
@@ -64,6 +64,16 @@ impl EdgeName {
         self.token.as_slice()
     }
 
+    /// A second one.
+    pub(crate) fn copy(&self, alloc: Global) -> Result<EdgeName, NoMemory>
+        ensures { IfOk result (λ copy. copy ≡ self.now) }
+    {
+        Ok(EdgeName {
+            token: self.token.as_slice().to_vec(alloc)?,
+            capability: self.capability.as_slice().to_vec(alloc)?,
+        })
+    }
+
     // What this edge says to origins that it can do.
     fn capability(&self) -> &[u8]
         ensures { result.now ≡ capability_of self.now }
@@ -90,4 +100,20 @@ pub(crate) fn capability_for(name: &Option<EdgeName>) -> &[u8]
         Some(name) => name.capability(),
         None => own_capability().1.as_bytes(),
     }
+}
+
+/// The edges through which a request to an origin goes: those that it has passed, a list as in `CDN-Loop` that may be
+/// empty, and then the edge with this name.
+///
+/// Source: RFC 8586, "The CDN-Loop Request Header Field".
+pub(crate) fn way_through(alloc: Global, passed: &[u8], name: &[u8]) -> Result<Vec<u8>, NoMemory>
+    ensures { IfOk result (λ way. way.items ≡ spec.way_through passed.now name.now) }
+{
+    if passed.is_empty() {
+        return Ok(name.to_vec(alloc)?);
+    }
+    let mut way = passed.to_vec(alloc)?;
+    way.extend_from_slice(b", ")?;
+    way.extend_from_slice(name)?;
+    Ok(way)
 }

@@ -2,10 +2,11 @@
 
 ghost use Rattle.std.specs.Prelude.{◌≡◌, ◌<◌, ◌↔◌, length, slice_get, IsTrue, IfSome};
 
-use std::alloc::Global;
+use edge_types::NoMemory;
+use std::alloc::{AllocError, Global};
 use std::io::ErrorKind;
 use std::net::{SocketAddr, TcpStream};
-use std::sync::{Mutex, Wait};
+use std::sync::{Arc, Mutex, Wait};
 use std::time::{Clock, Duration, Instant};
 
 // For how long a connection is kept that no request needs, in seconds.
@@ -23,16 +24,31 @@ pub(crate) struct IdleSocket {
 #[derive(Drop)]
 pub(crate) struct Pool {
     most: u16,
-    idle: Mutex<Vec<IdleSocket>>,
+    idle: Arc<Mutex<Vec<IdleSocket>>>,
 }
 
 impl Pool {
-    /// Keeps at most this many for each address.
-    pub(crate) fn new(alloc: Global, most: u16) -> Pool {
-        Pool {
-            most,
-            idle: Mutex::new(Vec::new(alloc)),
-        }
+    /// Keeps none.
+    pub(crate) fn new(alloc: Global) -> Result<Pool, AllocError> {
+        Ok(Pool {
+            most: 0,
+            idle: Arc::new(alloc, Mutex::new(Vec::new(alloc)))?,
+        })
+    }
+
+    /// The same, but it keeps at most this many for each address.
+    pub(crate) fn keeping(self, most: u16) -> Pool {
+        let mut pool = self;
+        pool.most = most;
+        pool
+    }
+
+    /// One more handle to the same connections.
+    pub(crate) fn share(&self) -> Result<Pool, NoMemory> {
+        Ok(Pool {
+            most: self.most,
+            idle: Arc::try_clone(&self.idle)?,
+        })
     }
 
     /// Whether any are kept.

@@ -16,11 +16,13 @@ use surrogate_headers::own_capability;
 const LOOP: &str = "cdn-loop";
 
 /// The request for a URL by an edge of this name, if it has one, over a connection that may be kept or not. It says
-/// nothing of the client.
+/// nothing of the client but the way, if there is one: the edges through which what led to the request came, and this
+/// one.
 pub(crate) fn request_of(
     alloc: Global,
     url: &PageUrl,
     name: &Option<EdgeName>,
+    way: Option<&[u8]>,
     keeps: bool,
 ) -> Result<Request<Empty<Bytes>>, Lost> {
     let Some((authority, target)) = parts_of(url) else {
@@ -30,7 +32,7 @@ pub(crate) fn request_of(
         .header(HOST, authority)
         .header(own_capability().0, capability_for(name));
     let request = for_connection(request, keeps).header(ACCEPT_ENCODING, "identity");
-    match identified(request, name).body(Empty::new()) {
+    match identified(request, name, way).body(Empty::new()) {
         Ok(request) => Ok(request),
         Err(Error::OutOfMemory) => Err(Lost::NoMemory),
         Err(_) => Err(Lost::Fault),
@@ -45,11 +47,12 @@ fn for_connection(request: Builder, keeps: bool) -> Builder {
     request.header(CONNECTION, "close")
 }
 
-// The request with the edge's name, if it has one.
-fn identified(request: Builder, name: &Option<EdgeName>) -> Builder {
-    match name {
-        Some(name) => request.header(LOOP, name.as_bytes()),
-        None => request,
+// The request with its way, or else with the edge's name, if it has one.
+fn identified(request: Builder, name: &Option<EdgeName>, way: Option<&[u8]>) -> Builder {
+    match (way, name) {
+        (Some(way), _) => request.header(LOOP, way),
+        (None, Some(name)) => request.header(LOOP, name.as_bytes()),
+        (None, None) => request,
     }
 }
 

@@ -5,7 +5,7 @@ mod concurrent;
 use crate::answers::answered;
 use crate::bounded::{OriginGate, end_of, gate_of, gates_of};
 use crate::deadline::Deadline;
-use crate::edge_name::{EdgeName, device_of};
+use crate::edge_name::{EdgeName, device_of, way_through};
 use crate::executors::IdleExecutors;
 use crate::gathered::Lost;
 use crate::origin::{Origin, address_of};
@@ -16,7 +16,7 @@ use crate::reach::{Reach, lost_by};
 use crate::request::request_of;
 use crate::round_trip::{Response, round_trip};
 use edge_types::{Answer, NoMemory, PageUrl};
-use fetch_workers::Source;
+use fetch_workers::{OnBehalf, Source};
 use origin_health::Bounds;
 use std::alloc::{AllocGlobal, Global};
 use std::hash::RandomState;
@@ -28,8 +28,8 @@ use std::sync::{Arc, Wait};
 use std::time::{Clock, Duration};
 
 /// A source that fetches from origins over HTTP: for each URL one `GET`, which names the host and says what
-/// this edge can do, by its name if it has one, and nothing of the client. Each has a connection of its own,
-/// unless some are kept (`keeping`).
+/// this edge can do, by its name if it has one, and nothing of the client but which edges its request has passed
+/// (`on_behalf`). Each has a connection of its own, unless some are kept (`keeping`).
 ///
 /// An answer can't be fetched, and is a failed one, if no origin has the URL's authority, if the
 /// socket or HTTP fails (also by the time limit), if the body ends before its length, is coded or
@@ -43,15 +43,23 @@ use std::time::{Clock, Duration};
 /// "Surrogate-Capability Request Header" and "Surrogate-Control Header"; our profile.
 #[derive(Drop)]
 pub struct HyperSource {
-    origins: Vec<Origin>,
+    shared: Arc<Shared>,
     limit: Option<Duration>,
     keys: RandomState,
-    executors: IdleExecutors,
-    pollers: IdlePollers,
     name: Option<EdgeName>,
+    // The edges through which requests go, where that isn't this one alone.
+    way: Option<Vec<u8>>,
     pool: Pool,
     // Of each address, where fetches are bounded.
-    gates: Vec<OriginGate>,
+    gates: Arc<Vec<OriginGate>>,
+}
+
+// What sources for other requests use too.
+#[derive(Drop)]
+struct Shared {
+    origins: Vec<Origin>,
+    executors: IdleExecutors,
+    pollers: IdlePollers,
 }
 
 impl HyperSource {
@@ -59,22 +67,26 @@ impl HyperSource {
     /// authority `*` is asked if no other has the authority. A fetch may take this long from
     /// connecting to the last byte; without a limit, as long as the origin takes.
     ///
-    /// Refused if the system has no keys for the maps of fields.
+    /// Refused if the system has no keys for the maps of fields, or an allocation fails.
     pub fn new(
         rt: &impl RandomSource,
         alloc: Global,
         origins: Vec<Origin>,
         limit: Option<Duration>,
     ) -> io::Result<HyperSource> {
-        Ok(HyperSource {
+        let shared = Shared {
             origins,
-            limit,
-            keys: RandomState::new(rt)?,
             executors: IdleExecutors::new(alloc),
             pollers: IdlePollers::new(alloc),
+        };
+        Ok(HyperSource {
+            shared: Arc::new(alloc, shared)?,
+            limit,
+            keys: RandomState::new(rt)?,
             name: None,
-            pool: Pool::new(alloc, 0),
-            gates: Vec::new(alloc),
+            way: None,
+            pool: Pool::new(alloc)?,
+            gates: Arc::new(alloc, Vec::new(alloc))?,
         })
     }
 
@@ -95,9 +107,9 @@ impl HyperSource {
     /// response: so connections should be kept only to origins that are trusted.
     ///
     /// Source: RFC 9112, "Persistence".
-    pub fn keeping(self, alloc: Global, most: u16) -> HyperSource {
+    pub fn keeping(self, most: u16) -> HyperSource {
         let mut source = self;
-        source.pool = Pool::new(alloc, most);
+        source.pool = source.pool.keeping(most);
         source
     }
 
@@ -105,7 +117,8 @@ impl HyperSource {
     /// an origin that rests, isn't made: its answer is a failed one at once.
     pub fn bounded(self, alloc: Global, bounds: Bounds) -> Result<HyperSource, NoMemory> {
         let mut source = self;
-        source.gates = gates_of(alloc, source.origins.as_slice(), bounds)?;
+        let gates = gates_of(alloc, source.shared.origins.as_slice(), bounds)?;
+        source.gates = Arc::new(alloc, gates)?;
         Ok(source)
     }
 
@@ -114,7 +127,7 @@ impl HyperSource {
     where
         R: Wait + Net<Stream = TcpStream> + Clock + RandomSource + AllocGlobal + Clone + Drop,
     {
-        let Some(address) = address_of(self.origins.as_slice(), url.authority()) else {
+        let Some(address) = address_of(self.shared.origins.as_slice(), url.authority()) else {
             return Err(Lost::Fault);
         };
         let Some(gate) = gate_of(self.gates.as_slice(), address) else {
@@ -190,12 +203,18 @@ impl HyperSource {
     where
         R: Wait + Net<Stream = TcpStream> + Clock + RandomSource + AllocGlobal + Clone + Drop,
     {
-        let request = request_of(alloc, url, &self.name, self.pool.keeps())?;
-        let Some(mut executor) = self.executors.take(rt) else {
+        let request = request_of(
+            alloc,
+            url,
+            &self.name,
+            self.way.as_deref(),
+            self.pool.keeps(),
+        )?;
+        let Some(mut executor) = self.shared.executors.take(rt) else {
             return Err(Lost::Fault);
         };
         let (came, open) = round_trip(rt, alloc, &mut executor, self.keys, io, request);
-        self.executors.leave(rt, executor);
+        self.shared.executors.leave(rt, executor);
         if let Some(io) = open {
             self.pool.leave(rt, address, io.into_socket());
         }
@@ -217,5 +236,26 @@ where
         let came = self.asked(rt, alloc, url);
         let answer = answered(alloc, url, device_of(&self.name), came)?;
         Ok(Arc::new(alloc, answer)?)
+    }
+}
+
+impl<R> OnBehalf<R> for HyperSource
+where
+    R: Wait + Net<Stream = TcpStream> + Clock + RandomSource + AllocGlobal + Clone + Drop,
+{
+    // An edge without a name says nothing of the way.
+    fn on_behalf(&self, alloc: Global, passed: &[u8]) -> Result<Option<HyperSource>, NoMemory> {
+        let Some(name) = &self.name else {
+            return Ok(None);
+        };
+        Ok(Some(HyperSource {
+            shared: Arc::try_clone(&self.shared)?,
+            limit: self.limit,
+            keys: self.keys,
+            name: Some(name.copy(alloc)?),
+            way: Some(way_through(alloc, passed, name.as_bytes())?),
+            pool: self.pool.share()?,
+            gates: Arc::try_clone(&self.gates)?,
+        }))
     }
 }

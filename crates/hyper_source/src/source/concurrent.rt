@@ -40,7 +40,7 @@ impl HyperSource {
         if !self.has_poller(rt, in_flight) {
             return Err(Lost::Fault);
         }
-        let Some(address) = address_of(self.origins.as_slice(), url.authority()) else {
+        let Some(address) = address_of(self.shared.origins.as_slice(), url.authority()) else {
             return Err(Lost::Fault);
         };
         let Some(gate) = gate_of(self.gates.as_slice(), address) else {
@@ -75,7 +75,7 @@ impl HyperSource {
         R: Wait + Net + RandomSource + AllocGlobal,
     {
         if in_flight.poller.is_none() {
-            in_flight.poller = self.pollers.take(rt);
+            in_flight.poller = self.shared.pollers.take(rt);
         }
         in_flight.poller.is_some()
     }
@@ -132,7 +132,13 @@ impl HyperSource {
         is_kept: bool,
         told: Option<Reach>,
     ) -> Result<Leg, Lost> {
-        let request = request_of(alloc, url, &self.name, self.pool.keeps())?;
+        let request = request_of(
+            alloc,
+            url,
+            &self.name,
+            self.way.as_deref(),
+            self.pool.keeps(),
+        )?;
         let signals = StreamSignals::new(told);
         Ok(Leg {
             exchange: Exchange::begun(alloc, self.keys, socket, signals, request)?,
@@ -277,7 +283,7 @@ where
         let mut in_flight = in_flight;
         in_flight.end_permits(rt);
         if let Some(poller) = in_flight.into_poller() {
-            self.pollers.leave(rt, poller);
+            self.shared.pollers.leave(rt, poller);
         }
     }
 }

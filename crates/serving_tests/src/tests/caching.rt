@@ -1,18 +1,18 @@
 //! A source under a cache whose clock is set by hand.
 
 use super::{Origin, source_of, url};
-use edge_types::{Answer, NoMemory};
-use fetch_workers::{Cache, Clock, Source};
+use edge_types::{Answer, NoMemory, PageUrl};
+use fetch_workers::{Cache, Clock, OnBehalf, Source, TableSource};
 use std::alloc::Global;
 use std::fmt::Write;
 use std::process::Abort;
-use std::sync::Wait;
 use std::sync::atomic::{AtomicU64, Ordering};
+use std::sync::{Arc, Wait};
 use std::test::Fail;
 use std::thread;
 use std::thread::Threads;
 
-#[derive(Drop)]
+#[derive(Clone, Copy)]
 struct Hands<'a>(&'a AtomicU64);
 
 impl<R> Clock<R> for Hands<'_> {
@@ -207,5 +207,70 @@ fn many_threads_share_flights(rt: HostRuntime) -> Result<(), Fail> {
     // Each of the 16 is fetched until it is there: the tenth fetch ran out of memory.
     assert!(rt; crowd(&rt, rt.alloc(), "60")? == 17);
     assert!(rt; crowd(&rt, rt.alloc(), "plain")? <= 64 * 200);
+    Ok(())
+}
+
+// A table, in whose place another one is asked on behalf of edges.
+#[derive(Clone, Copy)]
+struct Twofold<'a> {
+    table: &'a TableSource,
+    other: &'a TableSource,
+}
+
+impl<R> Source<R> for Twofold<'_> {
+    ghost use Rattle.std.specs.Prelude.{◌≡◌};
+
+    ghost gives = { λ it url answer. answer.url ≡ url };
+
+    ghost names_url = { λ it url answer given. given };
+
+    fn fetch(&self, rt: &R, alloc: Global, url: &PageUrl) -> Result<Arc<Answer>, NoMemory> {
+        self.table.fetch(rt, alloc, url)
+    }
+}
+
+impl<'a, R> OnBehalf<R> for Twofold<'a> {
+    fn on_behalf(&self, _alloc: Global, passed: &[u8]) -> Result<Option<Twofold<'a>>, NoMemory> {
+        if passed != b"edge-a".as_slice() {
+            return Ok(None);
+        }
+        Ok(Some(Twofold {
+            table: self.other,
+            other: self.other,
+        }))
+    }
+}
+
+// What is asked on behalf of an edge in place of this source.
+fn made_for<R, S: OnBehalf<R>>(
+    _rt: &R,
+    alloc: Global,
+    source: &S,
+    edge: &[u8],
+) -> Result<Option<S>, NoMemory> {
+    source.on_behalf(alloc, edge)
+}
+
+// A cache and the one that is made of it on behalf of an edge: each fetches from its own table, and has what the other
+// one keeps.
+#[test]
+fn caches_on_behalf_of_edges_keep_the_same(rt: HostRuntime) -> Result<(), Fail> {
+    let alloc = rt.alloc();
+    let seconds = AtomicU64::new(100);
+    let table = source_of(&rt, alloc, "/x 200 60 1;/y 200 60 1")?;
+    let other = source_of(&rt, alloc, "/x 200 60 2;/y 200 60 2")?;
+    let source = Twofold {
+        table: &table,
+        other: &other,
+    };
+    let cache = Cache::new(alloc, source, Hands(&seconds), 8)?;
+    let mut out = given(&rt, alloc, &cache, &seconds, "/x")?;
+    if let Some(made) = made_for(&rt, alloc, &cache, b"edge-a")? {
+        out.push_str(given(&rt, alloc, &made, &seconds, "/x /y")?.as_str())?;
+    }
+    out.push_str(given(&rt, alloc, &cache, &seconds, "/y +60 /y")?.as_str())?;
+    assert!(rt; out.as_str() == "11221", "{out}");
+    assert!(rt; made_for(&rt, alloc, &cache, b"edge-b")?.is_none());
+    assert!(rt; made_for(&rt, alloc, &table, b"edge-a")?.is_none());
     Ok(())
 }
