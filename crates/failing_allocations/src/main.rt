@@ -4,6 +4,7 @@
 //! Here memory is ample. `tests/allocations/run` makes the allocations of each call fail, one in each run.
 #![tactic(auto)]
 
+mod configs;
 mod heads;
 mod pages;
 mod shards;
@@ -59,6 +60,9 @@ fn call_of_text(rt: &HostRuntime, name: &str) -> Option<()> {
         "report:fault" => texts::report_fault(rt, name),
         "report:warnings" => texts::report_warnings(rt, name),
         "read_events" => texts::read_events(rt, name),
+        "settings_of" => configs::settings_of(rt, name),
+        "merged" => configs::merged(rt, name),
+        "push_origin" => configs::push_origin(rt, name),
         _ => call_of_page(rt, name),
     }
 }
