@@ -24,7 +24,8 @@ def page_of(text):
 
 
 def a_page_ends_soon_after_its_time():
-    """Past --page-timeout nothing more is fetched: an `except` counts, and a page without one is 502."""
+    """Past --page-timeout nothing more is fetched, and no fetch takes longer: an `except` counts, and a page without one
+    is 502."""
     paths = ("/a", "/b", "/c")
     texts = {path: slow(path[1:]) for path in paths}
     texts["/p"] = page_of("".join(ALTERNATIVE % path for path in paths))
@@ -32,7 +33,7 @@ def a_page_ends_soon_after_its_time():
     alone = ("--workers", "1", "--ahead", "0")
     with Wires(texts) as origin, before(origin, *alone, "--page-timeout", "200") as edge:
         begun = time.monotonic()
-        same("with alternatives", (200, b"alatelate"), told(edge, "/p"))
+        same("with alternatives", (200, b"latelatelate"), told(edge, "/p"))
         same("in time", True, time.monotonic() - begun < 2 * SLOWLY)
         same("without any", (502, b"The page could not be assembled.\n"), told(edge, "/q"))
         same("what was asked for", ["/p", "/a", "/q", "/a"], origin.asked())
@@ -49,7 +50,7 @@ def what_is_stored_counts_past_a_page_s_time():
     }
     with Wires(texts) as origin, before(origin, "--workers", "1", "--ahead", "0", "--page-timeout", "200") as edge:
         same("stored", (200, b"1"), told(edge, "/stored"))
-        same("past the limit", (200, b"s1"), told(edge, "/p"))
+        same("past the limit", (200, b"late1"), told(edge, "/p"))
 
 
 def a_page_has_no_more_than_its_bytes():
@@ -82,7 +83,7 @@ def a_late_page_shows_older_answers():
         with Wires(texts) as origin, before(origin, "--workers", "1", "--ahead", "0", "--page-timeout", "200", *several) as edge:
             same("stored", [(200, b"1"), (200, b"2")], [told(edge, "/older"), told(edge, "/expired")])
             time.sleep(1.1)
-            same("past the limit", (200, b"s1late"), told(edge, "/p"))
+            same("past the limit", (200, b"late1late"), told(edge, "/p"))
             same("what was asked for", ["/older", "/expired", "/p", "/slow"], origin.asked())
 
 

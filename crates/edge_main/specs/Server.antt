@@ -1,5 +1,5 @@
 -- The server that the options of `serve` ask for.
-use Rattle.std.specs.Prelude.{◌≡◌, ◌*◌, ◌==◌, ℕ, Option, Some, None, option_map, MatchOption, if◌then◌else◌}
+use Rattle.std.specs.Prelude.{◌≡◌, ◌*◌, ◌==◌, min, ℕ, Option, Some, None, option_map, MatchOption, if◌then◌else◌}
 use Rattle.std.specs.Duration.{as_nanos}
 use Rattle.std.specs.declared.time.Duration.{Duration}
 use Rattle.edge_setup.specs.declared.setup.Fetching.{Fetching}
@@ -14,6 +14,10 @@ nanos_of limit = option_map as_nanos limit
 -- the same of a limit of this many milliseconds; 0 means no limit
 abbrev pub limit_of : ℕ → Option ℕ
 limit_of millis = if millis == 0 then None else Some (millis * 1_000_000)
+
+-- the milliseconds that a fetch may take: no more than its page may; 0 means no limit
+abbrev pub fetch_millis : ℕ → ℕ → ℕ
+fetch_millis timeout page = if page == 0 then timeout else (if timeout == 0 then page else min timeout page)
 
 -- the same of this many seconds for which a connection is kept; 0 means that none is
 abbrev pub idle_of : ℕ → Option ℕ
@@ -41,7 +45,7 @@ pub record AreBounds (fetching : Fetching) (bounds : Bounds) : Type 0 where
 pub record IsServerOf (setup : Setup) (server : Server) : Type 0 where
   pub listen_is : server.listen ≡ setup.listen
   pub origins_are : server.origins ≡ setup.origins
-  pub fetch_is : nanos_of server.fetches.limit ≡ limit_of setup.fetching.timeout
+  pub fetch_is : nanos_of server.fetches.limit ≡ limit_of (fetch_millis setup.fetching.timeout setup.fetching.page_timeout)
   pub idle_origins_are : server.fetches.idle ≡ setup.fetching.origin_keep_alive
   pub bounds_are : MatchOption server.fetches.bounds (IsUnbounded setup.fetching) (AreBounds setup.fetching)
   pub url_rest_is : server.fetches.url_rest ≡ setup.fetching.url_rest

@@ -1,7 +1,7 @@
 //! The server that the options of `serve` ask for.
 ghost use Rattle.std.specs.Prelude.{◌≡◌, MatchOption};
 ghost use Rattle.edge_setup.specs.Words.{IsWithin};
-ghost use Rattle.edge_main.specs.Server.{AreBounds, IsServerOf, IsUnbounded, bytes_of, idle_of, limit_of, nanos_of};
+ghost use Rattle.edge_main.specs.Server.{AreBounds, IsServerOf, IsUnbounded, bytes_of, fetch_millis, idle_of, limit_of, nanos_of};
 
 use crate::server::{Fetches, Server};
 use edge_setup::{Fetching, Setup};
@@ -18,6 +18,19 @@ fn limit_of(millis: u32) -> Option<Duration>
         None
     } else {
         Some(Duration::from_millis(u64::from(millis)))
+    }
+}
+
+// The milliseconds that a fetch may take: no more than its page may; 0 means no limit.
+fn fetch_millis(fetching: Fetching) -> u32
+    ensures { result ≡ fetch_millis fetching.timeout fetching.page_timeout }
+{
+    if fetching.page_timeout == 0 {
+        fetching.timeout
+    } else if fetching.timeout == 0 {
+        fetching.page_timeout
+    } else {
+        fetching.timeout.min(fetching.page_timeout)
     }
 }
 
@@ -81,7 +94,7 @@ pub(crate) fn server_of(setup: Setup) -> Server
         listen,
         origins,
         fetches: Fetches {
-            limit: limit_of(fetching.timeout),
+            limit: limit_of(fetch_millis(fetching)),
             idle: fetching.origin_keep_alive,
             bounds: bounds_of(fetching),
             url_rest: fetching.url_rest,
