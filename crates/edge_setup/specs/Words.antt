@@ -22,6 +22,7 @@ use Rattle.edge_setup.specs.declared.setup.Fetching.{Fetching}
 use Rattle.edge_setup.specs.declared.setup.Pages.{Pages}
 use Rattle.edge_setup.specs.declared.setup.Serving.{Serving}
 use Rattle.edge_setup.specs.declared.setup.Setup.{Setup}
+use Rattle.edge_setup.specs.declared.words.Tokens.{Tokens}
 use Rattle.edge_setup.specs.declared.setup.Named.{Named}
 use Rattle.edge_setup.specs.declared.setup.Named.TheVariants as named
 use Rattle.edge_setup.specs.declared.setup.SetupFault.{SetupFault}
@@ -153,6 +154,11 @@ pub record SaysServing (rows : List Row) (serving : Serving) : Type 0 where
   pub close_is : is_set (first_of (codes "abort-on-close") rows) ≡ serving.aborts_on_close
   pub log_is : log_said rows ≡ Some serving.log
 
+-- the names of the edge and of the field by which a proxy names clients
+pub record SaysTokens (rows : List Row) (tokens : Tokens) : Type 0 where
+  pub name_is : token_of (first_of (codes "name") rows) ≡ Some (option_map (λ name. name.now) tokens.name)
+  pub forwarded_is : token_of (first_of (codes "forwarded") rows) ≡ Some (option_map (λ field. field.now) tokens.forwarded)
+
 -- what the options ask for
 pub record SaysSetup (rows : List Row) (setup : Setup) : Type 0 where
   pub listen_is : IsAddress (first_of (codes "listen") rows) setup.listen
@@ -219,6 +225,9 @@ HasName rows = IsSome (token_of (first_of (codes "name") rows))
 abbrev pub HasForwarded : List Row → Type 0
 HasForwarded rows = IsSome (token_of (first_of (codes "forwarded") rows))
 
+abbrev pub HasTokens : List Row → Type 0
+HasTokens rows = HasName rows × HasForwarded rows
+
 -- the values of the options that are read before this one are valid
 abbrev pub AreValidBefore : List Row → Named → Type 0
 AreValidBefore rows named.Listen = Unit {0}
@@ -242,7 +251,7 @@ AreValidBefore rows named.Connections = HasAddress rows × HasPages rows × HasF
 AreValidBefore rows named.LogFormat = HasAddress rows × HasPages rows × HasFetching rows × HasAccepts rows × Has client_timeout rows × Has keep_alive rows × Has threads rows × Has connections rows
 AreValidBefore rows named.Name = HasAddress rows × HasPages rows × HasFetching rows × HasServing rows
 AreValidBefore rows named.Forwarded = HasAddress rows × HasPages rows × HasFetching rows × HasServing rows × HasName rows
-AreValidBefore rows (named.Origin fault) = HasAddress rows × HasPages rows × HasFetching rows × HasServing rows × HasName rows × HasForwarded rows
+AreValidBefore rows (named.Origin fault) = HasAddress rows × HasPages rows × HasFetching rows × HasServing rows × HasTokens rows
 
 -- this is the first option, in the order of reading, whose value is invalid
 pub record IsFirstWrong (rows : List Row) (option : Named) : Type 0 where

@@ -3,7 +3,7 @@ ghost use Rattle.std.specs.Prelude.{◌≡◌, ◌≤◌, option_map, IfNone, If
 ghost use Rattle.std.specs.declared.net.socket_addr.SocketAddr.{SocketAddr};
 ghost use Rattle.clap.specs.Words.{first_of, found_of, rows_of};
 ghost use Rattle.edge_setup.specs.Numbers.{ahead_said};
-ghost use Rattle.edge_setup.specs.Words.{accepts_of, is_set, log_of, log_said, token_of, IsAddress, HasAddress, HasFetching, HasPages, IsFirstWrong, IsRefusedBy, IsWithin, SaysFetching, SaysPages, SaysServing, SaysSetup};
+ghost use Rattle.edge_setup.specs.Words.{accepts_of, is_set, log_of, log_said, token_of, IsAddress, HasAddress, HasFetching, HasPages, HasServing, IsFirstWrong, IsRefusedBy, IsWithin, SaysFetching, SaysPages, SaysServing, SaysSetup, SaysTokens};
 
 use crate::number::{
     AHEAD, CAPACITY, CLIENT_TIMEOUT, CONNECTIONS, FETCHES, KEEP_ALIVE, LEVELS, ORIGIN_FETCHES,
@@ -178,6 +178,24 @@ fn serving_of(matches: &ArgMatches<'_>) -> Result<Serving, Named>
     })
 }
 
+/// What the options name: the edge, and the field by which a proxy names clients.
+#[derive(Clone, Copy)]
+pub(crate) struct Tokens<'a> {
+    name: Option<&'a str>,
+    forwarded: Option<&'a str>,
+}
+
+// What the options name.
+fn tokens_of<'a>(matches: &ArgMatches<'a>) -> Result<Tokens<'a>, Named>
+    ensures { let rows = rows_of (found_of matches.now) in
+        MatchResult result (SaysTokens rows) (λ option. HasAddress rows → HasPages rows → HasFetching rows → HasServing rows → IsFirstWrong rows option) }
+{
+    Ok(Tokens {
+        name: token_of(word_of(matches, "name")).ok_or(Named::Name)?,
+        forwarded: token_of(word_of(matches, "forwarded")).ok_or(Named::Forwarded)?,
+    })
+}
+
 /// What the options of `serve` ask for, or the first of them, in the order of their limits, whose value
 /// is invalid.
 ///
@@ -190,8 +208,7 @@ pub fn setup_of(alloc: Global, matches: &ArgMatches<'_>) -> Result<Setup, SetupF
     let pages = pages_of(matches)?;
     let fetching = fetching_of(matches)?;
     let serving = serving_of(matches)?;
-    let name = token_of(word_of(matches, "name")).ok_or(Named::Name)?;
-    let forwarded = token_of(word_of(matches, "forwarded")).ok_or(Named::Forwarded)?;
+    let tokens = tokens_of(matches)?;
     let origins = match origins_of(alloc, matches)? {
         Ok(origins) => origins,
         Err(fault) => return Err(SetupFault::Wrong(Named::Origin(fault))),
@@ -202,7 +219,7 @@ pub fn setup_of(alloc: Global, matches: &ArgMatches<'_>) -> Result<Setup, SetupF
         pages,
         fetching,
         serving,
-        name: copy_of(alloc, name)?,
-        forwarded: copy_of(alloc, forwarded)?,
+        name: copy_of(alloc, tokens.name)?,
+        forwarded: copy_of(alloc, tokens.forwarded)?,
     })
 }
