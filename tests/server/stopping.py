@@ -44,7 +44,7 @@ def what_comes_on_input_stops_nothing():
     """Bytes on standard input are dropped; without the option its end is nothing either."""
     with Origin(PLAIN) as origin:
         with before(origin, *STOPS, piped=True) as edge:
-            edge.process.stdin.write(b"stop\n" * 100_000)
+            edge.process.stdin.write(b"stop\n" * 50_000)
             edge.process.stdin.flush()
             time.sleep(0.3)
             same("a page with the option", b"[12345678]", get(edge, "/p").body)

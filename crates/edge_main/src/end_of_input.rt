@@ -2,7 +2,10 @@
 
 use crate::readiness::is_readable;
 use hyper_edge::StopSign;
-use std::io::{BufRead, Input};
+use std::io::{ErrorKind, Input, Read};
+
+// As many bytes as a pipe holds, so that whoever writes into one hardly waits.
+const CHUNK: usize = 65_536;
 
 /// A server is to stop once standard input has ended, where that is asked for. What comes on standard input is dropped.
 #[derive(Drop)]
@@ -17,13 +20,10 @@ impl<R: Input> StopSign<R> for EndOfInput {
 }
 
 // Whether a reader has ended, or can't be read; what it has is dropped.
-fn has_ended(reader: &mut impl BufRead) -> bool {
-    match reader.fill_buf() {
-        Ok(bytes) => {
-            let count = bytes.len();
-            reader.consume(count);
-            count == 0
-        }
-        Err(_) => true,
+fn has_ended(reader: &mut impl Read) -> bool {
+    let mut chunk = [0; CHUNK];
+    match reader.read(&mut chunk) {
+        Ok(count) => count == 0,
+        Err(error) => error.kind() != ErrorKind::Interrupted,
     }
 }
