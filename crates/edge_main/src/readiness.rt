@@ -1,15 +1,15 @@
-//! Whether standard input and standard error can be read and written without a wait.
+//! Whether a file and standard error can be read and written without a wait.
 
 use libc::net::{POLLIN, POLLOUT, poll};
 use libc::types::pollfd;
-
-const STANDARD_INPUT: i32 = 0;
+use std::fs::File;
+use std::os::fd::AsRawFd;
 
 const STANDARD_ERROR: i32 = 2;
 
-/// Whether standard input has something to read, or has ended.
-pub(crate) fn is_readable() -> bool {
-    is_ready(STANDARD_INPUT, POLLIN, 0)
+/// Whether a file has something to read, or has ended.
+pub(crate) fn is_readable(file: &File) -> bool {
+    is_ready(file.as_raw_fd(), POLLIN, 0)
 }
 
 /// Whether standard error takes bytes, or is gone, within this many milliseconds.

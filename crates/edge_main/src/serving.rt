@@ -12,9 +12,11 @@ use fetch_workers::{Assembling, Cache};
 use hyper_edge::{EdgeService, Limits, ServeEnd, ServerRuntime, Sockets, serve_accepts};
 use hyper_source::{EdgeName, HyperSource};
 use std::alloc::AllocGlobal;
-use std::io::{Eprint, Input, Print};
+use std::fs::File;
+use std::io::{Eprint, Print};
 use std::net::{Net, SocketAddr, TcpListener, TcpStream, ToSocketAddrs};
 use std::random::RandomSource;
+use std::rt::Files;
 use std::sync::Arc;
 use std::time::{Clock, Duration};
 use std::{io, str};
@@ -26,7 +28,7 @@ type Kept = Cache<SparingSource<HyperSource, MonotonicSeconds>, MonotonicSeconds
 /// Runs the server, until its number of connections have been accepted, or it is stopped, and they have ended.
 pub(crate) fn serve<R>(rt: &R, server: Server) -> Result<ServeEnd, Status>
 where
-    R: ServerRuntime + Input + Print + Eprint + Send + Sync,
+    R: ServerRuntime + Files<File = File> + Print + Eprint + Send + Sync,
     R: Net<Stream = TcpStream, Listener = TcpListener>,
 {
     warn_of_files(rt, Numbers::of(&server));
@@ -71,9 +73,7 @@ where
     if aborts_on_close {
         service = service.aborting_on_close();
     }
-    let stop = EndOfInput {
-        is_asked: stops_with_input,
-    };
+    let stop = EndOfInput::of(rt, stops_with_input)?;
     let (sockets, address) = listening(rt, listen, clients, stop)?;
     println!(rt; "listening on {address}")?;
     let log = AccessLog::new(rt.alloc(), log);
