@@ -11,6 +11,11 @@ use std::marker::Model;
 use std::num::NonZeroUsize;
 use std::sync::Arc;
 
+/// The most URLs that may rest at a time: that which failed first is forgotten for one more.
+///
+/// Our profile.
+pub const MAX_URLS: usize = 1024;
+
 // The answer with which a URL failed, and the second from which the URL is asked again.
 #[derive(Drop)]
 struct Failure {
@@ -51,24 +56,20 @@ fn check(cache: &LruCache<PageUrl, Failure>)
 }
 
 impl Entries {
-    ghost use Rattle.std.specs.NonZero.{non_zero_usize_get};
     ghost use Rattle.fragment_cache.specs.Machine.{fresh};
     ghost use Rattle.fragment_cache.specs.Sound.{AreEntries};
     ghost use Rattle.failed_answers.specs.Rest.{put_first, without};
 
-    pub(crate) fn new(alloc: Global, capacity: NonZeroUsize) -> Result<Entries, NoMemory>
-        ensures { IfOk result (λ s. s ≡ record { entries = []; capacity = non_zero_usize_get capacity }) }
+    pub(crate) fn new(alloc: Global) -> Result<Entries, NoMemory>
+        ensures { IfOk result (λ s. s ≡ record { entries = []; capacity = 1_024 }) }
     {
+        let capacity = match NonZeroUsize::new(MAX_URLS) {
+            Some(capacity) => capacity,
+            None => unreachable!(),
+        };
         let cache = LruCache::new(alloc, capacity)?;
         check(&cache);
         Ok(Entries { cache })
-    }
-
-    // States the invariant of the entries for callers.
-    pub(crate) fn sound(&self)
-        ensures { AreEntries self.now.capacity self.now.entries }
-    {
-        let _ = &self.cache;
     }
 
     // The answer of a URL before its end. The order of the entries stays that of their failures.
@@ -110,5 +111,12 @@ impl Entries {
     {
         let _ = self.cache.pop(url);
         check(&self.cache);
+    }
+
+    // States the invariant of the entries for callers.
+    pub(crate) fn sound(&self)
+        ensures { AreEntries self.now.capacity self.now.entries }
+    {
+        let _ = &self.cache;
     }
 }

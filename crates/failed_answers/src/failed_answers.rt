@@ -5,13 +5,7 @@ use crate::entries::Entries;
 use edge_types::{Answer, NoMemory, PageUrl, Reply, SharedAnswer};
 use std::alloc::Global;
 use std::marker::Model;
-use std::num::NonZeroUsize;
 use std::sync::Arc;
-
-/// The most URLs that may rest at a time: that which failed first is forgotten for one more.
-///
-/// Our profile.
-pub const MAX_URLS: usize = 1024;
 
 /// The answers of URLs that failed, each for as many seconds as a rest has. Seconds are those of the caller's clock, which
 /// never goes back.
@@ -50,12 +44,8 @@ impl FailedAnswers {
     pub fn new(alloc: Global, rest: u32) -> Result<FailedAnswers, NoMemory>
         ensures { IfOk result (λ failed. failed ≡ nothing_failed rest) }
     {
-        let capacity = match NonZeroUsize::new(MAX_URLS) {
-            Some(capacity) => capacity,
-            None => unreachable!(),
-        };
         Ok(FailedAnswers {
-            entries: Entries::new(alloc, capacity)?,
+            entries: Entries::new(alloc)?,
             rest: u64::from(rest),
         })
     }

@@ -3,7 +3,7 @@
 ghost use Rattle.std.specs.Prelude.{◌≡◌};
 ghost use Rattle.failed_answers.specs.Law.{AnswerEndsRest, RestsWhole};
 
-use crate::failed_answers::MAX_URLS;
+use crate::entries::MAX_URLS;
 
 /// Within the rest of a URL its failing answer is given again; from the end of the rest on the URL is asked.
 pub fn a_rest_is_whole()

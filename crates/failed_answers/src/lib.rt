@@ -8,6 +8,7 @@ pub mod laws;
 mod shared_failures;
 mod sparing_source;
 
-pub use failed_answers::{FailedAnswers, MAX_URLS};
+pub use entries::MAX_URLS;
+pub use failed_answers::FailedAnswers;
 pub use shared_failures::SharedFailures;
 pub use sparing_source::{SparedFetches, SparingSource};
