@@ -37,12 +37,12 @@ pub fn stored() -> Control {
 
 /// A request with some fields and a query.
 pub fn request(alloc: Global) -> Option<Request> {
-    let mut request = Request::empty(alloc);
-    request.host = Octets::copy_of(alloc, b"a.test").ok()?;
-    request.cookie = Octets::copy_of(alloc, b"c=1").ok()?;
-    request.referer = Octets::copy_of(alloc, b"r").ok()?;
-    request.user_agent = Octets::copy_of(alloc, b"u").ok()?;
-    request.accept_language = Octets::copy_of(alloc, b"l").ok()?;
-    request.query = Octets::copy_of(alloc, b"q=1").ok()?;
+    let mut request = Request::empty();
+    request.host = SharedBytes::copy_of(alloc, b"a.test").ok()?;
+    request.cookie = SharedBytes::copy_of(alloc, b"c=1").ok()?;
+    request.referer = SharedBytes::copy_of(alloc, b"r").ok()?;
+    request.user_agent = SharedBytes::copy_of(alloc, b"u").ok()?;
+    request.accept_language = SharedBytes::copy_of(alloc, b"l").ok()?;
+    request.query = SharedBytes::copy_of(alloc, b"q=1").ok()?;
     Some(request)
 }

@@ -2,7 +2,7 @@
 
 use bench_tools::inputs::{or_io_error, repeated};
 use bench_tools::timing::{Least, print, print_count};
-use edge_types::{NoMemory, Octets, Request};
+use edge_types::{NoMemory, Octets, Request, SharedBytes};
 use esi_vars::{Reference, Variable, value};
 use memchr::memmem;
 use std::alloc::Global;
@@ -36,8 +36,8 @@ pub fn run(rt: &HostRuntime) -> io::Result<()> {
 fn told(rt: &HostRuntime, what: &str, name: &str, unit: &str) -> io::Result<()> {
     let mut cookies = repeated(rt.alloc(), unit.as_bytes(), LEN)?;
     cookies.extend_from_slice(LAST)?;
-    let mut request = Request::empty(rt.alloc());
-    request.cookie = or_io_error(Octets::copy_of(rt.alloc(), cookies.as_slice()))?;
+    let mut request = Request::empty();
+    request.cookie = or_io_error(SharedBytes::copy_of(rt.alloc(), cookies.as_slice()))?;
     let reference = or_io_error(cookie_of(rt.alloc(), name.as_bytes()))?;
     let looking = looked_up(rt, &request, &reference)?;
     let searching = searched(rt, cookies.as_slice(), name.as_bytes())?;

@@ -2,7 +2,7 @@
 
 use bench_tools::inputs::{or_input_error, or_io_error, repeated};
 use bench_tools::timing::{Least, print};
-use edge_types::{NoMemory, Octets, Request, SharedBytes};
+use edge_types::{NoMemory, Request, SharedBytes};
 use esi_vars::{Part, parts, substitute};
 use std::alloc::{AllocError, Global};
 use std::io;
@@ -25,7 +25,7 @@ struct Base {
 
 /// Prints how long reading and substituting take, and the ratios to copying and to plain text.
 pub fn run(rt: &HostRuntime) -> io::Result<()> {
-    let mut request = Request::empty(rt.alloc());
+    let mut request = Request::empty();
     or_io_error(fill_in(rt.alloc(), &mut request))?;
     all_told(rt, &request)
 }
@@ -129,7 +129,7 @@ fn page(alloc: Global) -> Result<String, AllocError> {
 }
 
 fn fill_in(alloc: Global, request: &mut Request) -> Result<(), NoMemory> {
-    request.host = Octets::copy_of(alloc, b"a.test")?;
-    request.cookie = Octets::copy_of(alloc, b"session=12345678; theme=dark; group=staff")?;
+    request.host = SharedBytes::copy_of(alloc, b"a.test")?;
+    request.cookie = SharedBytes::copy_of(alloc, b"session=12345678; theme=dark; group=staff")?;
     Ok(())
 }

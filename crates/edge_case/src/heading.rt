@@ -7,7 +7,7 @@ ghost use Rattle.edge_case.specs.Reading.{fields_at, heading_at, lent_heading, l
 
 use crate::bytes::lent_or_empty;
 use crate::line::{field_at, line_at};
-use edge_types::{NoMemory, Octets, Request, RequestField, SaysFields, query_of};
+use edge_types::{NoMemory, Request, RequestField, SaysFields, SharedBytes, query_of};
 use std::alloc::Global;
 
 // How many fields a request has.
@@ -51,8 +51,8 @@ impl SaysFields for Heading<'_> {
 
     ghost says = { λ heading field. value_of (shown_heading heading).values field };
 
-    fn said(&self, alloc: Global, field: RequestField) -> Result<Octets, NoMemory> {
-        Octets::copy_of(alloc, lent_or_empty(self.values[field.place()]))
+    fn said(&self, alloc: Global, field: RequestField) -> Result<SharedBytes, NoMemory> {
+        SharedBytes::copy_of(alloc, lent_or_empty(self.values[field.place()]))
     }
 }
 
@@ -61,6 +61,7 @@ impl Heading<'_> {
     pub(crate) fn request(&self, alloc: Global) -> Result<Request, NoMemory>
         ensures { IfOk result (λ request. request ≡ request_of (shown_heading self.now)) }
     {
-        Request::said_by(alloc, self, query_of(self.page))
+        let query = SharedBytes::copy_of(alloc, query_of(self.page))?;
+        Request::said_by(alloc, self, query)
     }
 }

@@ -5,7 +5,7 @@ ghost use Rattle.edge_types.specs.Request.{empty_request, field_of, heading_word
 
 use crate::halves::find_byte;
 use crate::no_memory::NoMemory;
-use crate::octets::Octets;
+use crate::shared_bytes::SharedBytes;
 use std::alloc::Global;
 
 /// A header field of a reader's request that templates can ask for.
@@ -73,40 +73,41 @@ pub trait SaysFields {
 
     ghost says: { Self → RequestField → List ℕ };
 
-    /// Copies the value of a field; an absent one is empty.
-    fn said(&self, alloc: Global, field: RequestField) -> Result<Octets, NoMemory>
+    /// The value of a field; an absent one is empty.
+    fn said(&self, alloc: Global, field: RequestField) -> Result<SharedBytes, NoMemory>
         ensures { IfOk result (λ value. value ≡ says self.now field) };
 }
 
-/// The fields of a reader's request; an absent one is empty.
+/// The fields of a reader's request; an absent one is empty. Their values have several owners, so that a page may hold
+/// a part of one at many places.
 #[derive(Drop, PartialEq, Eq)]
 pub struct Request {
     /// The `Host` field.
-    pub host: Octets,
+    pub host: SharedBytes,
     /// The `Cookie` field, several lines joined by `; `.
-    pub cookie: Octets,
+    pub cookie: SharedBytes,
     /// The `Referer` field.
-    pub referer: Octets,
+    pub referer: SharedBytes,
     /// The `User-Agent` field.
-    pub user_agent: Octets,
+    pub user_agent: SharedBytes,
     /// The `Accept-Language` field.
-    pub accept_language: Octets,
+    pub accept_language: SharedBytes,
     /// The query string, without its `?`.
-    pub query: Octets,
+    pub query: SharedBytes,
 }
 
 impl Request {
     /// A request without fields and without a query. Takes no memory.
-    pub fn empty(alloc: Global) -> Request
+    pub fn empty() -> Request
         ensures { result ≡ empty_request }
     {
         Request {
-            host: Octets::empty(alloc),
-            cookie: Octets::empty(alloc),
-            referer: Octets::empty(alloc),
-            user_agent: Octets::empty(alloc),
-            accept_language: Octets::empty(alloc),
-            query: Octets::empty(alloc),
+            host: SharedBytes::new(),
+            cookie: SharedBytes::new(),
+            referer: SharedBytes::new(),
+            user_agent: SharedBytes::new(),
+            accept_language: SharedBytes::new(),
+            query: SharedBytes::new(),
         }
     }
 
@@ -114,9 +115,9 @@ impl Request {
     pub fn said_by<S: SaysFields>(
         alloc: Global,
         source: &S,
-        query: &[u8],
+        query: SharedBytes,
     ) -> Result<Request, NoMemory>
-        ensures { IfOk result (λ request. request ≡ request_saying (S.says source.now) query.now) }
+        ensures { IfOk result (λ request. request ≡ request_saying (S.says source.now) query) }
     {
         Ok(Request {
             host: source.said(alloc, RequestField::Host)?,
@@ -124,12 +125,12 @@ impl Request {
             referer: source.said(alloc, RequestField::Referer)?,
             user_agent: source.said(alloc, RequestField::UserAgent)?,
             accept_language: source.said(alloc, RequestField::AcceptLanguage)?,
-            query: Octets::copy_of(alloc, query)?,
+            query,
         })
     }
 
     /// Lends the value of a field. Takes no memory.
-    pub fn field(&self, field: RequestField) -> &Octets
+    pub fn field(&self, field: RequestField) -> &SharedBytes
         ensures { result.now ≡ field_of self.now field }
     {
         match field {
@@ -141,19 +142,19 @@ impl Request {
         }
     }
 
-    /// Copies every field.
+    /// A request with the same fields: a second owner of each.
     pub fn copy(&self, alloc: Global) -> Result<Request, NoMemory>
         ensures { IfOk result (λ copy. copy ≡ self.now) }
     {
-        Request::said_by(alloc, self, self.query.as_bytes())
+        Request::said_by(alloc, self, self.query.share()?)
     }
 }
 
 impl SaysFields for Request {
     ghost says = { field_of };
 
-    fn said(&self, alloc: Global, field: RequestField) -> Result<Octets, NoMemory> {
-        self.field(field).copy(alloc)
+    fn said(&self, _alloc: Global, field: RequestField) -> Result<SharedBytes, NoMemory> {
+        self.field(field).share()
     }
 }
 

@@ -1,6 +1,6 @@
 //! Bytes with several owners. Clauses see the list of the bytes.
 
-ghost use Rattle.std.specs.Prelude.{◌≡◌, ◌≤◌, ◌↔◌, [], length, slice_range, IfOk, IsTrue};
+ghost use Rattle.std.specs.Prelude.{◌≡◌, ◌≤◌, ◌↔◌, [], length, slice_range, IfOk, IsTrue, MatchOption};
 
 use crate::no_memory::NoMemory;
 use bytes::Bytes;
@@ -24,6 +24,8 @@ impl Model for SharedBytes {
 }
 
 impl SharedBytes {
+    ghost use Rattle.edge_types.specs.Pieces.{StandsAt};
+
     /// No bytes. Takes no memory.
     pub fn new() -> SharedBytes
         ensures { result ≡ [] }
@@ -89,6 +91,22 @@ impl SharedBytes {
         Ok(SharedBytes {
             bytes: self.bytes.slice(from..to)?,
         })
+    }
+
+    /// A second owner of these bytes, if they stand here from `from` on; else `None`. Refused only if the count of
+    /// owners is full.
+    pub fn part_at(&self, from: usize, bytes: &[u8]) -> Result<Option<SharedBytes>, NoMemory>
+        ensures { IfOk result (λ found. MatchOption found (¬ StandsAt from bytes.now self.now)
+            (λ part. (part ≡ bytes.now) × StandsAt from bytes.now self.now)) }
+    {
+        if from > self.len() || bytes.len() > self.len() - from {
+            return Ok(None);
+        }
+        let part = self.part(from, from + bytes.len())?;
+        if part.as_bytes() != bytes {
+            return Ok(None);
+        }
+        Ok(Some(part))
     }
 
     /// Gives the bytes up as those of a frame. Takes no memory.

@@ -1,10 +1,11 @@
 -- The values of parts, one after another.
-use Rattle.std.proofs.Common.{◌≡◌, ℕ, ◌+◌, ◌<◌, ◌≤◌, List, ◌∷◌, ◌++◌, length, drop, get_or, Some, None, refl, sym, ◌∙◌, ap, append_assoc, arith}
+use Rattle.std.proofs.Common.{◌≡◌, ℕ, Bool, true, false, [], ◌+◌, ◌<◌, ◌≤◌, List, ◌∷◌, ◌++◌, length, drop, get_or, Some, None, refl, sym, ◌∙◌, ap, append_assoc, arith}
 use Rattle.std.proofs.lemmas.Bool.{le-leb, lt-leb}
 use Rattle.std.proofs.lemmas.List.{drop_more, drop_all, append-nil, length-append}
 use Rattle.edge_types.specs.declared.request.Request.{Request}
 use Rattle.esi_vars.specs.declared.part.Part.{Part}
-use Rattle.esi_vars.specs.Values.{part_value, substituted, within}
+use Rattle.edge_types.specs.Pieces.{joined, with_piece, with_pieces}
+use Rattle.esi_vars.specs.Values.{part_value, substituted, within, is_long, value_pieces}
 
 pub substituted_turn : (request : Request) (text text1 : List ℕ) (parts : List Part) (i : ℕ) (p : Part) (all : List ℕ) → i < length parts → p ≡ get_or parts i p
     → text1 ≡ text ++ part_value request p → text ++ substituted request (drop i parts) ≡ all → text1 ++ substituted request (drop (i + 1) parts) ≡ all
@@ -36,3 +37,32 @@ past_limit request limit text parts i p all within_parts at long so_far =
     let whole : text ++ (part_value request p ++ rest) ≡ all = ap (λ ps. text ++ substituted request ps) (sym cut) ∙ so_far in
     let len : limit < length all = omega (arith, ap length whole, length-append text (part_value request p ++ rest), length-append (part_value request p) rest) in
     rw (lt-leb (length all) limit len) refl
+
+-- the pieces of the values have their bytes, whatever the run before them
+pub joined_values : (request : Request) (run : List ℕ) (parts : List Part) → joined (value_pieces request run parts) ≡ run ++ substituted request parts
+unfolding substituted
+joined_values request run [] = refl
+joined_values request run (p ∷ ps) = by_length (is_long (part_value request p)) refl (joined_values request [] ps) (joined_values request (run ++ part_value request p) ps)
+  where
+    value : List ℕ
+    value = part_value request p
+
+    by_length : (long : Bool) → is_long value ≡ long → joined (value_pieces request [] ps) ≡ substituted request ps
+        → joined (value_pieces request (run ++ value) ps) ≡ (run ++ value) ++ substituted request ps → joined (value_pieces request run (p ∷ ps)) ≡ run ++ (value ++ substituted request ps)
+    by_length true is apart together = rw is (ap (λ rest. run ++ (value ++ rest)) apart)
+    by_length false is apart together = rw is (together ∙ append_assoc run value (substituted request ps))
+
+-- one part more is put out, and then all are
+module _ (request : Request) (body : List (List ℕ)) (run : List ℕ) (parts : List Part) (i : ℕ) (all : List (List ℕ)) where
+  abbrev SoFar : Type 0
+  SoFar = with_pieces body (value_pieces request run (drop i parts)) ≡ all
+
+  pub pieces_turn : (body1 : List (List ℕ)) (run1 : List ℕ) (p : Part) → i < length parts → p ≡ get_or parts i p
+      → ((rest : List Part) → with_pieces body1 (value_pieces request run1 rest) ≡ with_pieces body (value_pieces request run (p ∷ rest)))
+      → SoFar → with_pieces body1 (value_pieces request run1 (drop (i + 1) parts)) ≡ all
+  pieces_turn body1 run1 p within at put so_far =
+      let cut : drop i parts ≡ p ∷ drop (i + 1) parts = drop_more parts i p within ∙ ap (λ q. q ∷ drop (i + 1) parts) (sym at) in
+      put (drop (i + 1) parts) ∙ ap (λ ps. with_pieces body (value_pieces request run ps)) (sym cut) ∙ so_far
+
+  pub pieces_end : length parts ≤ i → SoFar → with_piece body run ≡ all
+  pieces_end past so_far = ap (λ ps. with_pieces body (value_pieces request run ps)) (sym (drop_all i parts past)) ∙ so_far

@@ -1,5 +1,5 @@
 -- Laws of reading and of values, over the definitions alone.
-use Rattle.std.specs.Prelude.{◌≡◌, ◌↔◌, ℕ, ◌<◌, List, ◌++◌, length, Some, None}
+use Rattle.std.specs.Prelude.{◌≡◌, ◌↔◌, ℕ, ◌<◌, List, [], ◌++◌, length, Some, None}
 use Rattle.std.specs.Str.Iter.{HasSubslice}
 use Rattle.edge_types.specs.declared.request.Request.{Request}
 use Rattle.esi_vars.specs.declared.reference.Reference.{Reference}
@@ -8,7 +8,8 @@ use Rattle.esi_vars.specs.Reference.{IsReference}
 use Rattle.esi_vars.specs.Reading.{reference_at}
 use Rattle.esi_vars.specs.Spelling.{Spells}
 use Rattle.esi_vars.specs.Parts.{parts_of}
-use Rattle.esi_vars.specs.Values.{substituted, text_of}
+use Rattle.edge_types.specs.Pieces.{joined}
+use Rattle.esi_vars.specs.Values.{substituted, text_of, value_pieces}
 use Rattle.esi_vars.specs.Field.{parts_between, halves, named}
 use Rattle.esi_vars.specs.Agent.{behind}
 use Rattle.esi_vars.specs.Finds.{AreParts, AreHalves, IsNamed, IsBehind}
@@ -28,6 +29,10 @@ PartsAreOne = (parts : List Part) (text : List ℕ) → Spells parts text → pa
 -- substituting the parts gives the text with its references replaced
 abbrev pub SubstitutesText : Type 0
 SubstitutesText = (request : Request) (text : List ℕ) → substituted request (parts_of text) ≡ text_of request text
+
+-- the pieces of the values, joined, are the values one after another
+abbrev pub PiecesAreValues : Type 0
+PiecesAreValues = (request : Request) (parts : List Part) → joined (value_pieces request [] parts) ≡ substituted request parts
 
 -- the parts between such bytes are those that the bytes separate
 abbrev pub CutsFields : Type 0

@@ -1,29 +1,28 @@
 -- What references denote, and the text in which each is replaced by its value (ESI Language Specification 1.0,
 -- "Variables"; the parts of fields are our profile).
-use Rattle.std.specs.Prelude.{ℕ, nat_le, List, [], ◌∷◌, length, Option, Some, None, if◌then◌else◌}
+use Rattle.std.specs.Prelude.{ℕ, Bool, nat_le, List, [], ◌∷◌, ◌++◌, length, Option, Some, None, option_map, unwrap_or, if◌then◌else◌}
 use Rattle.std.specs.List.{flat_map}
 use Rattle.edge_types.specs.declared.request.Request.{Request}
-use Rattle.edge_types.specs.declared.request.RequestField.{RequestField}
 use Rattle.edge_types.specs.Request.{field_of}
 use Rattle.esi_vars.specs.declared.reference.Variable.{Variable}
 use Rattle.esi_vars.specs.declared.reference.Variable.TheVariants.{HttpAcceptLanguage, HttpCookie, HttpUserAgent, QueryString}
 use Rattle.esi_vars.specs.declared.reference.Reference.{Reference}
 use Rattle.esi_vars.specs.declared.part.Part.{Part}
 use Rattle.esi_vars.specs.declared.part.Part.TheVariants as part
+use Rattle.esi_vars.specs.declared.pieces.TheConstants.{LONG_VALUE}
 use Rattle.esi_vars.specs.Reference.{field_asked}
 use Rattle.esi_vars.specs.Field.{cookie_value, query_value, language_value}
 use Rattle.esi_vars.specs.Agent.{agent_value}
 use Rattle.esi_vars.specs.Parts.{places_of}
 
--- what the request says of a field; nothing if none is asked for
-abbrev pub field_value : Request → Option RequestField → List ℕ
-field_value request (Some field) = field_of request field
-field_value request None = []
+-- what a variable asks of the request, if it asks for anything
+abbrev pub asked_of : Request → Variable → Option (List ℕ)
+asked_of request QueryString = Some request.query
+asked_of request variable = option_map (field_of request) (field_asked variable)
 
--- a variable without a key: the whole field
+-- a variable without a key: the whole of that
 abbrev pub whole_value : Request → Variable → List ℕ
-whole_value request QueryString = request.query
-whole_value request variable = field_value request (field_asked variable)
+whole_value request variable = unwrap_or (asked_of request variable) []
 
 -- a variable with a key: the part of the field; only these four have parts
 abbrev pub keyed_value : Request → Variable → List ℕ → List ℕ
@@ -56,6 +55,18 @@ part_value request (part.Reference r) = value_of request r
 -- the values of parts, one after another
 unfoldable pub substituted : Request → List Part → List ℕ
 substituted request parts = flat_map (part_value request) parts
+
+-- a value that is a piece of a page by itself; a shorter one is joined with what is around it (our profile)
+unfoldable pub is_long : List ℕ → Bool
+is_long value = nat_le LONG_VALUE (length value)
+
+-- the values of parts as the pieces of a page, with this run of short ones before them
+abbrev pub value_pieces : Request → List ℕ → List Part → List (List ℕ)
+value_pieces request run [] = run ∷ []
+value_pieces request run (part ∷ parts) =
+    if is_long (part_value request part)
+    then run ∷ part_value request part ∷ value_pieces request [] parts
+    else value_pieces request (run ++ part_value request part) parts
 
 -- the text, if it is no longer than the limit
 abbrev pub within : ℕ → List ℕ → Option (List ℕ)

@@ -5,6 +5,7 @@ ghost use Rattle.std.specs.Option.{option_copied};
 ghost use Rattle.esi_vars.specs.Agent as spec;
 
 use crate::bytes::{ByteClass, run_len};
+use crate::looked_up::LookedUp;
 use memchr::memmem;
 
 /// The kind of a user agent.
@@ -17,20 +18,20 @@ pub(crate) enum Browser {
 
 /// What a field says under a key; nothing under another key, or if the field is empty.
 #[tactic(auto, unfolding(crate::specs::Agent::agent_value))]
-pub(crate) fn agent_value<'a>(key: &[u8], agent: &'a [u8]) -> &'a [u8]
-    ensures { result.now ≡ spec.agent_value key.now agent.now }
+pub(crate) fn agent_value<'a>(key: &[u8], agent: &'a [u8]) -> LookedUp<'a>
+    ensures { result.value.now ≡ spec.agent_value key.now agent.now }
 {
     if agent.is_empty() {
-        return b"";
+        return LookedUp::whole(b"");
     }
     if key == b"browser".as_slice() {
-        browser_name(browser_of(agent))
+        LookedUp::whole(browser_name(browser_of(agent)))
     } else if key == b"version".as_slice() {
         version_of(browser_of(agent), agent)
     } else if key == b"os".as_slice() {
-        system_of(agent)
+        LookedUp::whole(system_of(agent))
     } else {
-        b""
+        LookedUp::whole(b"")
     }
 }
 
@@ -60,23 +61,26 @@ fn browser_name(browser: Browser) -> &'static [u8]
 }
 
 // The version after the browser's mark.
-fn version_of(browser: Browser, agent: &[u8]) -> &[u8]
-    ensures { result.now ≡ spec.version_of browser agent.now }
+fn version_of(browser: Browser, agent: &[u8]) -> LookedUp<'_>
+    ensures { result.value.now ≡ spec.version_of browser agent.now }
 {
     match browser {
-        Browser::Msie => version_at(behind(b"MSIE ", agent)),
-        Browser::Mozilla => version_at(behind(b"Mozilla/", agent)),
-        Browser::Other => b"",
+        Browser::Msie => version_at(agent, behind(b"MSIE ", agent)),
+        Browser::Mozilla => version_at(agent, behind(b"Mozilla/", agent)),
+        Browser::Other => LookedUp::whole(b""),
     }
 }
 
 // The digits and points at the front of what was found.
-fn version_at(found: Option<&[u8]>) -> &[u8]
-    ensures { result.now ≡ spec.version_at (option_copied found.entry) }
+fn version_at<'a>(agent: &[u8], found: Option<&'a [u8]>) -> LookedUp<'a>
+    ensures { result.value.now ≡ spec.version_at (option_copied found.entry) }
 {
     match found {
-        Some(text) => text.split_at(run_len(ByteClass::Version, text)).0,
-        None => b"",
+        Some(text) => {
+            let version = text.split_at(run_len(ByteClass::Version, text)).0;
+            LookedUp::behind(version, agent, text, 0)
+        }
+        None => LookedUp::whole(b""),
     }
 }
 

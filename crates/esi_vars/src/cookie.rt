@@ -4,12 +4,13 @@ ghost use Rattle.std.specs.Prelude.{◌≡◌};
 ghost use Rattle.esi_vars.specs.Field as spec;
 
 use crate::field::{first_part, from_name, halves};
-use edge_types::trimmed;
+use crate::looked_up::LookedUp;
+use edge_types::{skip_blanks, trimmed};
 use memchr::memmem::Finder;
 
 /// The value of the first cookie with this name, or nothing.
-pub(crate) fn cookie_value<'a>(name: &[u8], field: &'a [u8]) -> &'a [u8]
-    ensures { result.now ≡ spec.cookie_value name.now field.now }
+pub(crate) fn cookie_value<'a>(name: &[u8], field: &'a [u8]) -> LookedUp<'a>
+    ensures { result.value.now ≡ spec.cookie_value name.now field.now }
 {
     let finder = Finder::new(name);
     let mut rest = Some(field);
@@ -20,9 +21,9 @@ pub(crate) fn cookie_value<'a>(name: &[u8], field: &'a [u8]) -> &'a [u8]
         let (part, after) = first_part(b';', text);
         let (found, value) = halves(b'=', trimmed(part));
         if found == name {
-            return value;
+            return LookedUp::behind(value, field, skip_blanks(text), name.len() + 1);
         }
         rest = after;
     }
-    b""
+    LookedUp::whole(b"")
 }

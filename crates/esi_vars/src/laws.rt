@@ -1,7 +1,10 @@
 //! Laws that tie the definitions together. Each function's clauses are its laws; none of them does anything.
 
+ghost use Rattle.std.specs.Prelude.{◌≡◌};
 ghost use Rattle.edge_types.specs.Trimming.{TrimsTexts};
-ghost use Rattle.esi_vars.specs.Laws.{ReadsReferences, PartsSpell, PartsAreOne, SubstitutesText, CutsFields, CutsOnce, LooksUp, FindsTheFirst, FindsNone};
+ghost use Rattle.esi_vars.specs.Laws.{ReadsReferences, PartsSpell, PartsAreOne, SubstitutesText, PiecesAreValues, CutsFields, CutsOnce, LooksUp, FindsTheFirst, FindsNone};
+
+use crate::pieces::LONG_VALUE;
 
 /// A reference is read at the front of a text, with what follows it, exactly if one is spelled there.
 pub fn references_are_read()
@@ -14,9 +17,11 @@ pub fn parts_spell_the_text()
     ensures one { PartsAreOne }
 {}
 
-/// The parts of a text, substituted, are the text with each reference replaced by its value.
+/// The parts of a text, substituted, are the text with each reference replaced by its value; so are the pieces that a page
+/// gets of them, joined.
 pub fn substitution_replaces_references()
-    ensures { SubstitutesText }
+    ensures text { SubstitutesText }
+    ensures pieces { PiecesAreValues }
 {}
 
 /// A field is cut into the parts between its separators, a text loses the spaces and tabs at its ends and no others,
@@ -37,4 +42,9 @@ pub fn first_part_of_a_name_counts()
 pub fn words_are_found_first()
     ensures found { FindsTheFirst }
     ensures none { FindsNone }
+{}
+
+/// From how many bytes on a value is a piece of a page by itself, as a number.
+pub fn limits_of_values()
+    ensures { LONG_VALUE ≡ 256 }
 {}

@@ -140,7 +140,7 @@ pub fn substitute_within(
 }
 
 // What a part denotes.
-fn part_value<'a>(request: &'a Request, part: &'a Part) -> &'a [u8]
+pub(crate) fn part_value<'a>(request: &'a Request, part: &'a Part) -> &'a [u8]
     ensures { result.now ≡ part_value request.now part.now }
 {
     match part {

@@ -4,11 +4,12 @@ ghost use Rattle.std.specs.Prelude.{◌≡◌};
 ghost use Rattle.esi_vars.specs.Field as spec;
 
 use crate::field::{first_part, from_name, halves};
+use crate::looked_up::LookedUp;
 use memchr::memmem::Finder;
 
 /// The value of the first part of a query with this name, or nothing.
-pub(crate) fn query_value<'a>(name: &[u8], field: &'a [u8]) -> &'a [u8]
-    ensures { result.now ≡ spec.query_value name.now field.now }
+pub(crate) fn query_value<'a>(name: &[u8], field: &'a [u8]) -> LookedUp<'a>
+    ensures { result.value.now ≡ spec.query_value name.now field.now }
 {
     let finder = Finder::new(name);
     let mut rest = Some(field);
@@ -19,9 +20,9 @@ pub(crate) fn query_value<'a>(name: &[u8], field: &'a [u8]) -> &'a [u8]
         let (part, after) = first_part(b'&', text);
         let (found, value) = halves(b'=', part);
         if found == name {
-            return value;
+            return LookedUp::behind(value, field, text, name.len() + 1);
         }
         rest = after;
     }
-    b""
+    LookedUp::whole(b"")
 }

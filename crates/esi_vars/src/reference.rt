@@ -7,7 +7,7 @@ ghost use Rattle.esi_vars.specs.Reading.{reference_at, reference_of};
 ghost use Rattle.esi_vars.specs.Shown.{shown_reference, shown_written};
 
 use crate::written::{Written, written_at};
-use edge_types::{NoMemory, Octets, RequestField};
+use edge_types::{NoMemory, Octets, RequestField, SharedBytes};
 use std::alloc::Global;
 
 /// What a reference asks for in the request.
@@ -61,8 +61,8 @@ pub struct Reference {
     pub variable: Variable,
     /// The part of the variable that is asked for, without quotes.
     pub key: Option<Octets>,
-    /// What replaces an empty value, without quotes.
-    pub default: Option<Octets>,
+    /// What replaces an empty value, without quotes; a page may hold it at many places.
+    pub default: Option<SharedBytes>,
 }
 
 /// The reference at the front of a text, and what follows it; `None` if none begins there.
@@ -87,7 +87,7 @@ pub(crate) fn owned(alloc: Global, written: Written<'_>) -> Result<Reference, No
     Ok(Reference {
         variable: variable_of(alloc, written.name)?,
         key: copied(alloc, written.key)?,
-        default: copied(alloc, written.default)?,
+        default: copied_once(alloc, written.default)?,
     })
 }
 
@@ -118,6 +118,16 @@ fn copied(alloc: Global, bytes: Option<&[u8]>) -> Result<Option<Octets>, NoMemor
 {
     match bytes {
         Some(bytes) => Ok(Some(Octets::copy_of(alloc, bytes)?)),
+        None => Ok(None),
+    }
+}
+
+// A copy of the bytes for several owners, if there are any.
+fn copied_once(alloc: Global, bytes: Option<&[u8]>) -> Result<Option<SharedBytes>, NoMemory>
+    ensures { IfOk result (λ copy. copy ≡ option_copied bytes.entry) }
+{
+    match bytes {
+        Some(bytes) => Ok(Some(SharedBytes::copy_of(alloc, bytes)?)),
         None => Ok(None),
     }
 }

@@ -1,14 +1,17 @@
 //! The values of references for a request.
 
-ghost use Rattle.std.specs.Prelude.{◌≡◌};
-ghost use Rattle.esi_vars.specs.Values.{value_of, raw_value, whole_value, field_value, keyed_value};
+ghost use Rattle.std.specs.Prelude.{◌≡◌, IfOk};
+ghost use Rattle.std.specs.Option.{option_copied};
+ghost use Rattle.esi_vars.specs.Values.{value_of, raw_value, whole_value, asked_of, keyed_value};
 
 use crate::agent::agent_value;
 use crate::cookie::cookie_value;
 use crate::language::language_value;
+use crate::looked_up::LookedUp;
 use crate::query::query_value;
 use crate::reference::{Reference, Variable};
-use edge_types::{Octets, Request, RequestField};
+use edge_types::{NoMemory, Octets, Request, SharedBytes};
+use std::alloc::Global;
 
 /// The bytes that a reference denotes: what the request says, else the default, else nothing.
 ///
@@ -19,7 +22,7 @@ use edge_types::{Octets, Request, RequestField};
 pub fn value<'a>(request: &'a Request, reference: &'a Reference) -> &'a [u8]
     ensures { result.now ≡ value_of request.now reference.now }
 {
-    let said = raw_value(request, &reference.variable, &reference.key);
+    let said = raw_value(request, &reference.variable, &reference.key).value;
     if !said.is_empty() {
         return said;
     }
@@ -29,12 +32,65 @@ pub fn value<'a>(request: &'a Request, reference: &'a Reference) -> &'a [u8]
     }
 }
 
+/// The bytes that a reference denotes, as `value` says, for one more owner: a part of the request's field or of the
+/// reference, of which nothing is copied.
+///
+/// `NoMemory` if an owner can't be made.
+///
+/// Source: ESI Language Specification 1.0, "Variables"; how parts of a field are found is our profile.
+#[tactic(auto, unfolding(crate::specs::Values::value_of))]
+pub fn shared_value(
+    alloc: Global,
+    request: &Request,
+    reference: &Reference,
+) -> Result<SharedBytes, NoMemory>
+    ensures { IfOk result (λ value. value ≡ value_of request.now reference.now) }
+{
+    let said = raw_value(request, &reference.variable, &reference.key);
+    if !said.value.is_empty() {
+        return shared(alloc, request, &reference.variable, said);
+    }
+    match &reference.default {
+        Some(default) => default.share(),
+        None => Ok(SharedBytes::new()),
+    }
+}
+
+// A value as a part of the field in which it stands. One that doesn't, as a name of the language's own, is copied.
+fn shared(
+    alloc: Global,
+    request: &Request,
+    variable: &Variable,
+    said: LookedUp<'_>,
+) -> Result<SharedBytes, NoMemory>
+    ensures { IfOk result (λ value. value ≡ said.entry.value.now) }
+{
+    let part = match field_of(request, variable) {
+        Some(field) => field.part_at(said.place, said.value)?,
+        None => None,
+    };
+    match part {
+        Some(part) => Ok(part),
+        None => SharedBytes::copy_of(alloc, said.value),
+    }
+}
+
+// What a variable asks of the request, if it asks for anything.
+fn field_of<'a>(request: &'a Request, variable: &Variable) -> Option<&'a SharedBytes>
+    ensures { option_copied result ≡ asked_of request.now variable.now }
+{
+    match variable {
+        Variable::QueryString => Some(&request.query),
+        _ => Some(request.field(variable.field()?)),
+    }
+}
+
 // What the request says, before any default is considered.
-fn raw_value<'a>(request: &'a Request, variable: &Variable, key: &Option<Octets>) -> &'a [u8]
-    ensures { result.now ≡ raw_value request.now variable.now key.now }
+fn raw_value<'a>(request: &'a Request, variable: &Variable, key: &Option<Octets>) -> LookedUp<'a>
+    ensures { result.value.now ≡ raw_value request.now variable.now key.now }
 {
     match key {
-        None => whole_value(request, variable),
+        None => LookedUp::whole(whole_value(request, variable)),
         Some(key) => keyed_value(request, variable, key.as_bytes()),
     }
 }
@@ -43,32 +99,24 @@ fn raw_value<'a>(request: &'a Request, variable: &Variable, key: &Option<Octets>
 fn whole_value<'a>(request: &'a Request, variable: &Variable) -> &'a [u8]
     ensures { result.now ≡ whole_value request.now variable.now }
 {
-    match variable {
-        Variable::QueryString => request.query.as_bytes(),
-        _ => field_value(request, variable.field()),
-    }
-}
-
-// What the request says of a field; nothing if none is asked for.
-fn field_value(request: &Request, field: Option<RequestField>) -> &[u8]
-    ensures { result.now ≡ field_value request.now field }
-{
-    match field {
-        Some(field) => request.field(field).as_bytes(),
+    match field_of(request, variable) {
+        Some(field) => field.as_bytes(),
         None => b"",
     }
 }
 
 // The part of a variable that a key names.
-fn keyed_value<'a>(request: &'a Request, variable: &Variable, key: &[u8]) -> &'a [u8]
-    ensures { result.now ≡ keyed_value request.now variable.now key.now }
+fn keyed_value<'a>(request: &'a Request, variable: &Variable, key: &[u8]) -> LookedUp<'a>
+    ensures { result.value.now ≡ keyed_value request.now variable.now key.now }
 {
     match variable {
-        Variable::HttpAcceptLanguage => language_value(key, request.accept_language.as_bytes()),
+        Variable::HttpAcceptLanguage => {
+            LookedUp::whole(language_value(key, request.accept_language.as_bytes()))
+        }
         Variable::HttpCookie => cookie_value(key, request.cookie.as_bytes()),
         Variable::HttpUserAgent => agent_value(key, request.user_agent.as_bytes()),
         Variable::QueryString => query_value(key, request.query.as_bytes()),
         // No other variable has parts.
-        _ => b"",
+        _ => LookedUp::whole(b""),
     }
 }

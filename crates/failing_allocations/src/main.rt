@@ -52,6 +52,7 @@ fn call_of_text(rt: &HostRuntime, name: &str) -> Option<()> {
         "parts" => texts::parts(rt, name),
         "substitute" => texts::substitute(rt, name),
         "substitute_within" => texts::substitute_within(rt, name),
+        "push_values" => texts::push_values(rt, name),
         "reference_at" => texts::reference_at(rt, name),
         "trouble_of" => texts::trouble_of(rt, name),
         "template" => texts::template(rt, name),

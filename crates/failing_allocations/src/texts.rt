@@ -2,7 +2,7 @@
 
 use allocation_tools::printing::{answers, bytes, calls, number, out_of_memory, word};
 use allocation_tools::values::request;
-use edge_types::{NoMemory, SharedBytes};
+use edge_types::{NoMemory, PageBody, SharedBytes};
 use esi_scanner::{Kind, ScanFault, Token};
 use esi_tree::{Node, TreeFault};
 use esi_vars::{Part, Reference};
@@ -123,6 +123,30 @@ pub fn substitute_within(rt: &HostRuntime, name: &str) -> Option<()> {
         Ok(None) => word(rt, "too long"),
         Err(NoMemory) => out_of_memory(rt),
     }
+}
+
+/// With a cookie whose value is a piece by itself: the lengths of the pieces.
+pub fn push_values(rt: &HostRuntime, name: &str) -> Option<()> {
+    let mut request = request(rt.alloc())?;
+    let mut cookie = b"c=".to_vec(rt.alloc()).ok()?;
+    cookie.extend_from_slice(&[b'x'; 300]).ok()?;
+    request.cookie = SharedBytes::of(cookie).ok()?;
+    let parts = parts_of(rt.alloc())?;
+    let mut body = PageBody::new(rt.alloc());
+    calls(rt, name)?;
+    let put = esi_vars::push_values(rt.alloc(), &request, parts.as_slice(), &mut body, 400);
+    answers(rt)?;
+    match put {
+        Ok(()) => print_lengths(rt, &body),
+        Err(NoMemory) => out_of_memory(rt),
+    }
+}
+
+fn print_lengths(rt: &HostRuntime, body: &PageBody) -> Option<()> {
+    for i in 0..body.mark() {
+        number(rt, body.piece(i)?.len())?;
+    }
+    Some(())
 }
 
 pub fn reference_at(rt: &HostRuntime, name: &str) -> Option<()> {

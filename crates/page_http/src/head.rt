@@ -7,7 +7,7 @@ ghost use Rattle.page_http.specs.declared.head.HeadFault.TheVariants as fault;
 ghost use Rattle.page_http.specs.Head as spec;
 
 use crate::field::{Field, first_value, joined_values, next_value};
-use edge_types::{NoMemory, Octets, PageUrl, Request, RequestField, SaysFields, query_of};
+use edge_types::{NoMemory, PageUrl, Request, RequestField, SaysFields, SharedBytes, query_of};
 use std::alloc::Global;
 use thiserror::Error;
 
@@ -94,12 +94,12 @@ impl SaysFields for Lines<'_> {
 
     ghost says = { λ lines field. field_said lines.host.now lines.fields.now field };
 
-    fn said(&self, alloc: Global, field: RequestField) -> Result<Octets, NoMemory> {
+    fn said(&self, alloc: Global, field: RequestField) -> Result<SharedBytes, NoMemory> {
         match field {
-            RequestField::Host => Octets::copy_of(alloc, self.host),
+            RequestField::Host => SharedBytes::copy_of(alloc, self.host),
             RequestField::Cookie => cookies_of(alloc, self.fields),
             // Of any other the first line counts.
-            _ => Octets::copy_of(alloc, first_value(field.line_name(), self.fields)),
+            _ => SharedBytes::copy_of(alloc, first_value(field.line_name(), self.fields)),
         }
     }
 }
@@ -113,7 +113,8 @@ fn request_of(
 ) -> Result<Request, NoMemory>
     ensures { IfOk result (λ request. request ≡ spec.said host.now target.now fields.now) }
 {
-    Request::said_by(alloc, &Lines { host, fields }, query_of(target))
+    let query = SharedBytes::copy_of(alloc, query_of(target))?;
+    Request::said_by(alloc, &Lines { host, fields }, query)
 }
 
 // The value of the `Host` field, if there is exactly one.
@@ -160,8 +161,8 @@ fn url_of(alloc: Global, host: &[u8], target: &[u8]) -> Result<Option<PageUrl>, 
 }
 
 // The lines of `Cookie`, joined.
-fn cookies_of(alloc: Global, fields: &[Field<'_>]) -> Result<Octets, NoMemory>
+fn cookies_of(alloc: Global, fields: &[Field<'_>]) -> Result<SharedBytes, NoMemory>
     ensures { IfOk result (λ cookie. cookie ≡ spec.cookies_of fields.now) }
 {
-    Ok(Octets::of(joined_values(alloc, b"cookie", b"; ", fields)?))
+    SharedBytes::of(joined_values(alloc, b"cookie", b"; ", fields)?)
 }

@@ -8,10 +8,11 @@ use Rattle.edge_types.specs.declared.request.Request.{Request}
 use Rattle.edge_types.specs.declared.answer.Reply.{Reply}
 use Rattle.edge_types.specs.Answered.{Answered, succeeded, processed, body_of}
 use Rattle.edge_types.specs.Asked.{resolve}
-use Rattle.edge_types.specs.Pieces.{joined, with_piece}
+use Rattle.edge_types.specs.Pieces.{joined, with_piece, with_pieces}
 use Rattle.edge_types.specs.Table.{answer_of, reply_in, reply_of}
 use Rattle.esi_vars.specs.declared.part.Part.{Part}
-use Rattle.esi_vars.specs.Values.{substituted}
+use Rattle.esi_vars.specs.Values.{substituted, value_pieces}
+use Rattle.esi_vars.proofs.ValuesLemmas.{joined_values}
 use Rattle.esi_expr.specs.Truth.{holds}
 use Rattle.esi_tree.specs.Tree.{Elements}
 use Rattle.esi_tree.specs.Reading.{tree_of}
@@ -33,7 +34,7 @@ use Rattle.plan_compiler.proofs.Flow.{plan_means_the_tree}
 use Rattle.plan_compiler.proofs.Single.{templates_are_single}
 use Rattle.plan_machine.proofs.Entries.{entry_means, entry_within}
 use Rattle.plan_machine.proofs.Flows.{run_of, flow_handler, closer-flow_handlers, flow_after, left_cons}
-use Rattle.plan_machine.proofs.Stacks.{handlers_of, Marked, FitsIn, Well, marked_below, SameBelow, same_itself, same_push, joined_push, longer, goes_is, moved_is, unwound_is, WellMachine, goes_machine, unwound_machine, unwound_legs}
+use Rattle.plan_machine.proofs.Stacks.{handlers_of, Marked, FitsIn, Well, marked_below, SameBelow, same_itself, same_push, same_push_all, joined_push, joined_push_all, longer, longer_by_all, goes_is, moved_is, unwound_is, WellMachine, goes_machine, unwound_machine, unwound_legs}
 
 abbrev Going : Type 0
 Going = ℕ → List FlowHandler → List ℕ → Run
@@ -95,19 +96,31 @@ module _ (r : Request) (log : List Answered) where
         (moved_is r log f fs out new (length out) k at hs (joined new) here s m ∙ sym (goes_is r log n new (handled f at hs ∷ fs))) refl
         (goes_machine n new (handled f at hs ∷ fs) (well_at at hs new le (marked_below (length out) (length new) (hs ++ handlers_of fs) le m)))
 
+    -- output that has more text than before
+    put_is : (n : ℕ) (text : List ℕ) (new : List (List ℕ)) → joined new ≡ joined out ++ text → SameBelow (length out) out new
+        → followed (go zero here_handlers (joined out ++ text)) below ≡ still_to_come r log (goes n new (f ∷ fs))
+    put_is n text new more same =
+        ap (λ (o : List ℕ). followed (go zero here_handlers o) below) (sym more)
+        ∙ moved_is r log f fs out new (length out) zero f.at f.handlers (joined new) (omega arith) same well.marks
+        ∙ sym (goes_is r log n new (f ∷ fs))
+
+    put_well : (n : ℕ) (new : List (List ℕ)) → length out ≤ length new → WellMachine (goes n new (f ∷ fs))
+    put_well n new le =
+        goes_machine n new (f ∷ fs) (record { marks = marked_below (length out) (length new) (handlers_of (f ∷ fs)) le well.marks; fits = well.fits })
+
+    put : (text : List ℕ) (new : List (List ℕ)) → joined new ≡ joined out ++ text → SameBelow (length out) out new → length out ≤ length new
+        → Kept r log legs (followed (go zero here_handlers (joined out ++ text)) below) (goes legs new (f ∷ fs))
+    put text new more same le =
+        kept_alone legs (followed (go zero here_handlers (joined out ++ text)) below) (goes legs new (f ∷ fs)) (put_is legs text new more same) refl (put_well legs new le)
+
     texted_is : (n : ℕ) (text : List ℕ) → followed (go zero here_handlers (joined out ++ text)) below ≡ still_to_come r log (goes n (with_piece out text) (f ∷ fs))
-    texted_is n text =
-        ap (λ (o : List ℕ). followed (go zero here_handlers o) below) (sym (joined_push out text))
-        ∙ moved_is r log f fs out (with_piece out text) (length out) zero f.at f.handlers (joined (with_piece out text)) (omega arith) (same_push out text) well.marks
-        ∙ sym (goes_is r log n (with_piece out text) (f ∷ fs))
+    texted_is n text = put_is n text (with_piece out text) (joined_push out text) (same_push out text)
 
     texted_well : (n : ℕ) (text : List ℕ) → WellMachine (goes n (with_piece out text) (f ∷ fs))
-    texted_well n text =
-        goes_machine n (with_piece out text) (f ∷ fs)
-        (record { marks = marked_below (length out) (length (with_piece out text)) (handlers_of (f ∷ fs)) (longer out text) well.marks; fits = well.fits })
+    texted_well n text = put_well n (with_piece out text) (longer out text)
 
     texted : (text : List ℕ) → Kept r log legs (followed (go zero here_handlers (joined out ++ text)) below) (goes legs (with_piece out text) (f ∷ fs))
-    texted text = kept_alone legs (followed (go zero here_handlers (joined out ++ text)) below) (goes legs (with_piece out text) (f ∷ fs)) (texted_is legs text) refl (texted_well legs text)
+    texted text = put text (with_piece out text) (joined_push out text) (same_push out text) (longer out text)
 
     failed_is : (n : ℕ) → followed (failing go here_handlers) below ≡ still_to_come r log (unwound n out (f ∷ fs))
     failed_is n = sym (unwound_is r log n out (f ∷ fs) well.marks)
@@ -232,7 +245,10 @@ module _ (r : Request) (log : List Answered) where
 
     doing_kept : (s : Step) (m : Machine) → doing r log legs out f fs s ≡ Went m → Kept r log legs (done_by s) m
     doing_kept (Text text) m e = kept_as legs (done_by (Text text)) (goes legs (with_piece out text) (f ∷ fs)) m (texted text) e
-    doing_kept (Values parts) m e = kept_as legs (done_by (Values parts)) (goes legs (with_piece out (substituted r parts)) (f ∷ fs)) m (texted (substituted r parts)) e
+    doing_kept (Values parts) m e =
+        let pieces : List (List ℕ) = value_pieces r [] parts in
+        let more : joined (with_pieces out pieces) ≡ joined out ++ substituted r parts = joined_push_all out pieces ∙ ap (λ (x : List ℕ). joined out ++ x) (joined_values r [] parts) in
+        kept_as legs (done_by (Values parts)) (goes legs (with_pieces out pieces) (f ∷ fs)) m (put (substituted r parts) (with_pieces out pieces) more (same_push_all out pieces) (longer_by_all out pieces)) e
     doing_kept (Test test skip) m e =
         let k : ℕ = if holds r test then zero else skip in
         kept_as legs (done_by (Test test skip)) (goes legs out (moved f (f.at + k) ∷ fs)) m (goes_on (f.at + k) k f.handlers out refl (same_itself (length out) out) (omega arith) well.marks legs) e

@@ -5,10 +5,10 @@ use Rattle.edge_types.specs.declared.request.Request.{Request}
 use Rattle.edge_types.specs.declared.answer.Reply.{Reply}
 use Rattle.edge_types.specs.Answered.{Answered, succeeded, processed, body_of}
 use Rattle.edge_types.specs.Asked.{resolve}
-use Rattle.edge_types.specs.Pieces.{with_piece}
+use Rattle.edge_types.specs.Pieces.{with_piece, with_pieces}
 use Rattle.edge_types.specs.Table.{answer_of}
 use Rattle.esi_vars.specs.declared.part.Part.{Part}
-use Rattle.esi_vars.specs.Values.{substituted}
+use Rattle.esi_vars.specs.Values.{substituted, value_pieces}
 use Rattle.esi_expr.specs.Truth.{holds}
 use Rattle.esi_tree.specs.Tree.{Elements}
 use Rattle.esi_tree.specs.Reading.{tree_of}
@@ -102,7 +102,7 @@ module _ (r : Request) (log : List Answered) where
   -- the frame f stands behind its step
   doing_leaves : (legs work : ℕ) (out : List (List ℕ)) (f : Frame) (fs : List Frame) → weight (f ∷ fs) < work → (s : Step) (n : Machine) → doing r log legs out f fs s ≡ Went n → Leaves legs work n
   doing_leaves legs work out f fs h (Text text) n e = goes_leaves legs work (with_piece out text) (f ∷ fs) h n e
-  doing_leaves legs work out f fs h (Values parts) n e = goes_leaves legs work (with_piece out (substituted r parts)) (f ∷ fs) h n e
+  doing_leaves legs work out f fs h (Values parts) n e = goes_leaves legs work (with_pieces out (value_pieces r [] parts)) (f ∷ fs) h n e
   doing_leaves legs work out f fs h (Test test skip) n e =
       let k : ℕ = if holds r test then zero else skip in
       goes_leaves legs work out (moved f (f.at + k) ∷ fs) (omega (arith, h)) n e

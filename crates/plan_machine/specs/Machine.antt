@@ -4,10 +4,10 @@ use Rattle.edge_types.specs.declared.request.Request.{Request}
 use Rattle.edge_types.specs.declared.answer.Reply.{Reply}
 use Rattle.edge_types.specs.Answered.{Answered, succeeded, processed, body_of}
 use Rattle.edge_types.specs.Asked.{resolve}
-use Rattle.edge_types.specs.Pieces.{with_piece}
+use Rattle.edge_types.specs.Pieces.{with_piece, with_pieces}
 use Rattle.edge_types.specs.Table.{answer_of}
 use Rattle.esi_vars.specs.declared.part.Part.{Part}
-use Rattle.esi_vars.specs.Values.{substituted}
+use Rattle.esi_vars.specs.Values.{substituted, value_pieces}
 use Rattle.esi_expr.specs.Truth.{holds}
 use Rattle.esi_tree.specs.Tree.{Elements}
 use Rattle.esi_tree.specs.Reading.{tree_of}
@@ -111,7 +111,7 @@ module _ (r : Request) (log : List Answered) where
   -- one step of the frame f, which is already past it, before the frames fs
   abbrev pub doing : ℕ → List (List ℕ) → Frame → List Frame → Step → Next
   doing legs out f fs (Text text) = Went (goes legs (with_piece out text) (f ∷ fs))
-  doing legs out f fs (Values parts) = Went (goes legs (with_piece out (substituted r parts)) (f ∷ fs))
+  doing legs out f fs (Values parts) = Went (goes legs (with_pieces out (value_pieces r [] parts)) (f ∷ fs))
   doing legs out f fs (Test test skip) = Went (goes legs out (moved f (f.at + (if holds r test then zero else skip)) ∷ fs))
   doing legs out f fs (Jump skip) = Went (goes legs out (moved f (f.at + skip) ∷ fs))
   doing legs out f fs (Try skip) = Went (goes legs out (handled f f.at (record { to = f.at + skip; mark = length out } ∷ f.handlers) ∷ fs))

@@ -1,10 +1,10 @@
 //! One step of a page.
-ghost use Rattle.std.specs.Prelude.{◌≡◌, ◌∷◌, ◌+◌, ◌≤◌, OnOk, IfOk, length};
+ghost use Rattle.std.specs.Prelude.{◌≡◌, [], ◌∷◌, ◌+◌, ◌≤◌, OnOk, IfOk, length};
 ghost use Rattle.std.specs.Arc.{arc_value};
 ghost use Rattle.answer_board.specs.Board.{State, answer_at, log_of};
 ghost use Rattle.edge_types.specs.declared.request.Request.{Request};
-ghost use Rattle.edge_types.specs.Pieces.{with_piece};
-ghost use Rattle.esi_vars.specs.Values.{substituted};
+ghost use Rattle.edge_types.specs.Pieces.{with_piece, with_pieces};
+ghost use Rattle.esi_vars.specs.Values.{value_pieces};
 ghost use Rattle.plan_compiler.specs.Bodies.{entries};
 ghost use Rattle.plan_compiler.specs.Laws.{skip_of};
 ghost use Rattle.plan_compiler.specs.Plan as spec;
@@ -22,7 +22,7 @@ use crate::machine::{Machine, give, go_on, unwind};
 use edge_types::{Answer, NoMemory, PageUrl, SharedBytes};
 use esi_meaning::MAX_LEGS;
 use esi_tree::Parts;
-use esi_vars::substitute_within;
+use esi_vars::push_values;
 use plan_compiler::{Form, Prepared, Step};
 use plan_machine::Handler;
 use std::sync::Arc;
@@ -62,10 +62,7 @@ pub(crate) fn run(
             let text = text.share()?;
             give_next(machine, frame, text, setting.most)?;
         }
-        Step::Values(parts) => {
-            let text = values(setting, parts)?;
-            give_next(machine, frame, text, setting.most)?;
-        }
+        Step::Values(parts) => give_values(machine, setting, frame, parts)?,
         Step::Test { test, skip: by } => {
             let by = if test.holds(setting.request) { 0 } else { *by };
             skip(machine, frame, by)?;
@@ -77,21 +74,6 @@ pub(crate) fn run(
         Step::Fail => fail(machine, frame)?,
     }
     Ok(Reached::Went)
-}
-
-// The text with the values of its references; refused if it has more bytes than the page may have.
-fn values(setting: &Setting<'_>, parts: &Parts) -> Result<SharedBytes, NoMemory>
-    ensures { IfOk result (λ text. text ≡ substituted setting.now.request.now parts.now) }
-{
-    match substitute_within(
-        setting.alloc,
-        setting.request,
-        parts.as_slice(),
-        setting.most,
-    )? {
-        Some(text) => Ok(SharedBytes::of(text)?),
-        None => Err(NoMemory),
-    }
 }
 
 // Goes on after this many steps.
@@ -173,6 +155,31 @@ fn give_next(
 {
     frame.at += 1;
     give(machine, frame, text, most)?;
+    Ok(())
+}
+
+// Outputs the text with the values of its references, and goes on after the step; refused if the output then has more bytes
+// than it may have.
+fn give_values(
+    machine: &mut Machine,
+    setting: &Setting<'_>,
+    mut frame: Frame,
+    parts: &Parts,
+) -> Result<(), NoMemory>
+    requires { frame.at + 1 ≤ usize.MAX }
+    ensures shown { OnOk result ((board : State) → shown_machine board machine.new ≡ goes machine.old.legs (with_pieces machine.old.out (value_pieces setting.now.request.now [] parts.now)) (moved (shown_frame board frame) (frame.at + 1) ∷ shown_frames board machine.old.frames)) }
+    ensures placed { OnOk result ((board : State) → IsPlaced board frame → ArePlaced board machine.old.frames → ArePlaced board machine.new.frames) }
+{
+    let parts = parts.as_slice();
+    push_values(
+        setting.alloc,
+        setting.request,
+        parts,
+        &mut machine.out,
+        setting.most,
+    )?;
+    frame.at += 1;
+    go_on(machine, frame)?;
     Ok(())
 }
 

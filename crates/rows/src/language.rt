@@ -1,14 +1,14 @@
 //! References and tests, and their values for a request.
 
 use crate::row::{Line, number, pair};
-use edge_types::{Octets, Request, SharedBytes};
+use edge_types::{Request, SharedBytes};
 use esi_vars::{Part, Reference, Variable};
 use std::alloc::Global;
 
 /// A request with this cookie.
 fn request(alloc: Global, cookie: &[u8]) -> Option<Request> {
-    let mut request = Request::empty(alloc);
-    request.cookie = Octets::copy_of(alloc, cookie).ok()?;
+    let mut request = Request::empty();
+    request.cookie = SharedBytes::copy_of(alloc, cookie).ok()?;
     Some(request)
 }
 

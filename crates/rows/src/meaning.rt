@@ -28,7 +28,7 @@ fn push_page(
     let body = SharedBytes::copy_of(alloc, text).ok()?;
     let answer = Answer::got(url.share().ok()?, 200, Octets::empty(alloc), control, body)?;
     table.insert(Arc::new(alloc, answer).ok()?).ok()?;
-    let request = Request::empty(alloc);
+    let request = Request::empty();
     match &esi_meaning::plain_page(alloc, url, &request, table, 4).ok()? {
         Outcome::Page { status, body, .. } => {
             line.display(status);
@@ -45,7 +45,7 @@ pub fn leg_url(alloc: Global, row: &[u8], line: &mut Line) -> Option<()> {
     let (base, source) = pair(row);
     let base = url(alloc, base)?;
     let source = parts_of(alloc, source)?;
-    let request = Request::empty(alloc);
+    let request = Request::empty();
     let found = esi_meaning::leg_url(alloc, &request, &base, source.as_slice());
     push_url(line, &found.ok()?);
     Some(())

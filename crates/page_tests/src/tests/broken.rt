@@ -20,7 +20,7 @@ const BROKEN: &str = "the page is broken";
 // A page with room for one slot ahead, so that posts and advances open slots.
 fn page(alloc: Global) -> Result<Page, Fail> {
     let url = PageUrl::parse(alloc, b"http://a.test/p")?.ok_or("a URL")?;
-    Ok(Page::accept(alloc, url, Request::empty(alloc), 1, 4)?)
+    Ok(Page::accept(alloc, url, Request::empty(), 1, 4)?)
 }
 
 // The page, or a fragment of one byte, made ready.

@@ -3,7 +3,8 @@
 use edge_types::{
     Answer, Control, NoMemory, Octets, PageBody, PageUrl, Request, SharedAnswer, SharedBytes,
 };
-use esi_vars::{parts, reference_at, substitute};
+use esi_vars::pieces::LONG_VALUE;
+use esi_vars::{parts, push_values, reference_at, substitute};
 use std::alloc::Global;
 use std::process::Abort;
 use std::sync::Arc;
@@ -68,10 +69,46 @@ fn second_owners_have_the_same_answer(rt: HostRuntime) -> Result<(), Fail> {
     Ok(())
 }
 
+// The pieces of a text whose reference has a cookie of so many bytes for its value.
+fn pieces(alloc: Global, text: &[u8], bytes: usize) -> Result<PageBody, NoMemory> {
+    let mut request = Request::empty();
+    let mut cookie = b"a=1; g=".to_vec(alloc)?;
+    cookie.extend_from_slice("x".repeat(alloc, bytes)?.as_bytes())?;
+    cookie.extend_from_slice(b"; b=2")?;
+    request.cookie = SharedBytes::of(cookie)?;
+    let parts = parts(alloc, &SharedBytes::copy_of(alloc, text)?)?;
+    let mut body = PageBody::new(alloc);
+    push_values(alloc, &request, parts.as_slice(), &mut body, 1000)?;
+    Ok(body)
+}
+
+#[test]
+fn long_values_are_pieces(rt: HostRuntime) -> Result<(), Fail> {
+    let text = b"<$(HTTP_COOKIE{g})>$(HTTP_COOKIE{a})".as_slice();
+    let joined = pieces(rt.alloc(), text, LONG_VALUE - 1)?;
+    assert!(rt; joined.mark() == 1 && joined.len() == LONG_VALUE + 2);
+    let apart = pieces(rt.alloc(), text, LONG_VALUE)?;
+    assert!(rt; apart.mark() == 3);
+    assert!(rt; apart.piece(0) == Some(b"<".as_slice()));
+    assert!(rt;
+        apart.piece(1).is_some_and(|it| it.len() == LONG_VALUE
+            && it.iter().all(|byte| *byte == b'x'))
+    );
+    assert!(rt; apart.piece(2) == Some(b">1".as_slice()));
+    Ok(())
+}
+
+#[test]
+fn values_past_the_limit_are_refused(rt: HostRuntime) -> Result<(), Fail> {
+    assert!(rt; pieces(rt.alloc(), b"$(HTTP_COOKIE{g})", 1000).is_ok());
+    assert!(rt; pieces(rt.alloc(), b"$(HTTP_COOKIE{g})$(HTTP_COOKIE{a})", 1000).is_err());
+    Ok(())
+}
+
 // A text with its references replaced, for a request with a cookie.
 fn replaced(alloc: Global, cookie: &[u8], text: &[u8]) -> Result<Vec<u8>, NoMemory> {
-    let mut request = Request::empty(alloc);
-    request.cookie = Octets::copy_of(alloc, cookie)?;
+    let mut request = Request::empty();
+    request.cookie = SharedBytes::copy_of(alloc, cookie)?;
     let parts = parts(alloc, &SharedBytes::copy_of(alloc, text)?)?;
     substitute(alloc, &request, parts.as_slice())
 }

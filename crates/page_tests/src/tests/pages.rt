@@ -108,15 +108,7 @@ fn told(
     let mut line = String::new(alloc);
     assert!(rt; ahead <= MAX_AHEAD && are_levels(levels));
     let url = url_of(rt, alloc, "http://a.test/p")?;
-    match run_events(
-        alloc,
-        url,
-        Request::empty(alloc),
-        table,
-        ahead,
-        levels,
-        events,
-    ) {
+    match run_events(alloc, url, Request::empty(), table, ahead, levels, events) {
         Ok((page, state)) => {
             assert!(rt; page.ahead() == ahead && page.levels() == levels);
             push_state(&mut line, &page, &state)?;

@@ -19,7 +19,7 @@ returns-then-eq c =
     let left = c.in-Some-from_name.text.now in
     let begins = subst (λ w. BeginsPart 59 (λ front. ¬ HasSubslice front w) c.in-Some.text.now left) c.new-finder.ensures c.in-Some-from_name.ensures in
     let all : map trimmed (parts_between 59 left) ≡ c.trimmed.result.now ∷ map trimmed (parts_left 59 (option_copied c.first_part.result.1)) = ap (map trimmed) (sym c.first_part.ensures.value) ∙ ap (λ t. t ∷ map trimmed (parts_left 59 (option_copied c.first_part.result.1))) (sym c.trimmed.ensures) in
-    named_found name _ _ _ _ _ all c.halves.ensures (sym c.eq.ensures ∙ c.if-eq.true)
+    c.behind.ensures ∙ named_found name _ _ _ _ _ all c.halves.ensures (sym c.eq.ensures ∙ c.if-eq.true)
     ∙ sym (cookie_passed name c.in-Some.text.now left begins)
     ∙ ap (λ o. named name (map trimmed (parts_left 59 (option_copied o)))) (sym c.in-Some.is) ∙ c.loop-rest.invariant
 
@@ -36,7 +36,7 @@ loop-rest-preserved c =
 pub returns : goal.returns
 returns c =
     let name = c.args.name.now in
-    elim c.match-rest.branch [
+    c.whole.ensures ∙ elim c.match-rest.branch [
       | in-Some+in_default-from_name w ↦
           let lacks = subst (λ n. HasSubslice w.in-Some.text.now n → ⊥) c.new-finder.ensures w.in_default-from_name.ensures in
           sym (no_cookie name w.in-Some.text.now lacks) ∙ ap (λ o. named name (map trimmed (parts_left 59 (option_copied o)))) (sym w.in-Some.is) ∙ c.loop-rest.invariant
