@@ -5,7 +5,7 @@ use Rattle.access_log.specs.Queued.{Queued}
 use Rattle.access_log.specs.declared.format.LogFormat.{LogFormat}
 
 abbrev pub empty : ℕ → Queued
-empty most = record { waiting = []; most = most; lost = 0; is_written = false }
+empty most = record { waiting = []; most = most; lost = 0; lost_in_all = 0; is_written = false }
 
 -- there is room for these bytes
 abbrev pub fits : List ℕ → Queued → Bool
@@ -15,9 +15,13 @@ fits text queue = nat_le (length queue.waiting + length text) queue.most
 abbrev pub kept : List ℕ → Queued → Queued
 kept text queue = record queue { waiting = queue.waiting ++ text; lost = 0 }
 
+-- one more, up to the largest number of 64 bits
+abbrev pub one_more : ℕ → ℕ
+one_more count = min (count + 1) (2 ^ 64 - 1)
+
 -- a line is lost
 abbrev pub lost_one : Queued → Queued
-lost_one queue = record queue { lost = min (queue.lost + 1) (2 ^ 64 - 1) }
+lost_one queue = record queue { lost = one_more queue.lost; lost_in_all = one_more queue.lost_in_all }
 
 -- the text is a line, and before it, where some were lost, the line that says how many
 abbrev pub IsTold : LogFormat → ℕ → ℕ → List ℕ → List ℕ → Type 0

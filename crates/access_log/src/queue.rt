@@ -18,7 +18,9 @@ pub struct LineQueue {
     // What is before it was taken.
     start: usize,
     most: usize,
+    // Since the last line that was kept.
     lost: u64,
+    lost_in_all: u64,
     is_written: bool,
 }
 
@@ -28,7 +30,7 @@ impl Model for LineQueue {
 
     ghost Value = { Queued };
 
-    ghost view = { λ q. record { waiting = drop q.start q.bytes.items; most = q.most; lost = q.lost; is_written = q.is_written } };
+    ghost view = { λ q. record { waiting = drop q.start q.bytes.items; most = q.most; lost = q.lost; lost_in_all = q.lost_in_all; is_written = q.is_written } };
 
     ghost invariant = { λ q. q.start ≤ vec_len q.bytes };
 }
@@ -45,6 +47,7 @@ impl LineQueue {
             start: 0,
             most,
             lost: 0,
+            lost_in_all: 0,
             is_written: false,
         }
     }
@@ -91,6 +94,14 @@ impl LineQueue {
         ensures { self.new ≡ lost_one self.old }
     {
         self.lost = self.lost.saturating_add(1);
+        self.lost_in_all = self.lost_in_all.saturating_add(1);
+    }
+
+    /// How many lines were lost since the queue was made, whether a later one has told so or not.
+    pub fn lost_in_all(&self) -> u64
+        ensures { result ≡ self.now.lost_in_all }
+    {
+        self.lost_in_all
     }
 
     // Lets go of what was taken, once that is more than what waits: so each byte is moved once at most for each one taken.

@@ -1,0 +1,84 @@
+//! The part of the text that is about the cache.
+
+ghost use Rattle.std.specs.Prelude.{◌≡◌, ◌++◌, OnOk};
+ghost use Rattle.edge_metrics.specs.Text as spec;
+
+use crate::cache_counts::CacheCounts;
+use crate::lines::{push_head, push_sample};
+use std::alloc::AllocError;
+
+#[tactic(auto, unfolding(crate::specs::Text::cache))]
+pub(crate) fn push_cache(text: &mut Vec<u8>, counts: &CacheCounts) -> Result<(), AllocError>
+    ensures { OnOk result (text.new.items ≡ text.old.items ++ spec.cache counts.now) }
+{
+    push_kept_answers(text, counts.entries)?;
+    push_lookups(text, counts)
+}
+
+#[tactic(auto, unfolding(crate::specs::Text::kept_answers))]
+fn push_kept_answers(text: &mut Vec<u8>, count: u64) -> Result<(), AllocError>
+    ensures { OnOk result (text.new.items ≡ text.old.items ++ spec.kept_answers count) }
+{
+    push_head(
+        text,
+        b"esi_edge_cache_answers",
+        b"Answers that are kept.",
+        b"gauge",
+    )?;
+    push_sample(text, b"esi_edge_cache_answers", count)
+}
+
+#[tactic(auto, unfolding(crate::specs::Text::lookups))]
+fn push_lookups(text: &mut Vec<u8>, counts: &CacheCounts) -> Result<(), AllocError>
+    ensures { OnOk result (text.new.items ≡ text.old.items ++ spec.lookups counts.now) }
+{
+    push_lookups_head(text)?;
+    push_unfetched(text, counts)?;
+    push_fetched(text, counts)
+}
+
+#[tactic(auto, unfolding(crate::specs::Text::lookups_head))]
+fn push_lookups_head(text: &mut Vec<u8>) -> Result<(), AllocError>
+    ensures { OnOk result (text.new.items ≡ text.old.items ++ spec.lookups_head) }
+{
+    push_head(
+        text,
+        b"esi_edge_cache_lookups_total",
+        b"Answers asked for, by how they came.",
+        b"counter",
+    )
+}
+
+// Those for which no fetch was made.
+#[tactic(auto, unfolding(crate::specs::Text::unfetched))]
+fn push_unfetched(text: &mut Vec<u8>, counts: &CacheCounts) -> Result<(), AllocError>
+    ensures { OnOk result (text.new.items ≡ text.old.items ++ spec.unfetched counts.now) }
+{
+    push_sample(
+        text,
+        b"esi_edge_cache_lookups_total{by=\"hit\"}",
+        counts.hits,
+    )?;
+    push_sample(
+        text,
+        b"esi_edge_cache_lookups_total{by=\"join\"}",
+        counts.joins,
+    )
+}
+
+// Those for which one was made.
+#[tactic(auto, unfolding(crate::specs::Text::fetched))]
+fn push_fetched(text: &mut Vec<u8>, counts: &CacheCounts) -> Result<(), AllocError>
+    ensures { OnOk result (text.new.items ≡ text.old.items ++ spec.fetched counts.now) }
+{
+    push_sample(
+        text,
+        b"esi_edge_cache_lookups_total{by=\"lead\"}",
+        counts.leads,
+    )?;
+    push_sample(
+        text,
+        b"esi_edge_cache_lookups_total{by=\"bypass\"}",
+        counts.bypasses,
+    )
+}

@@ -1,0 +1,122 @@
+//! The text as a whole, with ample memory, and what the system writes of a process.
+
+use crate::{CacheCounts, ConnectionCounts, Counts, Measured, resident_of, text_of};
+use std::process::Abort;
+use std::str;
+use std::test::Fail;
+
+const REQUESTS: &str = "# HELP esi_edge_requests_total Requests answered, by status.
+# TYPE esi_edge_requests_total counter
+esi_edge_requests_total{status=\"1xx\"} 0
+esi_edge_requests_total{status=\"2xx\"} 1
+esi_edge_requests_total{status=\"3xx\"} 0
+esi_edge_requests_total{status=\"4xx\"} 0
+esi_edge_requests_total{status=\"5xx\"} 1
+# HELP esi_edge_sent_bytes_total Bytes of the bodies of responses.
+# TYPE esi_edge_sent_bytes_total counter
+esi_edge_sent_bytes_total 533
+# HELP esi_edge_request_seconds Seconds from request to response.
+# TYPE esi_edge_request_seconds histogram
+esi_edge_request_seconds_bucket{le=\"0.001\"} 1
+esi_edge_request_seconds_bucket{le=\"0.005\"} 1
+esi_edge_request_seconds_bucket{le=\"0.01\"} 1
+esi_edge_request_seconds_bucket{le=\"0.05\"} 1
+esi_edge_request_seconds_bucket{le=\"0.1\"} 1
+esi_edge_request_seconds_bucket{le=\"0.5\"} 1
+esi_edge_request_seconds_bucket{le=\"1\"} 1
+esi_edge_request_seconds_bucket{le=\"5\"} 2
+esi_edge_request_seconds_bucket{le=\"10\"} 2
+esi_edge_request_seconds_bucket{le=\"+Inf\"} 2
+esi_edge_request_seconds_sum 2000750e-6
+esi_edge_request_seconds_count 2
+";
+
+const CONNECTIONS: &str = "# HELP esi_edge_connections Open connections.
+# TYPE esi_edge_connections gauge
+esi_edge_connections 3
+# HELP esi_edge_connections_accepted_total Accepted connections.
+# TYPE esi_edge_connections_accepted_total counter
+esi_edge_connections_accepted_total 21
+# HELP esi_edge_accepts_failed_total Accepts that failed.
+# TYPE esi_edge_accepts_failed_total counter
+esi_edge_accepts_failed_total 1
+";
+
+const CACHE_AND_LOG: &str = "# HELP esi_edge_cache_answers Answers that are kept.
+# TYPE esi_edge_cache_answers gauge
+esi_edge_cache_answers 7
+# HELP esi_edge_cache_lookups_total Answers asked for, by how they came.
+# TYPE esi_edge_cache_lookups_total counter
+esi_edge_cache_lookups_total{by=\"hit\"} 40
+esi_edge_cache_lookups_total{by=\"join\"} 5
+esi_edge_cache_lookups_total{by=\"lead\"} 9
+esi_edge_cache_lookups_total{by=\"bypass\"} 2
+# HELP esi_edge_log_lines_lost_total Lines of the log that were lost.
+# TYPE esi_edge_log_lines_lost_total counter
+esi_edge_log_lines_lost_total 3
+";
+
+const MEMORY: &str = "# HELP process_resident_memory_bytes Resident memory size in bytes.
+# TYPE process_resident_memory_bytes gauge
+process_resident_memory_bytes 1806336
+";
+
+fn measured(resident: Option<u64>) -> Measured {
+    let mut requests = Counts::new();
+    requests.count(200, 500, 750);
+    requests.count(502, 33, 2_000_000);
+    Measured {
+        requests,
+        connections: ConnectionCounts {
+            open: 3,
+            accepted: 21,
+            failed_accepts: 1,
+        },
+        cache: CacheCounts {
+            entries: 7,
+            hits: 40,
+            joins: 5,
+            leads: 9,
+            bypasses: 2,
+        },
+        lost_lines: 3,
+        resident,
+    }
+}
+
+#[test]
+fn each_number_is_told_in_its_place(rt: HostRuntime) {
+    let text = text_of(rt.alloc(), &measured(Some(1_806_336))).expect(&rt, "memory");
+    let text = str::from_utf8(text.as_slice()).expect(&rt, "UTF-8");
+    let wanted = format!(in rt.alloc(); "{REQUESTS}{CONNECTIONS}{CACHE_AND_LOG}{MEMORY}").expect(
+        &rt, "memory",
+    );
+    assert_eq!(rt; text, wanted.as_str());
+}
+
+#[test]
+fn what_is_not_known_is_not_told(rt: HostRuntime) {
+    let text = text_of(rt.alloc(), &measured(None)).expect(&rt, "memory");
+    let text = str::from_utf8(text.as_slice()).expect(&rt, "UTF-8");
+    let wanted = format!(in rt.alloc(); "{REQUESTS}{CONNECTIONS}{CACHE_AND_LOG}").expect(
+        &rt, "memory",
+    );
+    assert_eq!(rt; text, wanted.as_str());
+}
+
+#[test]
+fn the_second_of_the_sizes_is_that_of_what_is_resident(rt: HostRuntime) {
+    let rows: [(&[u8], Option<u64>); 5] = [
+        (b"765 441 413 5 0 123 0\n", Some(1_806_336)),
+        (
+            b"1 4503599627370495 0 0 0 0 0\n",
+            Some(18_446_744_073_709_547_520),
+        ),
+        (b"1 4503599627370496 0 0 0 0 0\n", None),
+        (b"765 441\n", None),
+        (b"", None),
+    ];
+    for (statm, resident) in rows {
+        assert_eq!(rt; resident_of(statm), resident);
+    }
+}
