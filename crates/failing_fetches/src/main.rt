@@ -7,6 +7,7 @@
 
 mod pages;
 mod sources;
+mod templates;
 
 use allocation_tools::printing::ends;
 use hyper_edge::ServerRuntime;
@@ -35,6 +36,8 @@ where
         "Cache::fetch:failed" => sources::fetch_through_cache(rt, name, "/none"),
         "Cache::fetch:hit" => sources::fetch_from_cache(rt, name),
         "Cache::fetch:no_memory" => sources::fetch_from_forgetful(rt, name),
+        "Cache::prepared" => templates::prepare_by_cache(rt, name),
+        "Cache::prepared:kept" => templates::prepare_from_cache(rt, name),
         "HyperSource::fetch:no_origin" => sources::fetch_by_http(rt, name, ""),
         // Nobody listens there.
         "HyperSource::fetch:no_socket" => sources::fetch_by_http(rt, name, "127.0.0.1:1"),

@@ -1,7 +1,8 @@
--- Workers may share a desk: what lies on it may cross threads.
+-- Workers may share a desk, and threads what a cache has made ready: what lies there may cross threads.
 use denote.Param.Send.{IsSend, IsSync, sendable}
 use Rattle.std.proofs.Crossing
 use Rattle.std.proofs.MapsCrossing
+use Rattle.lru.proofs.cache.LruCache.TheSendSync as LruCache
 use Rattle.edge_types.proofs.page_url.PageUrl.TheSendSync as PageUrl
 use Rattle.edge_types.proofs.shared_answer.SharedAnswer.TheSendSync as SharedAnswer
 use Rattle.edge_types.proofs.shared_bytes.SharedBytes.TheSendSync as SharedBytes
@@ -17,8 +18,11 @@ use Rattle.plan_runner.proofs.advance.Progress.TheSendSync as Progress
 use Rattle.plan_runner.proofs.page.Stage.TheSendSync as Stage
 use Rattle.plan_runner.specs.contracts.page.Page as page
 use Rattle.fetch_workers.proofs.desk.SetAside.TheSendSync as SetAside
+use Rattle.fetch_workers.proofs.shared_shard.SharedShard.TheSendSync as SharedShard
 use Rattle.fetch_workers.specs.contracts.desk.Desk as desk
 use Rattle.fetch_workers.specs.contracts.shared_desk.SharedDesk as shared_desk
+use Rattle.fetch_workers.specs.contracts.kept_plans.PlanShelf as plan_shelf
+use Rattle.fetch_workers.specs.contracts.kept_plans.KeptPlans as kept_plans
 
 prepared_send : IsSend prepared.the_row
 prepared_send = search (
@@ -59,3 +63,15 @@ desk_send = search (page_send, SetAside.the_send, Crossing.crosses, sendable) de
 
 pub shared_desk_sync : IsSync shared_desk.the_row
 shared_desk_sync = search (desk_send, Crossing.crosses, sendable) depth 60 fits 20000
+
+plan_shelf_send : IsSend plan_shelf.the_row
+plan_shelf_send = search (LruCache.the_send, PageUrl.the_send, PageUrl.the_sync, prepared_send, MapsCrossing.crosses, Crossing.crosses, sendable) depth 60 fits 20000
+
+pub kept_plans_send : IsSend kept_plans.the_row
+kept_plans_send = search (plan_shelf_send, Crossing.crosses, sendable) depth 60 fits 20000
+
+pub kept_plans_sync : IsSync kept_plans.the_row
+kept_plans_sync = search (plan_shelf_send, Crossing.crosses, sendable) depth 60 fits 20000
+
+-- for whoever shares a cache, beside what its source and its clock are
+pub ruleset caches_cross = (kept_plans_send, kept_plans_sync, SharedShard.the_send, SharedShard.the_sync, Crossing.crosses, sendable)

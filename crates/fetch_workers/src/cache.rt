@@ -8,11 +8,13 @@ ghost use Rattle.fetch_workers.specs.Shards.{shard_of};
 use crate::cache_flights::{CacheFlights, Joined, Led};
 use crate::clock::Clock;
 use crate::concurrent_source::ConcurrentSource;
+use crate::kept_plans::KeptPlans;
 use crate::on_behalf::OnBehalf;
 use crate::shared_shard::SharedShard;
 use crate::source::{Found, Source};
 use edge_types::{Answer, NoMemory, PageUrl, Reply};
 use fragment_cache::{Begun, Flight, MAX_CAPACITY, Picked};
+use plan_compiler::Prepared;
 use std::alloc::Global;
 use std::array;
 use std::sync::{Arc, Wait};
@@ -31,13 +33,15 @@ pub struct Cache<S, C> {
     source: S,
     clock: C,
     // Shared with the caches over sources that are asked on behalf of requests that have passed other edges.
-    shards: Arc<[SharedShard; SHARDS]>,
+    pub(crate) shards: Arc<[SharedShard; SHARDS]>,
+    // Shared in the same way.
+    plans: Arc<KeptPlans>,
     // How many may wait for one flight, where that is bounded.
     most_waiting: Option<u32>,
 }
 
 // The shard of a URL.
-fn shard_of(url: &PageUrl) -> usize
+pub(crate) fn shard_of(url: &PageUrl) -> usize
     ensures value { result ≡ shard_of url.now }
     ensures few { result < SHARDS }
 {
@@ -85,6 +89,7 @@ impl<S: Drop, C: Drop> Cache<S, C> {
             source,
             clock,
             shards: Arc::new(alloc, shards)?,
+            plans: Arc::new(alloc, KeptPlans::new(alloc, capacity)?)?,
             most_waiting: None,
         })
     }
@@ -116,15 +121,32 @@ impl<S, C> Cache<S, C> {
         requires { (arc_value ready).url ≡ flight.url }
         ensures { IfOk result (λ answer. (arc_value answer).url ≡ flight.url) }
     {
-        let fetched = self.source.fetch(rt, alloc, flight.url());
-        let now = self.clock.now(rt);
-        match fetched {
-            Ok(answer) => Ok(shard.land(rt, flight, answer, now)),
+        match self.source.fetch(rt, alloc, flight.url()) {
+            Ok(answer) => Ok(self.land(rt, alloc, shard, flight, answer)),
             Err(NoMemory) => {
-                shard.land(rt, flight, ready, now);
+                shard.land(rt, flight, ready, self.clock.now(rt));
                 Err(NoMemory)
             }
         }
+    }
+
+    // Lands a flight with the answer that was fetched for it, once that is ready for whoever picks it up.
+    fn land<R: Wait>(
+        &self,
+        rt: &R,
+        alloc: Global,
+        shard: &SharedShard,
+        flight: Flight,
+        answer: Arc<Answer>,
+    ) -> Arc<Answer>
+    where
+        C: Clock<R>,
+        requires { (arc_value answer).url ≡ flight.url }
+        ensures { (arc_value result).url ≡ flight.url }
+    {
+        let now = self.clock.now(rt);
+        self.plans.prepare(rt, alloc, &answer);
+        shard.land(rt, flight, answer, now)
     }
 
     // Waits for the answer of another caller's flight; fetches if it can't be picked up, or isn't for all.
@@ -210,6 +232,7 @@ impl<S, C> Cache<S, C> {
     fn landed<R: Wait>(
         &self,
         rt: &R,
+        alloc: Global,
         in_flight: &mut CacheFlights<S::InFlight>,
         answer: Arc<Answer>,
     ) -> Arc<Answer>
@@ -222,7 +245,7 @@ impl<S, C> Cache<S, C> {
         };
         let (flight, _) = led.into_parts();
         let shard = &self.shards[shard_of(answer.url())];
-        shard.land(rt, flight, answer, self.clock.now(rt))
+        self.land(rt, alloc, shard, flight, answer)
     }
 
     // The answer of one of the flights that others lead, if it has landed; each time another one is looked at. One that
@@ -312,10 +335,10 @@ impl<S, C> Cache<S, C> {
         if answer.url() == led.flight.url() {
             let (flight, _) = led.into_parts();
             let shard = &self.shards[shard_of(answer.url())];
-            let _ = shard.land(rt, flight, answer, self.clock.now(rt));
+            let _ = self.land(rt, alloc, shard, flight, answer);
             return None;
         }
-        let _ = self.landed(rt, in_flight, answer);
+        let _ = self.landed(rt, alloc, in_flight, answer);
         Some(led)
     }
 }
@@ -328,12 +351,14 @@ impl<S, C: Copy> Cache<S, C> {
         ensures source { IfOk result (λ cache. cache.source ≡ source) }
         ensures clock { IfOk result (λ cache. cache.clock ≡ self.now.clock) }
         ensures shards { IfOk result (λ cache. arc_value cache.shards ≡ arc_value self.now.shards) }
+        ensures plans { IfOk result (λ cache. arc_value cache.plans ≡ arc_value self.now.plans) }
         ensures most { IfOk result (λ cache. cache.most_waiting ≡ self.now.most_waiting) }
     {
         Ok(Cache {
             source,
             clock: self.clock,
             shards: Arc::try_clone(&self.shards)?,
+            plans: Arc::try_clone(&self.plans)?,
             most_waiting: self.most_waiting,
         })
     }
@@ -386,7 +411,7 @@ impl<R: Wait, S: ConcurrentSource<R>, C: Clock<R>> ConcurrentSource<R> for Cache
             return Ok(Some(answer));
         }
         if let Some(answer) = self.source.next(rt, alloc, &mut in_flight.fetches)? {
-            return Ok(Some(self.landed(rt, in_flight, answer)));
+            return Ok(Some(self.landed(rt, alloc, in_flight, answer)));
         }
         // A flight whose fetch the source has lost.
         if let Some(led) = in_flight.pop_led() {
@@ -433,5 +458,9 @@ impl<R: Wait, S: Source<R>, C: Clock<R>> Source<R> for Cache<S, C> {
 
     fn bridging(&self, rt: &R, _alloc: Global, url: &PageUrl) -> Found {
         self.shards[shard_of(url)].bridging(rt, url, self.clock.now(rt))
+    }
+
+    fn prepared(&self, rt: &R, alloc: Global, answer: Arc<Answer>) -> Result<Prepared, NoMemory> {
+        self.plans.prepared(rt, alloc, answer)
     }
 }

@@ -5,6 +5,7 @@ ghost use Rattle.std.specs.Prelude.{◌≡◌};
 use crate::concurrent_source::ConcurrentSource;
 use crate::source::{Found, Source};
 use edge_types::{Answer, NoMemory, PageUrl};
+use plan_compiler::Prepared;
 use std::alloc::Global;
 use std::collections::VecDeque;
 use std::sync::Arc;
@@ -32,6 +33,10 @@ impl<'a, R, S: Source<R>> Source<R> for OneByOne<'a, S> {
 
     fn bridging(&self, rt: &R, alloc: Global, url: &PageUrl) -> Found {
         self.source.bridging(rt, alloc, url)
+    }
+
+    fn prepared(&self, rt: &R, alloc: Global, answer: Arc<Answer>) -> Result<Prepared, NoMemory> {
+        self.source.prepared(rt, alloc, answer)
     }
 }
 

@@ -9,6 +9,7 @@ ghost use Rattle.fragment_cache.specs.Sound.{IsSound, NamesUrl};
 
 use crate::cache_flights::Led;
 use crate::source::Found;
+use crate::tally::CacheTally;
 use edge_types::{Answer, NoMemory, PageUrl};
 use fragment_cache::{Begun, Flight, MAX_CAPACITY, Picked, Shard};
 use std::alloc::Global;
@@ -22,10 +23,12 @@ pub(crate) struct SharedShard {
     landed: Condvar,
 }
 
-// A shard, and how many have left each flight that they had joined: their pick-ups are made once it lands.
+// A shard, what was asked of it, and how many have left each flight that they had joined: their pick-ups are made once
+// it lands.
 #[derive(Drop)]
 struct Shelf {
     shard: Shard,
+    asked: CacheTally,
     left: BTreeMap<u64, u64>,
 }
 
@@ -41,6 +44,26 @@ impl Shelf {
             let _ = self.shard.pick(number);
         }
         landed
+    }
+
+    // Begins for a URL, which is counted.
+    fn begin(&mut self, url: &PageUrl, now: u64) -> Begun
+        ensures { NamesUrl url.now (begun_answer result) }
+    {
+        let begun = self.shard.begin(url, now);
+        self.asked.note(&begun);
+        begun
+    }
+
+    // What the shard has ready for a URL, which is counted.
+    fn look(&mut self, url: &PageUrl, now: u64) -> Found
+        ensures { IfOk result (λ found. IfSome found (λ answer. (arc_value answer).url ≡ url.now)) }
+    {
+        let found = self.shard.look(url, now)?;
+        if found.is_some() {
+            self.asked.note_hit();
+        }
+        Ok(found)
     }
 
     // How many wait for the flight with this number, apart from its leader.
@@ -79,6 +102,7 @@ impl SharedShard {
         Ok(SharedShard {
             shelf: Mutex::new(Shelf {
                 shard: Shard::new(alloc, capacity)?,
+                asked: CacheTally::new(),
                 left: BTreeMap::new(alloc),
             }),
             landed: Condvar::new(),
@@ -107,14 +131,14 @@ impl SharedShard {
         let mut shelf = self.lock(rt);
         match most {
             Some(most) if shelf.is_crowded(url, most) => None,
-            _ => Some(shelf.shard.begin(url, now)),
+            _ => Some(shelf.begin(url, now)),
         }
     }
 
     pub(crate) fn look<R: Wait>(&self, rt: &R, url: &PageUrl, now: u64) -> Found
         ensures { IfOk result (λ found. IfSome found (λ answer. (arc_value answer).url ≡ url.now)) }
     {
-        self.lock(rt).shard.look(url, now)
+        self.lock(rt).look(url, now)
     }
 
     // The stored answer that would bridge a failing landing for the URL.
@@ -122,6 +146,22 @@ impl SharedShard {
         ensures { IfOk result (λ found. IfSome found (λ answer. (arc_value answer).url ≡ url.now)) }
     {
         self.lock(rt).shard.bridging(url, now)
+    }
+
+    pub(crate) fn purge<R: Wait>(&self, rt: &R, url: &PageUrl) -> bool {
+        self.lock(rt).shard.purge(url)
+    }
+
+    pub(crate) fn purge_prefix<R: Wait>(&self, rt: &R, prefix: &[u8]) -> Result<usize, NoMemory> {
+        self.lock(rt).shard.purge_prefix(prefix)
+    }
+
+    // What it keeps, and what was asked of it.
+    pub(crate) fn tally<R: Wait>(&self, rt: &R) -> CacheTally {
+        let shelf = self.lock(rt);
+        let mut tally = shelf.asked;
+        tally.entries = u64::try_from(shelf.shard.entries()).unwrap_or(u64::MAX);
+        tally
     }
 
     // Lands a flight, and wakes those who wait for it to land.

@@ -5,6 +5,7 @@ ghost use Rattle.std.specs.Arc.{arc_value};
 ghost use Rattle.edge_types.specs.Answered.{Answered};
 
 use edge_types::{Answer, NoMemory, PageUrl};
+use plan_compiler::Prepared;
 use std::alloc::Global;
 use std::sync::Arc;
 
@@ -37,6 +38,16 @@ pub trait Source<R> {
         ensures { IfOk result (λ found. IfSome found (λ answer. gives self.now _url.now (arc_value answer))) }
     {
         Ok(None)
+    }
+
+    /// An answer, made ready. By default it is read and compiled here; a source that keeps answers may keep what it made of
+    /// them, too.
+    ///
+    /// `NoMemory` if an allocation fails; the answer is dropped then.
+    fn prepared(&self, _rt: &R, alloc: Global, answer: Arc<Answer>) -> Result<Prepared, NoMemory>
+        ensures { IfOk result (λ prepared. prepared ≡ arc_value answer) }
+    {
+        Prepared::of(alloc, answer)
     }
 
     ghost names_url: { (source : Self) (url : List ℕ) (answer : Answered) → gives source url answer → answer.url ≡ url };

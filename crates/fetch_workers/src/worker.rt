@@ -17,39 +17,6 @@ use plan_compiler::Prepared;
 use std::alloc::Global;
 use std::sync::{Arc, Wait};
 
-// The receipt from a ticket and the answer of its URL, made ready, and a second handle to the answer.
-// If memory runs out the ticket is given up.
-fn receipt_of(
-    alloc: Global,
-    ticket: Ticket,
-    answer: Arc<Answer>,
-) -> Result<(Receipt, SharedAnswer), NoMemory>
-    requires { (arc_value answer).url ≡ ticket.url }
-    ensures { IfOk result (λ (receipt, own). own ≡ arc_value answer) }
-{
-    let (own, prepared) = match made_ready(alloc, answer) {
-        Ok(made) => made,
-        Err(NoMemory) => {
-            ticket.give_up();
-            return Err(NoMemory);
-        }
-    };
-    match ticket.answered(prepared) {
-        Ok(receipt) => Ok((receipt, own)),
-        Err((ticket, _)) => {
-            ticket.give_up();
-            Err(NoMemory)
-        }
-    }
-}
-
-fn made_ready(alloc: Global, answer: Arc<Answer>) -> Result<(SharedAnswer, Prepared), NoMemory>
-    ensures { IfOk result (λ (own, prepared). (own ≡ arc_value answer) × (prepared ≡ arc_value answer)) }
-{
-    let own = SharedAnswer::of(Arc::try_clone(&answer)?);
-    Ok((own, Prepared::of(alloc, answer)?))
-}
-
 /// What works for a page in one thread.
 #[derive(Drop)]
 pub(crate) struct Worker<'a, R, S, G, D> {
@@ -62,6 +29,39 @@ pub(crate) struct Worker<'a, R, S, G, D> {
 }
 
 impl<'a, R: Wait, S: Source<R>, G: Gate<R>, D: Shared<R>> Worker<'a, R, S, G, D> {
+    // The receipt from a ticket and the answer of its URL, which the source makes ready, and a second handle to the
+    // answer. If memory runs out the ticket is given up.
+    fn receipt_of(
+        &self,
+        ticket: Ticket,
+        answer: Arc<Answer>,
+    ) -> Result<(Receipt, SharedAnswer), NoMemory>
+        requires { (arc_value answer).url ≡ ticket.url }
+        ensures { IfOk result (λ (receipt, own). own ≡ arc_value answer) }
+    {
+        let (own, prepared) = match self.made_ready(answer) {
+            Ok(made) => made,
+            Err(NoMemory) => {
+                ticket.give_up();
+                return Err(NoMemory);
+            }
+        };
+        match ticket.answered(prepared) {
+            Ok(receipt) => Ok((receipt, own)),
+            Err((ticket, _)) => {
+                ticket.give_up();
+                Err(NoMemory)
+            }
+        }
+    }
+
+    fn made_ready(&self, answer: Arc<Answer>) -> Result<(SharedAnswer, Prepared), NoMemory>
+        ensures { IfOk result (λ (own, prepared). (own ≡ arc_value answer) × (prepared ≡ arc_value answer)) }
+    {
+        let own = SharedAnswer::of(Arc::try_clone(&answer)?);
+        Ok((own, self.source.prepared(self.rt, self.alloc, answer)?))
+    }
+
     /// Posts the answer of a ticket, and keeps a handle to it.
     pub(crate) fn post(
         &self,
@@ -73,7 +73,7 @@ impl<'a, R: Wait, S: Source<R>, G: Gate<R>, D: Shared<R>> Worker<'a, R, S, G, D>
         requires answer { S.gives self.now.source.now ticket.url (arc_value answer) }
         ensures { OnOk result (AllOwn (S.gives self.now.source.now) mine.new.items) }
     {
-        let (receipt, own) = receipt_of(self.alloc, ticket, answer)?;
+        let (receipt, own) = self.receipt_of(ticket, answer)?;
         let place = self.shared.post(self.rt, receipt)?;
         match mine.push(Own { place, answer: own }) {
             Ok(()) => Ok(()),

@@ -1,5 +1,5 @@
 -- Entries and flights as lists of pairs with keys.
-use Rattle.std.proofs.Common.{◌≡◌, ℕ, zero, suc, ◌+◌, ◌-◌, ◌≤◌, Bool, true, false, not, cond, List, [], ◌∷◌, ◌++◌, length, take, filter, Option, Some, None, refl, sym, ◌∙◌, ap, subst, arith, bytes_eq, nat_lt, option_and_then}
+use Rattle.std.proofs.Common.{◌≡◌, ℕ, zero, suc, ◌+◌, ◌-◌, ◌≤◌, Bool, true, false, not, cond, List, [], ◌∷◌, ◌++◌, length, take, filter, Option, Some, None, refl, sym, ◌∙◌, ap, subst, arith, bytes_eq, nat_lt, option_and_then, slice_get}
 use Rattle.std.proofs.lemmas.List.{take_all}
 use Rattle.std.proofs.lemmas.Slice.Eq.{bytes_eq-Decides}
 use Rattle.std.proofs.lemmas.Map.Keys.{IsDistinct-head, IsDistinct-tail}
@@ -88,6 +88,14 @@ module _ {K X : Type 0} (eq : K → K → Bool) (exact : (x y : K) → eq x y �
       by_case (Some j) is =
           let room : length (of_others es) ≤ n - 1 = (let removed : length (remove_entry (eq k) es) + 1 ≡ length es = length-without_found es j is in let same : length (remove_entry (eq k) es) ≡ length (of_others es) = ap length (remove_entry-others es d) in omega arith) in
           rw is (ap (λ i. (i, v) ∷ remove_entry (eq k) es) (sym (found_key es j is)) ∙ ap (λ l. (k, v) ∷ l) (remove_entry-others es d ∙ sym (take_all (n - 1) (of_others es) room)))
+
+-- what is first stays first
+pub promoted-newest : (url : List ℕ) (es : Entries) (first : List ℕ × Entry) → slice_get es 0 ≡ Some first → first.0 ≡ url → promoted (bytes_eq url) es ≡ es
+promoted-newest url [] first is same = absurd (cc)
+promoted-newest url (e ∷ es) first is same =
+    let is_first : e ≡ first = cc in
+    let found : bytes_eq url e.0 ≡ true = (bytes_eq-Decides url e.0).1 (sym (ap (λ (x : List ℕ × Entry). x.0) is_first ∙ same)) in
+    rw found refl
 
 -- ---- what holds of each entry
 

@@ -7,13 +7,13 @@ use Rattle.edge_types.specs.declared.answer.Reply.{Reply}
 use Rattle.edge_types.specs.declared.answer.Reply.TheVariants.{Failed, Got}
 use Rattle.edge_types.specs.Answered.{Answered, is_success}
 use Rattle.fragment_cache.specs.Times.{second_after, expiry_of, expiry_of_reply, fresh_until, extension_of, is_failing}
-use Rattle.fragment_cache.specs.Machine.{Entry, Entries, Flight, Airspace, Kept, State, Flights, empty, flying, entry_of, others, used, stored, fresh, bridge_end, bridging, answer_before, same_number, kept_at, flying_at, landed_at, picks_at, NoneFlies, changed, without, departed, one_more, one_fewer, landed_with, picked}
+use Rattle.fragment_cache.specs.Machine.{Entry, Entries, Flight, Airspace, Kept, State, Flights, empty, flying, entry_of, left, others, used, stored, fresh, bridge_end, bridging, answer_before, same_number, kept_at, flying_at, landed_at, picks_at, NoneFlies, changed, without, departed, one_more, one_fewer, landed_with, picked}
 use Rattle.fragment_cache.specs.Steps.{PicksUp, Arrives, LandsSomehow, Hit, Join, Lead, Bypass, LookAnswer, Found, Missing, Refused, Here, Flying, Unknown}
-use Rattle.fragment_cache.specs.Runs.{Event, Began, Looked, Landed, PickedUp, Step, Run}
+use Rattle.fragment_cache.specs.Runs.{Event, Began, Looked, Landed, PickedUp, Purged, Step, Run}
 use Rattle.fragment_cache.specs.Law.{History, is_of, flies_in, is_bridged, latest, flying_in, landed_in, leads, joins, heres, IsLatest, NoneFlew, Follows, Keeps, OneFlies, CacheLaw}
 use Rattle.fragment_cache.proofs.EntryLemmas.{same_bytes, each_filter, each_append}
 use Rattle.fragment_cache.proofs.FlightLemmas.{exact_number, kept_at-next, each_changed, flying_at-changed, flying_at-arrives, flying_at-push, landed_flies_not, flying_at-without}
-use Rattle.fragment_cache.proofs.LookupLemmas.{bytes_itself, turned_bytes, entry_of-others, entry_of-used, entry_of-take, answer_before-some, kept_at-changed, kept_at-without, kept_at-push, tells_none, made_below, tells_more, tells_departed, tells_landed, tells_fewer, tells_less, Tells}
+use Rattle.fragment_cache.proofs.LookupLemmas.{bytes_itself, turned_bytes, entry_of-left, entry_of-others, entry_of-used, entry_of-take, answer_before-some, kept_at-changed, kept_at-without, kept_at-push, tells_none, made_below, tells_more, tells_departed, tells_landed, tells_fewer, tells_less, Tells}
 
 -- ---- what a history tells of the state after it
 
@@ -353,6 +353,20 @@ told_missed h s flight answer now given told other = record {
     misses : flies_in h flight ≡ false
     misses = flies_in-other h flight other
 
+told_purged : (h : History) (s : State) (is_gone : List ℕ → Bool) → Told h s → Told (Purged is_gone ∷ h) (record s { entries = left is_gone s.entries })
+told_purged h s is_gone told = record {
+  flying = told.flying;
+  tells = told.tells;
+  below = told.below;
+  number = told.number;
+  latest = λ u e is. by_test u e (is_gone u) refl (sym (entry_of-left is_gone s.entries u) ∙ is);
+  one = told.one;
+}
+  where
+    by_test : (u : List ℕ) (e : Entry) (c : Bool) → is_gone u ≡ c → cond (is_gone u) None (entry_of s.entries u) ≡ Some e → Last (cond (is_gone u) None (latest u h)) e
+    by_test u e true t is = let none : None ≡ Some e = sym (ap (λ (b : Bool). cond b None (entry_of s.entries u)) t) ∙ is in absurd (cc)
+    by_test u e false t is = subst (λ (b : Bool). Last (cond b None (latest u h)) e) (sym t) (told.latest u e (sym (ap (λ (b : Bool). cond b None (entry_of s.entries u)) t) ∙ is))
+
 told_flying : (h : History) (s : State) (number : ℕ) → Told h s → Told (PickedUp number Flying ∷ h) s
 told_flying h s number told = record { flying = told.flying; tells = told.tells; below = told.below; number = told.number; latest = told.latest; one = told.one }
 
@@ -422,6 +436,7 @@ told_step h old new (PickedUp number (Here answer)) step told = here h old new n
 told_step h old new (PickedUp number Flying) step told =
     (subst (λ (o : Option (List ℕ)). IsSome o) (told.flying number) step.0.0, subst (Told (PickedUp number Flying ∷ h)) (sym (step.1 ∙ ap (λ (fs : Flights). record old { flights = fs }) step.0.1)) (told_flying h old number told))
 told_step h old new (PickedUp number Unknown) step told = (sym (told.flying number) ∙ unknown_flies_not old new number step.0, unknown h old new number step.0 step.1 told)
+told_step h old new (Purged is_gone) step told = (tt, subst (Told (Purged is_gone ∷ h)) (sym step) (told_purged h old is_gone told))
 
 told_run : (capacity : ℕ) (h : History) (s : State) → Run capacity h s → Told h s × Keeps h
 told_run capacity [] s run = (subst (Told []) (sym run) (told_empty capacity), tt)

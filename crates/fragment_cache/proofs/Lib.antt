@@ -3,3 +3,4 @@ pub mod FlightLemmas
 pub mod LawLemmas
 pub mod LookupLemmas
 pub mod NameLemmas
+pub mod PurgeLemmas

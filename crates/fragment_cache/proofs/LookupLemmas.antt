@@ -1,12 +1,12 @@
 -- What is found among the entries and the flights after each change, and what is told of one flight.
-use Rattle.std.proofs.Common.{◌≡◌, ℕ, zero, suc, ◌+◌, ◌<◌, ◌≤◌, Bool, true, false, cond, List, [], ◌∷◌, ◌++◌, take, filter, Option, Some, None, option_map, option_and_then, refl, sym, ◌∙◌, ap, arith, bytes_eq, nat_lt}
+use Rattle.std.proofs.Common.{◌≡◌, ℕ, zero, suc, ◌+◌, ◌<◌, ◌≤◌, Bool, true, false, not, cond, List, [], ◌∷◌, ◌++◌, take, filter, Option, Some, None, option_map, option_and_then, refl, sym, ◌∙◌, ap, arith, bytes_eq, nat_lt}
 use Rattle.std.proofs.lemmas.Bool.{true≢false}
 use Rattle.std.proofs.lemmas.Bool.Decides.{nat_tests}
 use Rattle.std.proofs.lemmas.Slice.Eq.{bytes_eq-Decides}
 use Rattle.std.proofs.lemmas.Map.Entries.{lookup-filter-keys}
 use Rattle.std.specs.Option.{option_map_or}
 use Rattle.edge_types.specs.Answered.{Answered}
-use Rattle.fragment_cache.specs.Machine.{Entry, Entries, Kept, Flights, entry_of, others, used, answer_before, same_number, kept_at, changed, without, departed, one_more, one_fewer, landed_with}
+use Rattle.fragment_cache.specs.Machine.{Entry, Entries, Kept, Flights, entry_of, left, others, used, answer_before, same_number, kept_at, changed, without, departed, one_more, one_fewer, landed_with}
 use Rattle.fragment_cache.proofs.EntryLemmas.{same_bytes}
 use Rattle.fragment_cache.proofs.FlightLemmas.{lookup-append_none, lookup-append_some, lookup-changed, lookup-others, lookup-push, exact_number, number_itself}
 
@@ -25,6 +25,13 @@ turned_bytes x y false e = by_test (bytes_eq y x) refl
 
 pub entry_of-others : (url : List ℕ) (es : Entries) (u : List ℕ) → entry_of (others url es) u ≡ cond (bytes_eq url u) None (entry_of es u)
 entry_of-others url es u = lookup-others bytes_eq same_bytes bytes_itself url es u
+
+pub entry_of-left : (is_gone : List ℕ → Bool) (es : Entries) (u : List ℕ) → entry_of (left is_gone es) u ≡ cond (is_gone u) None (entry_of es u)
+entry_of-left is_gone es u = lookup-filter-keys (bytes_eq u) (λ j. not (is_gone j)) (not (is_gone u)) (λ (j : List ℕ) (t : bytes_eq u j ≡ true). ap (λ (k : List ℕ). not (is_gone k)) (sym (same_bytes u j t))) es ∙ by_test (is_gone u)
+  where
+    by_test : (b : Bool) → cond (not b) (entry_of es u) None ≡ cond b None (entry_of es u)
+    by_test true = refl
+    by_test false = refl
 
 pub entry_of-own : (url : List ℕ) (es : Entries) (u : List ℕ) → entry_of (filter (λ e. bytes_eq url e.0) es) u ≡ cond (bytes_eq url u) (entry_of es u) None
 entry_of-own url es u = lookup-filter-keys (bytes_eq u) (bytes_eq url) (bytes_eq url u) (λ (j : List ℕ) (t : bytes_eq u j ≡ true). ap (bytes_eq url) (sym (same_bytes u j t))) es

@@ -5,7 +5,7 @@ use Rattle.edge_types.specs.Answered.{Answered, failed}
 use Rattle.fragment_cache.specs.Times.{second_after, expiry_of, extension_of, is_failing}
 use Rattle.fragment_cache.specs.Machine.{Flight, State, same_number}
 use Rattle.fragment_cache.specs.Steps.{Hit, Join, Lead, Bypass, Found, Missing, Refused, Here, Flying, Unknown}
-use Rattle.fragment_cache.specs.Runs.{Event, Began, Looked, Landed, PickedUp, Run}
+use Rattle.fragment_cache.specs.Runs.{Event, Began, Looked, Landed, PickedUp, Purged, Run}
 
 abbrev pub History : Type 0
 History = List Event
@@ -24,6 +24,7 @@ flying_in (Began url now Bypass ∷ earlier) number = flying_in earlier number
 flying_in (Looked url now answer ∷ earlier) number = flying_in earlier number
 flying_in (Landed flight answer now given ∷ earlier) number = if is_of flight.url (flying_in earlier flight.number) && same_number flight.number number then None else flying_in earlier number
 flying_in (PickedUp picked answer ∷ earlier) number = flying_in earlier number
+flying_in (Purged is_gone ∷ earlier) number = flying_in earlier number
 
 -- this very flight is under way, so it lands when it is handed in
 abbrev pub flies_in : History → Flight → Bool
@@ -33,13 +34,14 @@ flies_in earlier flight = is_of flight.url (flying_in earlier flight.number)
 abbrev pub is_bridged : Answered → Answered → Bool
 is_bridged answer given = is_failing answer.reply && not (is_failing given.reply)
 
--- the answer of the latest landing for the URL that wasn't bridged, and the second of that landing
+-- the answer of the latest landing for the URL that wasn't bridged, and the second of that landing; none if the URL was purged since
 abbrev pub latest : List ℕ → History → Option (Answered × ℕ)
 latest url [] = None
 latest url (Landed flight answer now given ∷ earlier) = if flies_in earlier flight && (not (is_bridged answer given) && bytes_eq flight.url url) then Some (answer, now) else latest url earlier
 latest url (Began u now answer ∷ earlier) = latest url earlier
 latest url (Looked u now answer ∷ earlier) = latest url earlier
 latest url (PickedUp number answer ∷ earlier) = latest url earlier
+latest url (Purged is_gone ∷ earlier) = if is_gone url then None else latest url earlier
 
 -- the answer with which the flight with a number landed
 abbrev pub landed_in : History → ℕ → Option Answered
@@ -48,6 +50,7 @@ landed_in (Landed flight answer now given ∷ earlier) number = if flies_in earl
 landed_in (Began url now answer ∷ earlier) number = landed_in earlier number
 landed_in (Looked url now answer ∷ earlier) number = landed_in earlier number
 landed_in (PickedUp picked answer ∷ earlier) number = landed_in earlier number
+landed_in (Purged is_gone ∷ earlier) number = landed_in earlier number
 
 -- how many flights were led
 abbrev pub leads : History → ℕ
@@ -59,6 +62,7 @@ leads (Began url now Bypass ∷ earlier) = leads earlier
 leads (Looked url now answer ∷ earlier) = leads earlier
 leads (Landed flight answer now given ∷ earlier) = leads earlier
 leads (PickedUp picked answer ∷ earlier) = leads earlier
+leads (Purged is_gone ∷ earlier) = leads earlier
 
 -- how many times the flight with a number was joined
 abbrev pub joins : History → ℕ → ℕ
@@ -70,6 +74,7 @@ joins (Began url now Bypass ∷ earlier) number = joins earlier number
 joins (Looked url now answer ∷ earlier) number = joins earlier number
 joins (Landed flight answer now given ∷ earlier) number = joins earlier number
 joins (PickedUp picked answer ∷ earlier) number = joins earlier number
+joins (Purged is_gone ∷ earlier) number = joins earlier number
 
 -- how many times its answer was picked up
 abbrev pub heres : History → ℕ → ℕ
@@ -80,6 +85,7 @@ heres (PickedUp picked Unknown ∷ earlier) number = heres earlier number
 heres (Began url now answer ∷ earlier) number = heres earlier number
 heres (Looked url now answer ∷ earlier) number = heres earlier number
 heres (Landed flight answer now given ∷ earlier) number = heres earlier number
+heres (Purged is_gone ∷ earlier) number = heres earlier number
 
 -- the answer is that of the latest landing for the URL that wasn't bridged; it was to be stored, and this is its expiry
 abbrev pub IsLatest : History → List ℕ → Answered → ℕ → Type 0
@@ -113,6 +119,7 @@ Follows earlier (PickedUp number (Here answer)) = (landed_in earlier number ≡ 
 -- a flight whose answer is still to come is under way, and one that is unknown isn't
 Follows earlier (PickedUp number Flying) = IsSome (flying_in earlier number)
 Follows earlier (PickedUp number Unknown) = flying_in earlier number ≡ None
+Follows earlier (Purged is_gone) = ⊤
 
 -- each call follows from those before it
 abbrev pub Keeps : History → Type 0

@@ -1,6 +1,7 @@
 -- The cache machine: what a shard keeps, and names for what it does with it.
-use Rattle.std.specs.Prelude.{◌≢◌, ℕ, ◌+◌, ◌-◌, Bool, not, bytes_eq, nat_lt, List, [], ◌∷◌, ◌++◌, take, filter, Option, Some, None, is_none, option_and_then, if◌then◌else◌}
+use Rattle.std.specs.Prelude.{◌≢◌, ℕ, ◌+◌, ◌-◌, Bool, not, bytes_eq, nat_eq, nat_lt, List, [], ◌∷◌, ◌++◌, take, filter, Option, Some, None, is_none, option_and_then, if◌then◌else◌}
 use Rattle.std.specs.Option.{option_map_or}
+use Rattle.std.specs.List.{starts_with, list_any}
 use Rattle.std.specs.Map.{lookup}
 use Rattle.std.specs.Ordering.{eq_by_cmp, nat_cmp}
 use Rattle.edge_types.specs.Answered.{Answered}
@@ -62,6 +63,18 @@ entry_of entries url = lookup (bytes_eq url) entries
 -- the entries of all other URLs
 abbrev pub others : List ℕ → Entries → Entries
 others url entries = filter (λ e. not (bytes_eq url e.0)) entries
+
+-- the entries of URLs that aren't among these
+abbrev pub left : (List ℕ → Bool) → Entries → Entries
+left is_gone entries = filter (λ e. not (is_gone e.0)) entries
+
+-- the URL is one of these
+abbrev pub is_among : List (List ℕ) → List ℕ → Bool
+is_among urls url = list_any (λ u. bytes_eq u url) urls
+
+-- the URL begins so
+abbrev pub begins : List ℕ → List ℕ → Bool
+begins prefix url = starts_with nat_eq url prefix
 
 -- the URL's entry first, then the others
 abbrev pub used : List ℕ → Entries → Entries

@@ -1,10 +1,10 @@
 -- The steps of the cache machine, by cases.
-use Rattle.std.specs.Prelude.{◌≡◌, ◌≢◌, ℕ, ◌+◌, ◌-◌, ◌^◌, ◌<◌, ◌≤◌, ◌⊎◌, IsTrue, IsSome, List, [], ◌∷◌, ◌++◌, length, Some, None}
+use Rattle.std.specs.Prelude.{◌≡◌, ◌≢◌, ℕ, ◌+◌, ◌-◌, ◌^◌, ◌<◌, ◌≤◌, ◌⊎◌, Bool, IsTrue, IsSome, List, [], ◌∷◌, ◌++◌, length, Some, None}
 use Rattle.edge_types.specs.Answered.{Answered, failed}
 use Rattle.fragment_cache.specs.declared.flights.TheConstants.{MAX_FLIGHTS}
 use Rattle.fragment_cache.specs.declared.kept.TheConstants.{MAX_PICKS}
 use Rattle.fragment_cache.specs.Times.{expiry_of, is_failing}
-use Rattle.fragment_cache.specs.Machine.{Flight, Airspace, airspace, State, Flights, others, used, stored, fresh, bridging, kept_at, flying_at, landed_at, picks_at, NoneFlies, changed, without, departed, one_more, landed_with, picked}
+use Rattle.fragment_cache.specs.Machine.{Flight, Airspace, airspace, State, Flights, others, left, used, stored, fresh, bridging, kept_at, flying_at, landed_at, picks_at, NoneFlies, changed, without, departed, one_more, landed_with, picked}
 
 -- the result of `begin`
 pub data BeginAnswer : Type 0 where
@@ -97,3 +97,7 @@ PicksUp old number Unknown new = ((kept_at old number ≡ None) × (new ≡ old)
 -- nothing else changes
 abbrev pub Picks : State → ℕ → PickAnswer → State → Type 0
 Picks old number answer new = PicksUp old.flights number answer new.flights × (new ≡ record old { flights = new.flights })
+
+-- From old, a purge of these URLs leaves new: their entries are gone. Flights stay, so what is under way is stored once it lands.
+abbrev pub Purges : State → (List ℕ → Bool) → State → Type 0
+Purges old is_gone new = new ≡ record old { entries = left is_gone old.entries }

@@ -1,9 +1,11 @@
 //! The stored answers of a shard, newest use first. Clauses see the entries and the capacity.
 
-ghost use Rattle.std.specs.Prelude.{◌≡◌, ◌≢◌, ◌≤◌, ◌<◌, [], bytes_eq, None, Some, IfOk, OnOk, OnErr, IsSome, MatchOption, MatchBool, ℕ};
+ghost use Rattle.std.specs.Prelude.{◌≡◌, ◌≢◌, ◌≤◌, ◌<◌, [], filter, length, is_some, bytes_eq, None, Some, IfOk, OnOk, OnErr, IsSome, IsTrue, MatchOption, MatchBool, ℕ};
 ghost use Rattle.std.specs.Arc.{arc_value};
 ghost use Rattle.std.specs.NonZero.{non_zero_usize_get};
-ghost use Rattle.lru.specs.LruCache.{IsValid};
+ghost use Rattle.lru.specs.LruCache.{IsValid, lru_cache, promoted};
+ghost use Rattle.std.specs.Map.{keys_of};
+ghost use Rattle.fragment_cache.specs.Machine.{begins};
 ghost use Rattle.fragment_cache.specs.Times.{expiry_of};
 
 use crate::times::{expiry, extension};
@@ -65,8 +67,44 @@ fn check(cache: &LruCache<PageUrl, Stored>)
     let _ = cache.len();
 }
 
+// Whether the URL's entry is the newest.
+fn is_newest(cache: &LruCache<PageUrl, Stored>, url: &PageUrl) -> bool
+    ensures { IsTrue result → promoted (bytes_eq url.now) cache.now.entries ≡ cache.now.entries }
+{
+    match cache.peek_mru() {
+        Some((newest, _)) => newest == url,
+        None => false,
+    }
+}
+
+// Makes the URL's entry the newest. Nothing is looked up where it is.
+fn make_newest(cache: &mut LruCache<PageUrl, Stored>, url: &PageUrl)
+    ensures { cache.new ≡ lru_cache (promoted (bytes_eq url.now) cache.old.entries) cache.old.cap }
+{
+    if !is_newest(cache, url) {
+        cache.promote(url);
+    }
+}
+
+// The URLs of the entries that begin so.
+fn begun_by(
+    alloc: Global,
+    cache: &LruCache<PageUrl, Stored>,
+    prefix: &[u8],
+) -> Result<Vec<PageUrl>, NoMemory>
+    ensures { IfOk result (λ urls. urls.items ≡ filter (begins prefix.now) (keys_of cache.now.entries)) }
+{
+    let mut urls = Vec::new(alloc);
+    for (url, _) in cache.iter() {
+        if url.as_bytes().starts_with(prefix) {
+            urls.push(url.share()?)?;
+        }
+    }
+    Ok(urls)
+}
+
 impl Entries {
-    ghost use Rattle.fragment_cache.specs.Machine.{entry_of, others, used, stored, fresh, bridging};
+    ghost use Rattle.fragment_cache.specs.Machine.{entry_of, others, left, is_among, begins, used, stored, fresh, bridging};
     ghost use Rattle.fragment_cache.specs.Sound.{AreEntries};
 
     pub(crate) fn new(alloc: Global, capacity: NonZeroUsize) -> Result<Entries, NoMemory>
@@ -118,7 +156,7 @@ impl Entries {
     fn promote(&mut self, url: &PageUrl)
         ensures { self.new ≡ record self.old { entries = used url.now self.old.entries } }
     {
-        self.cache.promote(url);
+        make_newest(&mut self.cache, url);
         check(&self.cache);
     }
 
@@ -173,5 +211,40 @@ impl Entries {
     {
         let _ = self.cache.pop(url);
         check(&self.cache);
+    }
+
+    // How many entries there are.
+    pub(crate) fn len(&self) -> usize
+        ensures { result ≡ length self.now.entries }
+    {
+        self.cache.len()
+    }
+
+    // Removes the entry of a URL. Whether there was one.
+    pub(crate) fn purge(&mut self, url: &PageUrl) -> bool
+        ensures entries { self.new ≡ record self.old { entries = others url.now self.old.entries } }
+        ensures found { result ≡ is_some (entry_of self.old.entries url.now) }
+    {
+        let is_there = self.cache.contains(url);
+        self.remove(url);
+        is_there
+    }
+
+    // Removes the entries of all URLs that begin so.
+    pub(crate) fn purge_prefix(&mut self, alloc: Global, prefix: &[u8]) -> Result<(), NoMemory>
+        ensures ok { OnOk result (self.new ≡ record self.old { entries = left (begins prefix.now) self.old.entries }) }
+        ensures err { OnErr result (self.new ≡ self.old) }
+    {
+        let gone = begun_by(alloc, &self.cache, prefix)?;
+        self.remove_all(&gone);
+        Ok(())
+    }
+
+    fn remove_all(&mut self, urls: &[PageUrl])
+        ensures { self.new ≡ record self.old { entries = left (is_among urls.now) self.old.entries } }
+    {
+        for url in urls {
+            self.remove(url);
+        }
     }
 }

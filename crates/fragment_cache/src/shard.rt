@@ -52,7 +52,7 @@ impl Model for Shard {
 }
 
 impl Shard {
-    ghost use Rattle.std.specs.Prelude.{◌≡◌, ◌<◌, ◌≤◌, ◌+◌, ◌++◌, ◌∷◌, [], ℕ, None, Some, IfOk, IfSome, OnErr, MatchOption};
+    ghost use Rattle.std.specs.Prelude.{◌≡◌, ◌<◌, ◌≤◌, ◌+◌, ◌++◌, ◌∷◌, [], length, ℕ, None, Some, IfOk, IfSome, OnErr, MatchOption};
     ghost use Rattle.std.specs.Arc.{arc_value};
     ghost use Rattle.fragment_cache.specs.Machine.{empty, fresh, picks_at, flying_at, NoneFlies};
     ghost use Rattle.fragment_cache.specs.Steps.{Begins, Looks, Found, Missing, Refused, LandsSomehow, Picks};
@@ -161,6 +161,15 @@ impl Shard {
             (λ number. flying_at self.now.flights number ≡ Some url.now) }
     {
         self.flights.flying(url)
+    }
+
+    /// How many entries there are. Takes no memory.
+    ///
+    /// Our profile.
+    pub fn entries(&self) -> usize
+        ensures { result ≡ length self.now.entries }
+    {
+        self.entries.len()
     }
 
     // Joins the flight of a URL that no entry answers, or leads a new one.
@@ -289,5 +298,45 @@ impl Shard {
             Ok(Some(found)) => Some(found),
             Ok(None) | Err(NoMemory) => None,
         }
+    }
+}
+
+impl Shard {
+    ghost use Rattle.std.specs.Prelude.{◌≡◌, ◌+◌, length, bytes_eq, is_some, IfOk, OnOk, OnErr};
+    ghost use Rattle.fragment_cache.specs.Machine.{entry_of, begins};
+    ghost use Rattle.fragment_cache.specs.Steps.{Purges};
+    ghost use Rattle.fragment_cache.specs.Sound.{IsSound};
+
+    /// Removes the entry of a URL, so that it neither hits nor bridges until the next landing for the URL. Returns
+    /// whether there was one. Flights stay, and a flight that is under way is stored once it lands. Takes no memory.
+    ///
+    /// Our profile.
+    pub fn purge(&mut self, url: &PageUrl) -> bool
+        ensures step { Purges self.old (bytes_eq url.now) self.new }
+        ensures found { result ≡ is_some (entry_of self.old.entries url.now) }
+        ensures sound { IsSound self.new }
+    {
+        let is_there = self.entries.purge(url);
+        self.sound();
+        is_there
+    }
+
+    /// Removes the entries of all URLs that begin with these bytes, as `purge` does that of one. Returns how many there
+    /// were.
+    ///
+    /// `NoMemory` if there is none for the list of these URLs; nothing changes then.
+    ///
+    /// Our profile.
+    pub fn purge_prefix(&mut self, prefix: &[u8]) -> Result<usize, NoMemory>
+        ensures ok { OnOk result (Purges self.old (begins prefix.now) self.new) }
+        ensures count { IfOk result (λ count. length self.new.entries + count ≡ length self.old.entries) }
+        ensures err { OnErr result (self.new ≡ self.old) }
+        ensures sound { IsSound self.new }
+    {
+        let before = self.entries.len();
+        self.sound();
+        self.entries.purge_prefix(self.alloc, prefix)?;
+        self.sound();
+        Ok(before - self.entries.len())
     }
 }

@@ -1,9 +1,18 @@
 //! How long answers are good for, in whole seconds of the cache's clock.
 
-ghost use Rattle.std.specs.Prelude.{◌≡◌};
+ghost use Rattle.std.specs.Prelude.{◌≡◌, ℕ, is_some};
 ghost use Rattle.fragment_cache.specs.Times.{expiry_of, fresh_until, extension_of, is_failing};
 
 use edge_types::{Answer, Control, Reply};
+
+/// Whether an answer is to be stored, whenever it lands: a success with a `max-age` of at least 1 and without `no-store`.
+///
+/// Our profile.
+pub fn is_to_be_stored(answer: &Answer) -> bool
+    ensures { (now : ℕ) → result ≡ is_some (expiry_of answer.now now) }
+{
+    expiry(answer, 0).is_some()
+}
 
 // Until when an answer that landed now is fresh; `None` if it isn't to be stored.
 pub(crate) fn expiry(answer: &Answer, now: u64) -> Option<u64>

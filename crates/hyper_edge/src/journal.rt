@@ -18,7 +18,8 @@ use std::alloc::Global;
 use std::net::IpAddr;
 use std::time::{Clock, Duration, Instant};
 
-/// What each request that was answered is reported to, by the threads that serve.
+/// What each request that was answered is reported to, by the threads that serve, and each connection. A journal needn't
+/// take note of connections.
 ///
 /// Our profile.
 pub trait Journal<R> {
@@ -27,6 +28,15 @@ pub trait Journal<R> {
 
     /// A request was answered, and its response has been written or its connection has ended.
     fn served(&self, rt: &R, record: &RequestRecord);
+
+    /// A connection was accepted.
+    fn accepted(&self) {}
+
+    /// A connection that was accepted has ended.
+    fn ended(&self) {}
+
+    /// An accept has failed, and not because the server was stopped; of several at the same time one counts.
+    fn accept_failed(&self) {}
 }
 
 /// No journal. It costs nothing.

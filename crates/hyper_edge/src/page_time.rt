@@ -9,6 +9,7 @@ ghost use Rattle.hyper_edge.specs.PageTime.{GivesInTime, names_url};
 use crate::departure::ClientWatch;
 use edge_types::{Answer, NoMemory, PageUrl};
 use fetch_workers::{ConcurrentSource, Source};
+use plan_compiler::Prepared;
 use std::alloc::Global;
 use std::sync::Arc;
 use std::time::{Clock, Instant};
@@ -96,6 +97,10 @@ impl<'a, R: Clock, S: Source<R>> Source<R> for WithinTime<'a, S> {
         url: &PageUrl,
     ) -> Result<Option<Arc<Answer>>, NoMemory> {
         self.source.bridging(rt, alloc, url)
+    }
+
+    fn prepared(&self, rt: &R, alloc: Global, answer: Arc<Answer>) -> Result<Prepared, NoMemory> {
+        self.source.prepared(rt, alloc, answer)
     }
 }
 

@@ -131,11 +131,12 @@ where
             return;
         };
         self.roster.accepted(rt, self.acceptor);
+        self.serving.journal.accepted();
         let client = self.acceptor.client(&io);
         let signals = self.acceptor.signals(&io);
         match self.serving.session(opens, io, client, signals) {
             Some(session) => self.go_on(session, executor),
-            None => self.roster.ended(rt),
+            None => self.ended(),
         }
         self.roster.served(rt, self.acceptor);
     }
@@ -145,8 +146,12 @@ where
     fn goes_on_after_failure(&self) {
         let rt = self.serving.rt;
         match self.roster.accept_failed(rt) {
-            AfterFailure::Ends => self.acceptor.end(rt),
+            AfterFailure::Ends => {
+                self.serving.journal.accept_failed();
+                self.acceptor.end(rt);
+            }
             AfterFailure::Rests(millis) => {
+                self.serving.journal.accept_failed();
                 self.end_idle();
                 self.acceptor
                     .rest(rt, Duration::from_millis(u64::from(millis)));
@@ -196,8 +201,14 @@ where
         if is_parked {
             self.roster.parked(rt);
         } else {
-            self.roster.ended(rt);
+            self.ended();
         }
+    }
+
+    // A connection has ended.
+    fn ended(&self) {
+        self.serving.journal.ended();
+        self.roster.ended(self.serving.rt);
     }
 
     // Ends the connection that has been idle for longest; if there is none, waits.
@@ -214,7 +225,7 @@ where
             return false;
         };
         drop(idle);
-        self.roster.ended(rt);
+        self.ended();
         true
     }
 }

@@ -254,7 +254,7 @@ fn is_circle(name: Option<&[u8]>, fields: &[Field<'_>], passed: &[u8]) -> bool
 fn fields_of(alloc: Global, headers: &HeaderMap<HeaderValue>) -> Result<Vec<Field<'_>>, NoMemory>
     ensures { IfOk result (λ fields. map line fields.items ≡ lines_of headers.now) }
 {
-    let mut fields = Vec::new(alloc);
+    let mut fields = Vec::with_capacity(alloc, headers.len())?;
     for (name, value) in headers.iter() {
         fields.push(Field {
             name: name.as_bytes(),

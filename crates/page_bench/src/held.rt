@@ -50,7 +50,7 @@ fn held(rt: &HostRuntime, table: &Table) -> io::Result<()> {
 
 // The page after these events.
 fn posted(alloc: Global, url: PageUrl, table: &Table, events: &[Event]) -> io::Result<Page> {
-    let request = Request::empty(alloc);
+    let request = Request::empty();
     match run_events(alloc, url, request, table, MAX_AHEAD, 4, events) {
         Ok((page, _)) => Ok(page),
         Err(_) => Err(io::Error::from(io::ErrorKind::OutOfMemory)),

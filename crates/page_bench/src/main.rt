@@ -7,16 +7,18 @@ use std::{env, io};
 
 mod cases;
 mod held;
+mod kept_templates;
 mod orders;
 mod sharing;
 mod site;
 mod workers;
 
-const NAMES: [&str; 6] = [
+const NAMES: [&str; 7] = [
     "pages",
     "orders",
     "workers",
     "sharing",
+    "kept-templates",
     "held-bodies",
     "held-page",
 ];
@@ -29,10 +31,12 @@ fn main(rt: HostRuntime) -> io::Result<()> {
             "all" => {
                 run_all(&rt)?;
                 workers::run(&rt, rt.alloc())?;
-                sharing::run(&rt, rt.alloc())?
+                sharing::run(&rt, rt.alloc())?;
+                kept_templates::run(&rt, rt.alloc())?
             }
             "workers" => workers::run(&rt, rt.alloc())?,
             "sharing" => sharing::run(&rt, rt.alloc())?,
+            "kept-templates" => kept_templates::run(&rt, rt.alloc())?,
             name => run(&rt, name)?,
         }
     }

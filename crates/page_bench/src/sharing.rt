@@ -48,9 +48,9 @@ impl<R: Clock> Source<R> for Far {
     }
 }
 
-// It is always the same second.
+/// It is always the same second.
 #[derive(Drop)]
-struct Still;
+pub struct Still;
 
 impl<R> Seconds<R> for Still {
     fn now(&self, _rt: &R) -> u64 {

@@ -61,6 +61,7 @@ fn insert_fragment(alloc: Global, i: usize, site: Site<'_>, table: &mut Table) -
 fn insert(alloc: Global, name: &str, body: &str, esi: bool, table: &mut Table) -> io::Result<()> {
     let control = Control {
         esi,
+        max_age: Some(60),
         ..Control::default()
     };
     let name = format!(in alloc; "http://a.test/{name}")?;
@@ -98,7 +99,7 @@ pub fn evaluated(alloc: Global, table: &Table, levels: u8) -> io::Result<()>
     requires { AreLevels levels }
 {
     let url = page_url(alloc)?;
-    let request = Request::empty(alloc);
+    let request = Request::empty();
     or_input_error(plain_page(alloc, &url, &request, table, levels))
 }
 
@@ -108,6 +109,6 @@ pub fn ran(alloc: Global, table: &Table, ahead: u16, levels: u8, events: &[Event
     requires levels { AreLevels levels }
 {
     let url = page_url(alloc)?;
-    let request = Request::empty(alloc);
+    let request = Request::empty();
     or_input_error(run_to_end(alloc, url, request, table, ahead, levels, events))
 }

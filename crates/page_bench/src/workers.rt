@@ -120,14 +120,15 @@ fn rounds_told<R: Wait + Threads + Clock + Print + Sync>(
     )
 }
 
-fn assembled<R: Wait + Threads + Sync, S: Source<R> + Sync>(
+/// Assembles the page of a source.
+pub fn assembled<R: Wait + Threads + Sync, S: Source<R> + Sync>(
     rt: &R,
     alloc: Global,
     source: &S,
     workers: u8,
 ) -> io::Result<()> {
     let url = page_url(alloc)?;
-    let request = Request::empty(alloc);
+    let request = Request::empty();
     let workers = workers.clamp(1, MAX_WORKERS);
     or_input_error(assemble(rt, alloc, source, url, request, MAX_AHEAD, workers, 4))
 }

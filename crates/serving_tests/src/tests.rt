@@ -1,6 +1,6 @@
 // A case has answers with a `;` between two: a path, `failed` or a status with what its control says, and
-// the body. A control is `plain`, or `esi` if the body is processed; a number in its place is the
-// max-age, and a second one after a `+` the extension.
+// the body. A control is `plain`, or `esi` if the body is processed; a number in its place, or behind `esi`, is
+// the max-age, and a second one after a `+` the extension.
 use edge_types::{Answer, Control, NoMemory, Octets, Outcome, PageUrl, SharedBytes, Table};
 use fetch_workers::{Source, TableSource};
 use std::alloc::Global;
@@ -27,9 +27,10 @@ fn insert(rt: &impl Abort, alloc: Global, table: &mut Table, text: &str) -> Resu
     let (path, said) = text.split_once(' ').unwrap_or((text, ""));
     let (status, said) = said.split_once(' ').unwrap_or(("", ""));
     let (kind, body) = said.split_once(' ').unwrap_or(("", ""));
-    let (age, extension) = kind.split_once('+').unwrap_or((kind, ""));
+    let ages = kind.trim_start_matches("esi");
+    let (age, extension) = ages.split_once('+').unwrap_or((ages, ""));
     let control = Control {
-        esi: kind == "esi",
+        esi: kind.starts_with("esi"),
         max_age: age.parse::<u32>().ok(),
         extension: extension.parse::<u32>().unwrap_or(0),
         ..Control::default()

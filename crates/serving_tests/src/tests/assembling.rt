@@ -66,7 +66,7 @@ const CASE: &str =
 fn assemble_gives_a_page_and_its_log(rt: HostRuntime) -> Result<(), Fail> {
     let alloc = rt.alloc();
     let table = source_of(&rt, alloc, CASE)?;
-    let (url, request) = (url(&rt, alloc, "/p")?, Request::empty(alloc));
+    let (url, request) = (url(&rt, alloc, "/p")?, Request::empty());
     let out = told(alloc, assemble(&rt, alloc, &table, url, request, 2, 1, 4))?;
     assert!(rt; out.as_str() == "12 /p /x /y", "{out}");
     Ok(())
@@ -76,7 +76,7 @@ fn assemble_gives_a_page_and_its_log(rt: HostRuntime) -> Result<(), Fail> {
 fn assemble_gated_gives_a_page_and_its_log(rt: HostRuntime) -> Result<(), Fail> {
     let alloc = rt.alloc();
     let table = source_of(&rt, alloc, CASE)?;
-    let (url, request) = (url(&rt, alloc, "/p")?, Request::empty(alloc));
+    let (url, request) = (url(&rt, alloc, "/p")?, Request::empty());
     let made = assemble_gated(&rt, alloc, &table, &OpenGate, url, request, 2, 1, 4);
     let out = told(alloc, made)?;
     assert!(rt; out.as_str() == "12 /p /x /y", "{out}");
@@ -101,7 +101,7 @@ fn gate_over_a_table<R: ServerRuntime + Abort + Sync>(
     let alloc = rt.alloc();
     let meeting = Meeting::of("/x", 3, millis);
     let table = source_of(rt, alloc, CASE)?;
-    let (url, request) = (url(rt, alloc, "/p")?, Request::empty(alloc));
+    let (url, request) = (url(rt, alloc, "/p")?, Request::empty());
     let how = Assembling::new(2, workers.clamp(1, 16), 4);
     let out = told(
         alloc,
@@ -150,7 +150,7 @@ fn made<R: ServerRuntime + Abort + Sync>(
     meeting: &Meeting,
 ) -> Result<String, NoMemory> {
     let alloc = rt.alloc();
-    let (url, request) = (url(rt, alloc, "/p")?, Request::empty(alloc));
+    let (url, request) = (url(rt, alloc, "/p")?, Request::empty());
     let held = Held { table, meeting };
     let (ahead, workers, levels) = (how.ahead, how.workers, how.levels);
     let made = match call {

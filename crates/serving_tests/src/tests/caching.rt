@@ -1,8 +1,8 @@
 //! A source under a cache whose clock is set by hand.
 
-use super::{Origin, source_of, url};
-use edge_types::{Answer, NoMemory, PageUrl};
-use fetch_workers::{Cache, Clock, OnBehalf, Source, TableSource};
+use super::{Origin, push_outcome, source_of, url};
+use edge_types::{Answer, NoMemory, PageUrl, Request};
+use fetch_workers::{Cache, Clock, OnBehalf, Source, TableSource, assemble};
 use std::alloc::Global;
 use std::fmt::Write;
 use std::process::Abort;
@@ -121,6 +121,44 @@ fn answers_are_kept_and_bridged(rt: HostRuntime) -> Result<(), Fail> {
     for row in ROWS.lines() {
         row_holds(&rt, rt.alloc(), row)?;
     }
+    Ok(())
+}
+
+// What is purged is fetched anew; what else is kept isn't.
+#[test]
+fn what_is_purged_is_fetched_anew(rt: HostRuntime) -> Result<(), Fail> {
+    let alloc = rt.alloc();
+    let (fetches, seconds) = (AtomicU64::new(0), AtomicU64::new(100));
+    let origin = Origin {
+        table: source_of(&rt, alloc, "/a/x 200 60 1;/a/y 200 60 2;/b 200 60 3")?,
+        fetches: &fetches,
+        refused: u64::MAX,
+        round: u64::MAX,
+        ends: u64::MAX,
+    };
+    let cache = Cache::new(alloc, origin, Hands(&seconds), 8)?;
+    let b = url(&rt, alloc, "/b")?;
+    let at_first = given(&rt, alloc, &cache, &seconds, "/a/x /a/y /b /b")?;
+    assert!(rt; at_first.as_str() == "1233", "{at_first}");
+    assert!(rt; cache.purge(&rt, &b) && !cache.purge(&rt, &b));
+    let looked = given(&rt, alloc, &cache, &seconds, "?/b /b ?/b ?/a/x")?;
+    assert!(rt;
+        looked.as_str() == ".331" && fetches.load(Ordering::SeqCst) == 4,
+        "{looked}"
+    );
+    let gone = cache.purge_prefix(&rt, b"http://a.test/a/")?;
+    assert!(rt; gone == 2, "{gone}");
+    let looked = given(&rt, alloc, &cache, &seconds, "?/a/x ?/a/y ?/b /a/y")?;
+    assert!(rt;
+        looked.as_str() == "..32" && fetches.load(Ordering::SeqCst) == 5,
+        "{looked}"
+    );
+    let tally = cache.tally(&rt);
+    assert!(rt;
+        tally.entries == 2 && tally.hits == 4 && tally.leads == 5,
+        "{tally:?}"
+    );
+    assert!(rt; tally.joins == 0 && tally.bypasses == 0, "{tally:?}");
     Ok(())
 }
 
@@ -272,5 +310,56 @@ fn caches_on_behalf_of_edges_keep_the_same(rt: HostRuntime) -> Result<(), Fail> 
     assert!(rt; out.as_str() == "11221", "{out}");
     assert!(rt; made_for(&rt, alloc, &cache, b"edge-b")?.is_none());
     assert!(rt; made_for(&rt, alloc, &table, b"edge-a")?.is_none());
+    Ok(())
+}
+
+// The page at `/p` of a source, so many times.
+fn push_pages<R: Wait + Threads + Abort + Sync, S: Source<R> + Sync>(
+    rt: &R,
+    alloc: Global,
+    source: &S,
+    count: usize,
+    out: &mut String,
+) -> Result<(), NoMemory> {
+    for _ in 0..count {
+        let (url, request) = (url(rt, alloc, "/p")?, Request::empty());
+        match assemble(rt, alloc, source, url, request, 2, 1, 4) {
+            Ok(page) => push_outcome(out, &page.outcome)?,
+            Err(_) => out.push_str("a fault")?,
+        }
+        out.push(' ')?;
+    }
+    Ok(())
+}
+
+// A template that is kept gives the same page again, and isn't used for the one that comes once it has expired.
+#[test]
+fn kept_templates_go_with_their_answers(rt: HostRuntime) -> Result<(), Fail> {
+    let alloc = rt.alloc();
+    let seconds = AtomicU64::new(100);
+    let table = source_of(
+        &rt,
+        alloc,
+        "/p 200 esi60 <esi:include src='/x'/>1;/x 200 90 a",
+    )?;
+    let other = source_of(
+        &rt,
+        alloc,
+        "/p 200 esi60 2<esi:include src='/x'/>;/x 200 90 b",
+    )?;
+    let source = Twofold {
+        table: &table,
+        other: &other,
+    };
+    let cache = Cache::new(alloc, source, Hands(&seconds), 8)?;
+    let mut out = String::new(alloc);
+    push_pages(&rt, alloc, &cache, 2, &mut out)?;
+    if let Some(made) = made_for(&rt, alloc, &cache, b"edge-a")? {
+        push_pages(&rt, alloc, &made, 1, &mut out)?;
+        seconds.fetch_add(60, Ordering::SeqCst);
+        push_pages(&rt, alloc, &made, 2, &mut out)?;
+    }
+    push_pages(&rt, alloc, &cache, 1, &mut out)?;
+    assert!(rt; out.as_str() == "a1 a1 a1 2a 2a 2a ", "{out}");
     Ok(())
 }

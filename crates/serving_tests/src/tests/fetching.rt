@@ -24,7 +24,7 @@ fn made<R: Wait + Threads + Clock + Abort + Sync>(
         return Err(NoMemory);
     }
     let url = url(rt, alloc, "/p")?;
-    let request = Request::empty(alloc);
+    let request = Request::empty();
     let mut out = String::new(alloc);
     match assemble_gated(rt, alloc, origin, gate, url, request, 16, workers, 4) {
         Ok(page) => push_outcome(&mut out, &page.outcome)?,

@@ -131,7 +131,7 @@ where
 {
     let alloc = rt.alloc();
     let how = Assembling::new(16, 4, 4).with_fetches(fetches.clamp(1, 256));
-    let (url, request) = (url(rt, alloc, "/p")?, Request::empty(alloc));
+    let (url, request) = (url(rt, alloc, "/p")?, Request::empty());
     let made = how.assemble(rt, alloc, source, &OpenGate, url, request);
     let mut out = String::new(alloc);
     match made {

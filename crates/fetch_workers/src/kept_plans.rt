@@ -1,0 +1,171 @@
+//! What a cache made of the answers that it keeps. Each call locks, makes one call and unlocks; nothing is read or
+//! compiled under a lock.
+
+ghost use Rattle.std.specs.Prelude.{◌≡◌, ◌≤◌, ◌<◌, [], bytes_eq, IfOk, IfSome, IsTrue, OnOk, OnErr};
+ghost use Rattle.std.specs.Arc.{arc_value};
+ghost use Rattle.std.specs.Map.{lookup};
+ghost use Rattle.std.specs.NonZero.{non_zero_usize_get};
+ghost use Rattle.lru.specs.LruCache.{lru_cache, promoted, put_entries};
+
+use crate::cache::{SHARDS, shard_of};
+use crate::same::same_answer;
+use edge_types::{Answer, NoMemory, PageUrl};
+use fragment_cache::is_to_be_stored;
+use lru::LruCache;
+use plan_compiler::{Form, Plan, Prepared, Step};
+use std::alloc::Global;
+use std::array;
+use std::num::NonZeroUsize;
+use std::sync::{Arc, Mutex, Wait};
+
+// The most steps and parts of texts that a plan which is kept can have: about as much memory as the longest body.
+//
+// Our profile.
+const MAX_KEPT_PARTS: usize = 2048;
+
+// What is kept of the answers of a shard, that of the latest use first.
+#[derive(Drop)]
+struct PlanShelf {
+    plans: LruCache<PageUrl, Prepared>,
+}
+
+impl PlanShelf {
+    fn new(alloc: Global, capacity: NonZeroUsize) -> Result<PlanShelf, NoMemory>
+        ensures { IfOk result (λ shelf. shelf.plans ≡ lru_cache [] (non_zero_usize_get capacity)) }
+    {
+        Ok(PlanShelf {
+            plans: LruCache::sparse(alloc, capacity)?,
+        })
+    }
+
+    // A second owner of what is kept for a URL, which becomes the newest.
+    fn find(&mut self, url: &PageUrl) -> Result<Option<Prepared>, NoMemory>
+        ensures found { IfOk result (λ found. found ≡ lookup (bytes_eq url.now) self.old.plans.entries) }
+        ensures shelf { self.new.plans ≡ lru_cache (promoted (bytes_eq url.now) self.old.plans.entries) self.old.plans.cap }
+    {
+        match self.plans.get(url) {
+            Some(kept) => Ok(Some(kept.share()?)),
+            None => Ok(None),
+        }
+    }
+
+    // Puts what was made of an answer of this URL first. Returns what it pushed out.
+    fn put(
+        &mut self,
+        url: PageUrl,
+        prepared: Prepared,
+    ) -> Result<Option<(PageUrl, Prepared)>, NoMemory>
+        requires { url ≡ prepared.url }
+        ensures ok { OnOk result (self.new.plans ≡ lru_cache (put_entries bytes_eq self.old.plans prepared.url prepared) self.old.plans.cap) }
+        ensures err { OnErr result (self.new.plans ≡ self.old.plans) }
+    {
+        Ok(self.plans.push(url, prepared)?)
+    }
+}
+
+/// What a cache made of its answers: of the latest one of each URL that is processed and to be stored, since the others
+/// cost nothing to make ready or aren't asked for again. In each shard there are no more of them than of answers.
+#[derive(Drop)]
+pub(crate) struct KeptPlans {
+    shelves: [Mutex<PlanShelf>; SHARDS],
+}
+
+// Whether what is made of an answer is kept.
+fn is_to_be_kept(answer: &Answer) -> bool {
+    answer.processed() && is_to_be_stored(answer)
+}
+
+// Whether there is room for what a body is.
+fn is_small(form: &Form) -> bool {
+    match form {
+        Form::Planned(plan) => parts_of(plan) <= MAX_KEPT_PARTS,
+        Form::Plain | Form::BadAt(_) => true,
+    }
+}
+
+// How many steps there are, and parts of their texts.
+fn parts_of(plan: &Plan) -> usize {
+    let mut count = plan.len();
+    for i in 0..plan.len() {
+        if let Some(Step::Values(parts) | Step::Leg(parts)) = plan.step(i) {
+            count = count.saturating_add(parts.as_slice().len());
+        }
+    }
+    count
+}
+
+impl KeptPlans {
+    /// Nothing is kept yet, and then of at most so many answers in each shard.
+    pub(crate) fn new(alloc: Global, capacity: usize) -> Result<KeptPlans, NoMemory>
+        requires { 1 ≤ capacity }
+    {
+        let capacity = match NonZeroUsize::new(capacity) {
+            Some(capacity) => capacity,
+            None => unreachable!(),
+        };
+        let shelves: [Mutex<PlanShelf>; SHARDS] = array::try_from_fn(|_| empty_shelf(
+            alloc, capacity,
+        ))?;
+        Ok(KeptPlans { shelves })
+    }
+
+    /// The answer, made ready: what is kept of this very answer, or what is made of it now, and then kept where that is
+    /// worth it.
+    pub(crate) fn prepared<R: Wait>(
+        &self,
+        rt: &R,
+        alloc: Global,
+        answer: Arc<Answer>,
+    ) -> Result<Prepared, NoMemory>
+        ensures { IfOk result (λ prepared. prepared ≡ arc_value answer) }
+    {
+        if !is_to_be_kept(&answer) {
+            return Prepared::of(alloc, answer);
+        }
+        if let Some(kept) = self.kept(rt, &answer) {
+            return Ok(kept);
+        }
+        let prepared = Prepared::of(alloc, answer)?;
+        if is_small(prepared.form()) {
+            // Without memory for it nothing is kept.
+            let _ = self.keep(rt, &prepared);
+        }
+        Ok(prepared)
+    }
+
+    /// Makes an answer ready for those who will ask for that, where it is kept. Without memory for it nothing is.
+    pub(crate) fn prepare<R: Wait>(&self, rt: &R, alloc: Global, answer: &Arc<Answer>) {
+        if !is_to_be_kept(answer) {
+            return;
+        }
+        if let Ok(own) = Arc::try_clone(answer) {
+            let _ = self.prepared(rt, alloc, own);
+        }
+    }
+
+    // What is kept of this very answer. The answers are compared once the lock is left.
+    fn kept<R: Wait>(&self, rt: &R, answer: &Answer) -> Option<Prepared>
+        ensures { IfSome result (λ kept. kept ≡ answer.now) }
+    {
+        let found = self.shelves[shard_of(answer.url())]
+            .lock(rt)
+            .find(answer.url());
+        match found {
+            Ok(Some(kept)) if same_answer(kept.answer(), answer) => Some(kept),
+            _ => None,
+        }
+    }
+
+    // Keeps this for its URL, in place of what was kept for it. What it pushes out is dropped once the lock is left.
+    fn keep<R: Wait>(&self, rt: &R, prepared: &Prepared) -> Result<(), NoMemory> {
+        let (url, own) = (prepared.url().share()?, prepared.share()?);
+        let _pushed_out = self.shelves[shard_of(prepared.url())]
+            .lock(rt)
+            .put(url, own)?;
+        Ok(())
+    }
+}
+
+fn empty_shelf(alloc: Global, capacity: NonZeroUsize) -> Result<Mutex<PlanShelf>, NoMemory> {
+    Ok(Mutex::new(PlanShelf::new(alloc, capacity)?))
+}

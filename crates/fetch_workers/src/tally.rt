@@ -1,0 +1,61 @@
+//! What a cache keeps, and how it was asked.
+
+use fragment_cache::Begun;
+
+/// How many answers a cache keeps, and by what it gave those that were asked for. A look-up that is refused, since as many wait
+/// for its fetch as may, isn't counted.
+///
+/// Our profile.
+#[derive(Clone, Copy, Debug, Drop, PartialEq, Eq)]
+pub struct CacheTally {
+    /// Answers that are kept.
+    pub entries: u64,
+    /// Given by an answer that is kept.
+    pub hits: u64,
+    /// Given by a fetch that somebody else makes.
+    pub joins: u64,
+    /// Given by a fetch for all who ask meanwhile.
+    pub leads: u64,
+    /// Given by a fetch for whoever asked alone, for want of room.
+    pub bypasses: u64,
+}
+
+impl CacheTally {
+    /// Nothing is kept, and nothing was asked for.
+    pub(crate) fn new() -> CacheTally {
+        CacheTally {
+            entries: 0,
+            hits: 0,
+            joins: 0,
+            leads: 0,
+            bypasses: 0,
+        }
+    }
+
+    /// Counts an answer that is asked for.
+    pub(crate) fn note(&mut self, begun: &Begun) {
+        let count = match begun {
+            Begun::Hit(_) => &mut self.hits,
+            Begun::Join(_) => &mut self.joins,
+            Begun::Lead(_, _) => &mut self.leads,
+            Begun::Bypass => &mut self.bypasses,
+        };
+        *count = count.saturating_add(1);
+    }
+
+    /// Counts an answer that was there when it was looked for.
+    pub(crate) fn note_hit(&mut self) {
+        self.hits = self.hits.saturating_add(1);
+    }
+
+    /// Both together.
+    pub(crate) fn plus(self, other: CacheTally) -> CacheTally {
+        CacheTally {
+            entries: self.entries.saturating_add(other.entries),
+            hits: self.hits.saturating_add(other.hits),
+            joins: self.joins.saturating_add(other.joins),
+            leads: self.leads.saturating_add(other.leads),
+            bypasses: self.bypasses.saturating_add(other.bypasses),
+        }
+    }
+}
