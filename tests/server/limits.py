@@ -2,7 +2,8 @@
 import resource
 import time
 
-from harness import PATIENCE, PLAIN, Origin, Wires, Wrong, before, client, get, same, told, wire
+from harness import PATIENCE, PLAIN, Origin, Response, Wires, Wrong, before, client, get, rest, same, told, wire
+from parking import resident
 
 # After how many seconds a slow answer comes.
 SLOWLY = 0.4
@@ -70,6 +71,31 @@ def a_page_has_no_more_than_its_bytes():
             same("a fragment with %s bytes" % most, (200, b"x" * 1000), told(edge, "/kilobyte"))
 
 
+def long_values_are_not_copied():
+    """A page that has one long value at 2,000 places, a hundred megabytes of text, takes memory for the value alone."""
+    value, times = 50000, 2000
+    longest = "x" * value
+    fields = {
+        "$(HTTP_COOKIE)": "Cookie: %s\r\n" % longest,
+        "$(HTTP_COOKIE{b})": "Cookie: a=1; b=%s ; c=2\r\n" % longest,
+        "$(HTTP_USER_AGENT{version})": "User-Agent: Mozilla/%s (X11)\r\n" % ("1" * value),
+    }
+    for reference, field in fields.items():
+        texts = {"/small": page_of("small"), "/p": page_of("<esi:vars>%s</esi:vars>" % (reference * times))}
+        with Wires(texts) as origin, before(origin) as edge:
+            told(edge, "/small")
+            begun = resident(edge)
+            head = "GET /p HTTP/1.1\r\nHost: a.test\r\n%s\r\n" % field
+            with client(edge, head.encode()) as connection:
+                first = connection.recv(1)
+                time.sleep(0.2)
+                grown = resident(edge) - begun
+                response = Response(first + rest(connection))
+            same(reference, (200, value * times), (response.status, len(response.body)))
+            if grown > 16 << 20:
+                raise Wrong("%s: %d bytes more in memory" % (reference, grown))
+
+
 def a_late_page_shows_older_answers():
     """Past its time a page has what would bridge a failing origin, and nobody is asked for it: by a thread for each fetch,
     or several fetches of one. What nothing bridges fails."""
@@ -129,6 +155,7 @@ TESTS = (
     a_page_ends_soon_after_its_time,
     what_is_stored_counts_past_a_page_s_time,
     a_page_has_no_more_than_its_bytes,
+    long_values_are_not_copied,
     a_late_page_shows_older_answers,
     a_page_is_assembled_by_one_thread_where_no_other_starts,
     failed_accepts_wait,

@@ -59,6 +59,7 @@ def usage_is_told():
         ["--name", ""], ["--name", "a b"], ["--name", "a/b"], ["--name", "n" * 65], ["--name", "a", "--name", "b"],
         ["--client-timeout", "-"], ["--client-timeout", "86400001"], ["--keep-alive", "5s"], ["--keep-alive", "86401"],
         ["--threads", "0"], ["--threads", "65"], ["--connections", "0"], ["--connections", "65537"], ["--head", "x"], ["--head=yes"], ["--abort-on-close", "x"], ["--abort-on-close", "--abort-on-close"], ["--stop-with-input", "x"], ["--log", "x"], ["--log=yes"], ["--log", "--log"], ["--log-format"], ["--log-format", "JSON"], ["--log-format="],
+        ["--admin", "127.0.0.1"], ["--admin", "localhost:1"], ["--admin="],
         ["--forwarded", ""], ["--forwarded", "a b"], ["--forwarded", "f" * 65],
     )]
     for words in rows:
@@ -132,7 +133,7 @@ def options_are_read_from_a_file():
 def a_used_port_is_told():
     """A port that somebody listens on: status 5, and a line that says so."""
     with Origin() as origin:
-        said = b"error: the address of --listen is in use: another process listens there\n"
+        said = b"error: the address of --listen or --admin is in use: another process listens there\n"
         same("a used port", (5, b"", said), ended("--listen", origin.at))
 
 
@@ -148,7 +149,7 @@ def a_port_that_is_not_permitted_is_told():
         if int(file.read()) < 2:
             return
     status, printed, said = ended("--listen", "127.0.0.1:1", preexec_fn=without_low_ports)
-    same("port 1", (5, b"", True), (status, printed, said.startswith(b"error: permission for the address of --listen is denied: ")))
+    same("port 1", (5, b"", True), (status, printed, said.startswith(b"error: permission for the address of --listen or --admin is denied: ")))
 
 
 TESTS = (

@@ -3,3 +3,4 @@ pub mod Matches
 pub mod WrittenOut
 pub mod Asking
 pub mod ProgramLemmas
+pub mod Crossings

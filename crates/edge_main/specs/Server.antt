@@ -43,7 +43,7 @@ pub record AreBounds (fetching : Fetching) (bounds : Bounds) : Type 0 where
 
 -- each part is what its option asks for
 pub record IsServerOf (setup : Setup) (server : Server) : Type 0 where
-  pub listen_is : server.listen ≡ setup.listen
+  pub addresses_are : server.addresses ≡ setup.addresses
   pub origins_are : server.origins ≡ setup.origins
   pub fetch_is : nanos_of server.fetches.limit ≡ limit_of (fetch_millis setup.fetching.timeout setup.fetching.page_timeout)
   pub idle_origins_are : server.fetches.idle ≡ setup.fetching.origin_keep_alive

@@ -52,8 +52,8 @@ line_of NotText = Some (codes "error: a word of the command line isn't UTF-8")
 line_of BadCase = Some (codes "bad case text")
 line_of NoMemory = Some (codes "no memory")
 line_of InputOutput = Some (codes "input or output failed")
-line_of AddressInUse = Some (codes "error: the address of --listen is in use: another process listens there")
-line_of AddressDenied = Some (codes "error: permission for the address of --listen is denied: a port below 1024 takes the right to it (CAP_NET_BIND_SERVICE)")
+line_of AddressInUse = Some (codes "error: the address of --listen or --admin is in use: another process listens there")
+line_of AddressDenied = Some (codes "error: permission for the address of --listen or --admin is denied: a port below 1024 takes the right to it (CAP_NET_BIND_SERVICE)")
 line_of UnknownHost = None
 
 -- how the program ends after a case that was run

@@ -80,7 +80,7 @@ pub(crate) fn server_of(setup: Setup) -> Server
     ensures { IsServerOf setup result }
 {
     let Setup {
-        listen,
+        addresses,
         origins,
         pages,
         fetching,
@@ -91,7 +91,7 @@ pub(crate) fn server_of(setup: Setup) -> Server
     let client = limit_of(serving.client_timeout);
     let how = Assembling::new(pages.ahead, pages.workers, pages.levels);
     Server {
-        listen,
+        addresses,
         origins,
         fetches: Fetches {
             limit: limit_of(fetch_millis(fetching)),

@@ -2,7 +2,7 @@
 
 use crate::readiness::is_writable;
 use access_log::{LineQueue, LogFormat, line_of};
-use hyper_edge::{Journal, RequestRecord};
+use hyper_edge::RequestRecord;
 use std::alloc::{AllocError, AllocGlobal, Global};
 use std::io::Eprint;
 use std::str;
@@ -37,6 +37,31 @@ impl AccessLog {
         AccessLog {
             format,
             queue: Mutex::new(LineQueue::new(alloc, MOST_WAITING)),
+        }
+    }
+
+    /// Whether there is one.
+    pub(crate) fn is_kept(&self) -> bool {
+        self.format.is_some()
+    }
+
+    /// How many lines were lost since the start.
+    pub(crate) fn lost_lines(&self, rt: &impl Wait) -> u64 {
+        self.queue.lock(rt).lost_in_all()
+    }
+
+    /// Reports a request.
+    pub(crate) fn served<R>(&self, rt: &R, record: &RequestRecord)
+    where
+        R: AllocGlobal + Clock + Eprint + Wait,
+    {
+        let Some(format) = self.format else {
+            return;
+        };
+        let second = seconds(rt);
+        match line_of(rt.alloc(), format, second, record) {
+            Ok(line) => self.tell(rt, format, second, Ok(line.as_slice()), 0),
+            Err(_) => self.tell(rt, format, second, Err(AllocError), 0),
         }
     }
 
@@ -90,23 +115,6 @@ impl AccessLog {
             }
         }
         self.queue.lock(rt).stop();
-    }
-}
-
-impl<R: AllocGlobal + Clock + Eprint + Wait> Journal<R> for AccessLog {
-    fn is_kept(&self) -> bool {
-        self.format.is_some()
-    }
-
-    fn served(&self, rt: &R, record: &RequestRecord) {
-        let Some(format) = self.format else {
-            return;
-        };
-        let second = seconds(rt);
-        match line_of(rt.alloc(), format, second, record) {
-            Ok(line) => self.tell(rt, format, second, Ok(line.as_slice()), 0),
-            Err(_) => self.tell(rt, format, second, Err(AllocError), 0),
-        }
     }
 }
 

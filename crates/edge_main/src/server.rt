@@ -2,11 +2,10 @@
 ghost use Rattle.std.specs.Prelude.{◌≤◌};
 
 use access_log::LogFormat;
-use edge_setup::Origin;
+use edge_setup::{Addresses, Origin};
 use fetch_workers::Assembling;
 use hyper_edge::{Capacity, Limits};
 use hyper_source::Bounds;
-use std::net::SocketAddr;
 use std::time::Duration;
 
 /// How origins are asked.
@@ -25,8 +24,8 @@ pub(crate) struct Fetches {
 /// A server that is to run.
 #[derive(Drop)]
 pub(crate) struct Server {
-    /// Where it listens.
-    pub listen: SocketAddr,
+    /// Where it listens, for clients and for its operator.
+    pub addresses: Addresses,
     /// Which origins it asks.
     pub origins: Vec<Origin>,
     /// How it asks them.

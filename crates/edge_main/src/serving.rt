@@ -1,17 +1,25 @@
 //! The server: pages over a cache that all clients share, what origins answer, and the machine's clock.
 ghost use Rattle.std.specs.Prelude.{◌≤◌};
 
+use crate::connections::Connections;
+use crate::desk::Desk;
 use crate::end_of_input::EndOfInput;
+use crate::memory::Memory;
 use crate::open_files::{Numbers, Unreached, open_files_limit};
+use crate::operator::{Operator, Stop, bound};
+use crate::reports::{Reports, SharedCounts};
 use crate::requests_log::AccessLog;
 use crate::server::{Fetches, Server};
 use crate::status::Status;
-use edge_setup::{Origin, Place};
+use access_log::LogFormat;
+use edge_setup::{Addresses, Origin, Place};
+use edge_types::NoMemory;
 use failed_answers::{SharedFailures, SparingSource};
 use fetch_workers::{Assembling, Cache};
-use hyper_edge::{EdgeService, Limits, ServeEnd, ServerRuntime, Sockets, serve_accepts};
+use hyper_edge::{Capacity, EdgeService, Limits, ServeEnd, ServerRuntime, Sockets, serve_accepts};
 use hyper_source::{EdgeName, HyperSource};
-use std::alloc::AllocGlobal;
+use operator_http::Operated;
+use std::alloc::{AllocGlobal, Global};
 use std::fs::File;
 use std::io::{Eprint, Print};
 use std::net::{Net, SocketAddr, TcpListener, TcpStream, ToSocketAddrs};
@@ -19,11 +27,11 @@ use std::random::RandomSource;
 use std::rt::Files;
 use std::sync::Arc;
 use std::time::{Clock, Duration};
-use std::{io, str};
+use std::{io, str, thread};
 
-// What pages are assembled from: what is stored, and below it what origins answer, unless a URL rests since it failed. So
-// a URL that rests is bridged like one that is asked and fails.
-type Kept = Cache<SparingSource<HyperSource, MonotonicSeconds>, MonotonicSeconds>;
+/// What pages are assembled from: what is stored, and below it what origins answer, unless a URL rests since it failed. So
+/// a URL that rests is bridged like one that is asked and fails.
+pub(crate) type Kept = Cache<SparingSource<HyperSource, MonotonicSeconds>, MonotonicSeconds>;
 
 /// Runs the server, until its number of connections have been accepted, or it is stopped, and they have ended.
 pub(crate) fn serve<R>(rt: &R, server: Server) -> Result<ServeEnd, Status>
@@ -33,7 +41,7 @@ where
 {
     warn_of_files(rt, Numbers::of(&server));
     let Server {
-        listen,
+        addresses,
         origins,
         fetches,
         name,
@@ -56,7 +64,8 @@ where
         source = named(rt, source, name.as_slice())?;
     }
     let spared = spared(rt, source, url_rest)?;
-    let mut service = service_of(rt, spared, most_waiting, capacity, pages)?.limited_to(page);
+    let cache = cache_of(rt, spared, most_waiting, capacity)?;
+    let mut service = service_of(rt, owner_of(&cache)?, pages)?.limited_to(page);
     if let Some(name) = name {
         service = service.named(name);
     }
@@ -73,13 +82,123 @@ where
     if aborts_on_close {
         service = service.aborting_on_close();
     }
-    let stop = EndOfInput::of(rt, stops_with_input)?;
-    let (sockets, address) = listening(rt, listen, clients, stop)?;
+    let front = Front {
+        addresses,
+        clients,
+        stops_with_input,
+        log,
+        at_once,
+        accept,
+    };
+    served(rt, &service, cache, front)
+}
+
+// How clients are served, and the operator is answered.
+#[derive(Drop)]
+struct Front {
+    addresses: Addresses,
+    clients: Limits,
+    stops_with_input: bool,
+    log: Option<LogFormat>,
+    at_once: Capacity,
+    accept: u64,
+}
+
+// Serves what the service answers from this cache, until the server has ended.
+fn served<R>(
+    rt: &R,
+    service: &EdgeService<Kept, R>,
+    cache: Arc<Kept>,
+    front: Front,
+) -> Result<ServeEnd, Status>
+where
+    R: ServerRuntime + Files<File = File> + Print + Eprint + Send + Sync,
+    R: Net<Stream = TcpStream, Listener = TcpListener>,
+{
+    let operator = match front.addresses.admin {
+        Some(address) => Some(Operator::at(rt, address)?),
+        None => None,
+    };
+    let input = EndOfInput::of(rt, front.stops_with_input)?;
+    let stop = Stop::of(input, operator.as_ref())?;
+    let (sockets, address) = listening(rt, front.addresses.listen, front.clients, stop)?;
     println!(rt; "listening on {address}")?;
-    let log = AccessLog::new(rt.alloc(), log);
-    let end = serve_accepts(rt, &sockets, &service, &log, at_once, accept);
-    log.finish(rt);
+    let reports = reports_of(rt, front.log, operator.is_some())?;
+    let end = match &operator {
+        Some(operator) => {
+            println!(rt; "answering the operator on {}", operator.address)?;
+            let desk = Desk::over(rt.alloc(), &reports, cache)?;
+            serve_beside(rt, operator, &desk, &sockets, service, &reports, &front)?
+        }
+        None => serve_all(rt, &sockets, service, &reports, &front),
+    };
+    reports.log.finish(rt);
     Ok(end)
+}
+
+// Where requests are reported: in a log of this format, and in counts for the operator, where there is one.
+fn reports_of<R>(
+    rt: &R,
+    log: Option<LogFormat>,
+    has_operator: bool,
+) -> Result<Arc<Reports>, NoMemory>
+where
+    R: AllocGlobal + Files<File = File>,
+{
+    let alloc = rt.alloc();
+    let counts = if has_operator {
+        Some(SharedCounts::new(alloc)?)
+    } else {
+        None
+    };
+    let reports = Reports {
+        log: AccessLog::new(alloc, log),
+        counts,
+        connections: Connections::new(),
+        memory: Memory::of(rt, has_operator),
+    };
+    Ok(Arc::new(alloc, reports)?)
+}
+
+// Serves until the server has ended.
+fn serve_all<R>(
+    rt: &R,
+    sockets: &Sockets<Stop>,
+    service: &EdgeService<Kept, R>,
+    reports: &Reports,
+    front: &Front,
+) -> ServeEnd
+where
+    R: ServerRuntime + Eprint + Send + Sync,
+    R: Net<Stream = TcpStream, Listener = TcpListener>,
+{
+    serve_accepts(rt, sockets, service, reports, front.at_once, front.accept)
+}
+
+// The same, while a thread of its own answers the operator from this desk. Refused if that can't be started.
+fn serve_beside<R, D>(
+    rt: &R,
+    operator: &Operator,
+    desk: &Arc<D>,
+    sockets: &Sockets<Stop>,
+    service: &EdgeService<Kept, R>,
+    reports: &Reports,
+    front: &Front,
+) -> Result<ServeEnd, Status>
+where
+    R: ServerRuntime + Eprint + Send + Sync,
+    R: Net<Stream = TcpStream, Listener = TcpListener>,
+    D: Operated<R> + Send + Sync + Drop,
+{
+    thread::scope(thread::scope_env(), rt, |scope| {
+        let answers = scope.spawn(move || operator.listener.serve(rt, desk));
+        if answers.is_err() {
+            return Err(Status::NoMemory);
+        }
+        let end = serve_all(rt, sockets, service, reports, front);
+        operator.listener.close();
+        Ok(end)
+    })
 }
 
 // Says which number can't be reached for want of open files. The server runs all the same: it may never need as many.
@@ -114,16 +233,12 @@ fn listening<R>(
     rt: &R,
     listen: SocketAddr,
     clients: Limits,
-    stop: EndOfInput,
-) -> Result<(Sockets<EndOfInput>, SocketAddr), Status>
+    stop: Stop,
+) -> Result<(Sockets<Stop>, SocketAddr), Status>
 where
     R: AllocGlobal + Net<Stream = TcpStream, Listener = TcpListener>,
 {
-    let listener = match TcpListener::bind(rt, listen) {
-        Ok(listener) => listener,
-        Err(error) => return Err(Status::of_listening(error)),
-    };
-    let address = listener.local_addr()?;
+    let (listener, address) = bound(rt, listen)?;
     Ok((Sockets::new(rt, listener, clients, stop)?, address))
 }
 
@@ -196,34 +311,51 @@ fn spared(
     Ok(SparingSource::new(source, MonotonicSeconds, failures))
 }
 
-// What answers requests.
-fn service_of<R>(
-    rt: &R,
+// What is stored, over this source.
+fn cache_of(
+    rt: &impl AllocGlobal,
     source: SparingSource<HyperSource, MonotonicSeconds>,
     most_waiting: Option<u32>,
     capacity: usize,
-    pages: Assembling,
-) -> Result<EdgeService<Kept, R>, Status>
-where
-    R: RandomSource + AllocGlobal + Clone + Drop,
+) -> Result<Arc<Kept>, Status>
     requires some { 1 ≤ capacity }
     requires few { capacity ≤ 1024 }
 {
     let alloc = rt.alloc();
     let kept = Cache::new(alloc, source, MonotonicSeconds, capacity)?.bounded(most_waiting);
-    let Ok(shared) = Arc::new(alloc, kept) else {
-        return Err(Status::NoMemory);
-    };
+    match Arc::new(alloc, kept) {
+        Ok(shared) => Ok(shared),
+        Err(_) => Err(Status::NoMemory),
+    }
+}
+
+// A second owner of it.
+fn owner_of(cache: &Arc<Kept>) -> Result<Arc<Kept>, Status> {
+    match Arc::try_clone(cache) {
+        Ok(owner) => Ok(owner),
+        Err(_) => Err(Status::NoMemory),
+    }
+}
+
+// What answers requests.
+fn service_of<R>(
+    rt: &R,
+    cache: Arc<Kept>,
+    pages: Assembling,
+) -> Result<EdgeService<Kept, R>, Status>
+where
+    R: RandomSource + AllocGlobal + Clone + Drop,
+{
     let Ok(own) = rt.clone() else {
         return Err(Status::NoMemory);
     };
-    Ok(EdgeService::new(own, alloc, shared, pages)?)
+    Ok(EdgeService::new(own, rt.alloc(), cache, pages)?)
 }
 
 /// The machine's monotonic clock, in whole seconds: nobody sets it, as they may set that of the day. 0 where
 /// it can't be read.
 #[derive(Clone, Copy)]
-struct MonotonicSeconds;
+pub(crate) struct MonotonicSeconds;
 
 impl<R: Clock> fetch_workers::Clock<R> for MonotonicSeconds {
     fn now(&self, rt: &R) -> u64 {

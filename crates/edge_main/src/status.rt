@@ -126,10 +126,10 @@ impl Status {
             Status::NoMemory => Some("no memory"),
             Status::InputOutput => Some("input or output failed"),
             Status::AddressInUse => Some(
-                "error: the address of --listen is in use: another process listens there",
+                "error: the address of --listen or --admin is in use: another process listens there",
             ),
             Status::AddressDenied => Some(
-                "error: permission for the address of --listen is denied: a port below 1024 takes the right to it (CAP_NET_BIND_SERVICE)",
+                "error: permission for the address of --listen or --admin is denied: a port below 1024 takes the right to it (CAP_NET_BIND_SERVICE)",
             ),
             Status::Page
             | Status::PageFault

@@ -1,5 +1,5 @@
 -- What the options of `serve` mean, by the rows of `clap`'s matches.
-use Rattle.std.specs.Prelude.{◌≡◌, ◌⊎◌, ◌≤◌, ℕ, ◌<◌, Bool, true, false, ◌&&◌, ◌||◌, bytes_eq, nat_le, List, [], ◌∷◌, map, take, length, get_or, codes, Option, Some, None, option_map, IsSome, if◌then◌else◌}
+use Rattle.std.specs.Prelude.{◌≡◌, ◌⊎◌, ◌≤◌, ℕ, ◌<◌, Bool, true, false, ◌&&◌, ◌||◌, bytes_eq, nat_le, List, [], ◌∷◌, map, take, length, get_or, codes, Option, Some, None, option_map, IsSome, MatchOption, if◌then◌else◌}
 use Rattle.std.specs.Str.{byte}
 use Rattle.std.specs.List.{list_any}
 use Rattle.std.specs.Option.{option_map_or}
@@ -17,6 +17,7 @@ use Rattle.edge_setup.specs.OriginWord.{refusal_of as origin_refusal}
 use Rattle.edge_setup.specs.declared.origin.OriginFault.{OriginFault}
 use Rattle.edge_setup.specs.declared.origin.OriginFault.TheVariants as origin_fault
 use Rattle.edge_setup.specs.declared.origin.Place.{Place}
+use Rattle.edge_setup.specs.declared.setup.Addresses.{Addresses}
 use Rattle.edge_setup.specs.declared.setup.Origin.{Origin}
 use Rattle.edge_setup.specs.declared.setup.Fetching.{Fetching}
 use Rattle.edge_setup.specs.declared.setup.Pages.{Pages}
@@ -72,6 +73,14 @@ abbrev pub IsAddress : Option Text → SocketAddr → Type 0
 IsAddress None address = ⊥
 IsAddress (Some word) address = IsSocketText word address
 
+-- where the operator is answered, by a word: at the address that it is; without a word, nowhere
+abbrev pub IsAdmin : Option Text → Option SocketAddr → Type 0
+IsAdmin word admin = MatchOption admin (word ≡ None) (IsAddress word)
+
+-- there is a word, and it is no address
+abbrev pub IsNoAdmin : Option Text → Type 0
+IsNoAdmin word = IsSome word × ((address : SocketAddr) → IsAddress word address → ⊥)
+
 -- the word is an authority and a place, with its first `=` between them
 pub record NamesOrigin (word : Text) (authority : List ℕ) (place : Place) : Type 0 where
   pub last : Text
@@ -124,6 +133,11 @@ IsOriginFault (Some words) f = ((f ≡ origin_fault.Twice) × NameTwice words) �
 
 -- ---- the options
 
+-- where the server listens, and where it answers its operator
+pub record SaysAddresses (rows : List Row) (addresses : Addresses) : Type 0 where
+  pub listen_is : IsAddress (first_of (codes "listen") rows) addresses.listen
+  pub admin_is : IsAdmin (first_of (codes "admin") rows) addresses.admin
+
 -- how pages are assembled and kept
 pub record SaysPages (rows : List Row) (pages : Pages) : Type 0 where
   pub workers_are : said_of workers rows ≡ Some pages.workers
@@ -161,7 +175,7 @@ pub record SaysTokens (rows : List Row) (tokens : Tokens) : Type 0 where
 
 -- what the options ask for
 pub record SaysSetup (rows : List Row) (setup : Setup) : Type 0 where
-  pub listen_is : IsAddress (first_of (codes "listen") rows) setup.listen
+  pub addresses_are : SaysAddresses rows setup.addresses
   pub origins_are : SayOrigins (all_of (codes "origin") rows) setup.origins.items
   pub pages_are : SaysPages rows setup.pages
   pub fetching_is : SaysFetching rows setup.fetching
@@ -172,6 +186,7 @@ pub record SaysSetup (rows : List Row) (setup : Setup) : Type 0 where
 -- the value of an option is invalid
 abbrev pub IsWrong : List Row → Named → Type 0
 IsWrong rows named.Listen = (address : SocketAddr) → IsAddress (first_of (codes "listen") rows) address → ⊥
+IsWrong rows named.Admin = IsNoAdmin (first_of (codes "admin") rows)
 IsWrong rows (named.Origin fault) = SayNoOrigins (all_of (codes "origin") rows) × IsOriginFault (all_of (codes "origin") rows) fault
 IsWrong rows named.Workers = said_of workers rows ≡ None
 IsWrong rows named.Fetches = said_of fetches rows ≡ None
@@ -195,8 +210,14 @@ IsWrong rows named.Name = token_of (first_of (codes "name") rows) ≡ None
 IsWrong rows named.Forwarded = token_of (first_of (codes "forwarded") rows) ≡ None
 
 -- the values of these options are valid
-abbrev pub HasAddress : List Row → Type 0
-HasAddress rows = (address : SocketAddr) × IsAddress (first_of (codes "listen") rows) address
+abbrev pub HasListen : List Row → Type 0
+HasListen rows = (address : SocketAddr) × IsAddress (first_of (codes "listen") rows) address
+
+abbrev pub HasAdmin : List Row → Type 0
+HasAdmin rows = (admin : Option SocketAddr) × IsAdmin (first_of (codes "admin") rows) admin
+
+abbrev pub HasAddresses : List Row → Type 0
+HasAddresses rows = HasListen rows × HasAdmin rows
 
 abbrev pub Has : Numeric → List Row → Type 0
 Has option rows = IsSome (said_of option rows)
@@ -231,27 +252,28 @@ HasTokens rows = HasName rows × HasForwarded rows
 -- the values of the options that are read before this one are valid
 abbrev pub AreValidBefore : List Row → Named → Type 0
 AreValidBefore rows named.Listen = Unit {0}
-AreValidBefore rows named.Workers = HasAddress rows
-AreValidBefore rows named.Fetches = HasAddress rows × Has workers rows
-AreValidBefore rows named.Ahead = HasAddress rows × Has workers rows × Has fetches rows
-AreValidBefore rows named.Levels = HasAddress rows × Has workers rows × Has fetches rows × HasAhead rows
-AreValidBefore rows named.Capacity = HasAddress rows × Has workers rows × Has fetches rows × HasAhead rows × Has levels rows
-AreValidBefore rows named.PageBytes = HasAddress rows × Has workers rows × Has fetches rows × HasAhead rows × Has levels rows × Has capacity rows
-AreValidBefore rows named.Timeout = HasAddress rows × HasPages rows
-AreValidBefore rows named.PageTimeout = HasAddress rows × HasPages rows × Has timeout rows
-AreValidBefore rows named.OriginKeepAlive = HasAddress rows × HasPages rows × Has timeout rows × Has page_timeout rows
-AreValidBefore rows named.OriginFetches = HasAddress rows × HasPages rows × Has timeout rows × Has page_timeout rows × Has origin_keep_alive rows
-AreValidBefore rows named.OriginRest = HasAddress rows × HasPages rows × Has timeout rows × Has page_timeout rows × Has origin_keep_alive rows × Has origin_fetches rows
-AreValidBefore rows named.UrlRest = HasAddress rows × HasPages rows × Has timeout rows × Has page_timeout rows × Has origin_keep_alive rows × Has origin_fetches rows × Has origin_rest rows
-AreValidBefore rows named.Accept = HasAddress rows × HasPages rows × HasFetching rows
-AreValidBefore rows named.ClientTimeout = HasAddress rows × HasPages rows × HasFetching rows × HasAccepts rows
-AreValidBefore rows named.KeepAlive = HasAddress rows × HasPages rows × HasFetching rows × HasAccepts rows × Has client_timeout rows
-AreValidBefore rows named.Threads = HasAddress rows × HasPages rows × HasFetching rows × HasAccepts rows × Has client_timeout rows × Has keep_alive rows
-AreValidBefore rows named.Connections = HasAddress rows × HasPages rows × HasFetching rows × HasAccepts rows × Has client_timeout rows × Has keep_alive rows × Has threads rows
-AreValidBefore rows named.LogFormat = HasAddress rows × HasPages rows × HasFetching rows × HasAccepts rows × Has client_timeout rows × Has keep_alive rows × Has threads rows × Has connections rows
-AreValidBefore rows named.Name = HasAddress rows × HasPages rows × HasFetching rows × HasServing rows
-AreValidBefore rows named.Forwarded = HasAddress rows × HasPages rows × HasFetching rows × HasServing rows × HasName rows
-AreValidBefore rows (named.Origin fault) = HasAddress rows × HasPages rows × HasFetching rows × HasServing rows × HasTokens rows
+AreValidBefore rows named.Admin = HasListen rows
+AreValidBefore rows named.Workers = HasAddresses rows
+AreValidBefore rows named.Fetches = HasAddresses rows × Has workers rows
+AreValidBefore rows named.Ahead = HasAddresses rows × Has workers rows × Has fetches rows
+AreValidBefore rows named.Levels = HasAddresses rows × Has workers rows × Has fetches rows × HasAhead rows
+AreValidBefore rows named.Capacity = HasAddresses rows × Has workers rows × Has fetches rows × HasAhead rows × Has levels rows
+AreValidBefore rows named.PageBytes = HasAddresses rows × Has workers rows × Has fetches rows × HasAhead rows × Has levels rows × Has capacity rows
+AreValidBefore rows named.Timeout = HasAddresses rows × HasPages rows
+AreValidBefore rows named.PageTimeout = HasAddresses rows × HasPages rows × Has timeout rows
+AreValidBefore rows named.OriginKeepAlive = HasAddresses rows × HasPages rows × Has timeout rows × Has page_timeout rows
+AreValidBefore rows named.OriginFetches = HasAddresses rows × HasPages rows × Has timeout rows × Has page_timeout rows × Has origin_keep_alive rows
+AreValidBefore rows named.OriginRest = HasAddresses rows × HasPages rows × Has timeout rows × Has page_timeout rows × Has origin_keep_alive rows × Has origin_fetches rows
+AreValidBefore rows named.UrlRest = HasAddresses rows × HasPages rows × Has timeout rows × Has page_timeout rows × Has origin_keep_alive rows × Has origin_fetches rows × Has origin_rest rows
+AreValidBefore rows named.Accept = HasAddresses rows × HasPages rows × HasFetching rows
+AreValidBefore rows named.ClientTimeout = HasAddresses rows × HasPages rows × HasFetching rows × HasAccepts rows
+AreValidBefore rows named.KeepAlive = HasAddresses rows × HasPages rows × HasFetching rows × HasAccepts rows × Has client_timeout rows
+AreValidBefore rows named.Threads = HasAddresses rows × HasPages rows × HasFetching rows × HasAccepts rows × Has client_timeout rows × Has keep_alive rows
+AreValidBefore rows named.Connections = HasAddresses rows × HasPages rows × HasFetching rows × HasAccepts rows × Has client_timeout rows × Has keep_alive rows × Has threads rows
+AreValidBefore rows named.LogFormat = HasAddresses rows × HasPages rows × HasFetching rows × HasAccepts rows × Has client_timeout rows × Has keep_alive rows × Has threads rows × Has connections rows
+AreValidBefore rows named.Name = HasAddresses rows × HasPages rows × HasFetching rows × HasServing rows
+AreValidBefore rows named.Forwarded = HasAddresses rows × HasPages rows × HasFetching rows × HasServing rows × HasName rows
+AreValidBefore rows (named.Origin fault) = HasAddresses rows × HasPages rows × HasFetching rows × HasServing rows × HasTokens rows
 
 -- this is the first option, in the order of reading, whose value is invalid
 pub record IsFirstWrong (rows : List Row) (option : Named) : Type 0 where
@@ -261,6 +283,7 @@ pub record IsFirstWrong (rows : List Row) (option : Named) : Type 0 where
 -- the line for an option whose words are no use
 abbrev pub refusal_of : Named → Text
 refusal_of named.Listen = codes "error: --listen takes an address with a port, as 127.0.0.1:8080"
+refusal_of named.Admin = codes "error: --admin takes an address with a port, as 127.0.0.1:9090"
 refusal_of (named.Origin fault) = origin_refusal fault
 refusal_of named.Workers = workers.refusal
 refusal_of named.Fetches = fetches.refusal

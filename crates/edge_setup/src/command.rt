@@ -37,7 +37,7 @@ fn without_file<'a>(alloc: Global) -> Result<Command<'a>, AllocError>
     with_reports(alloc, command)
 }
 
-// Where the server listens, and which origins it asks.
+// Where the server listens, which origins it asks, and where it answers its operator.
 fn with_addresses<'a>(alloc: Global, command: Command<'a>) -> Result<Command<'a>, AllocError>
     ensures app { IfOk result (λ more. app_of more ≡ with_addresses (app_of command.entry)) }
     ensures local { IfOk result (λ more. (fields_of more).has_globals ≡ (fields_of command.entry).has_globals) }
@@ -56,8 +56,15 @@ fn with_addresses<'a>(alloc: Global, command: Command<'a>) -> Result<Command<'a>
         "Address for requests to an authority; * for each that has no --origin of its own",
     )
     .action(ArgAction::Append);
+    let admin = option(
+        alloc,
+        "admin",
+        "ADDR",
+        "Where to answer the operator, as 127.0.0.1:9090: GET /health, GET /metrics and POST /stop",
+    );
     let command = with_option(command, listen)?;
-    with_option(command, origin)
+    let command = with_option(command, origin)?;
+    with_option(command, admin)
 }
 
 // How pages are assembled and kept.

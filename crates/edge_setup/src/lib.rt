@@ -19,5 +19,5 @@ pub use check::{Checking, check_command, checking_of};
 pub use command::serve_command;
 pub use held::{held_text, option_names};
 pub use origin::{OriginFault, Place, is_origin_word};
-pub use setup::{Fetching, Named, Origin, Pages, Serving, Setup, SetupFault};
+pub use setup::{Addresses, Fetching, Named, Origin, Pages, Serving, Setup, SetupFault};
 pub use words::{is_set, setup_of};

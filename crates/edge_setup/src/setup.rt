@@ -22,6 +22,15 @@ pub struct Origin {
     pub place: Place,
 }
 
+/// Where a server listens.
+#[derive(Clone, Copy)]
+pub struct Addresses {
+    /// For its clients.
+    pub listen: SocketAddr,
+    /// For its operator, where it answers one.
+    pub admin: Option<SocketAddr>,
+}
+
 /// How pages are assembled and kept.
 #[derive(Clone, Copy)]
 pub struct Pages {
@@ -83,7 +92,7 @@ pub struct Serving {
 #[derive(Drop)]
 pub struct Setup {
     /// Where the server listens.
-    pub listen: SocketAddr,
+    pub addresses: Addresses,
     /// The origins, no two with the same authority.
     pub origins: Vec<Origin>,
     /// How pages are assembled and kept.
@@ -103,6 +112,8 @@ pub struct Setup {
 pub enum Named {
     /// `--listen`: not an address.
     Listen,
+    /// `--admin`: not an address.
+    Admin,
     /// `--origin`: this is wrong with its words.
     Origin(OriginFault),
     /// `--workers`: not a number within the limits.
@@ -154,6 +165,7 @@ impl Named {
     {
         match self {
             Named::Listen => "error: --listen takes an address with a port, as 127.0.0.1:8080",
+            Named::Admin => "error: --admin takes an address with a port, as 127.0.0.1:9090",
             Named::Origin(fault) => fault.refusal(),
             Named::Workers => WORKERS.refusal,
             Named::Fetches => FETCHES.refusal,

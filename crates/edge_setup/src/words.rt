@@ -3,14 +3,14 @@ ghost use Rattle.std.specs.Prelude.{◌≡◌, ◌≤◌, option_map, IfNone, If
 ghost use Rattle.std.specs.declared.net.socket_addr.SocketAddr.{SocketAddr};
 ghost use Rattle.clap.specs.Words.{first_of, found_of, rows_of};
 ghost use Rattle.edge_setup.specs.Numbers.{ahead_said};
-ghost use Rattle.edge_setup.specs.Words.{accepts_of, is_set, log_of, log_said, token_of, IsAddress, HasAddress, HasFetching, HasPages, HasServing, IsFirstWrong, IsRefusedBy, IsWithin, SaysFetching, SaysPages, SaysServing, SaysSetup, SaysTokens};
+ghost use Rattle.edge_setup.specs.Words.{accepts_of, is_set, log_of, log_said, token_of, IsAddress, IsAdmin, IsNoAdmin, HasAddresses, HasFetching, HasPages, HasServing, IsFirstWrong, IsRefusedBy, IsWithin, SaysAddresses, SaysFetching, SaysPages, SaysServing, SaysSetup, SaysTokens};
 
 use crate::number::{
     AHEAD, CAPACITY, CLIENT_TIMEOUT, CONNECTIONS, FETCHES, KEEP_ALIVE, LEVELS, ORIGIN_FETCHES,
     ORIGIN_KEEP_ALIVE, ORIGIN_REST, PAGE_BYTES, PAGE_TIMEOUT, THREADS, TIMEOUT, URL_REST, WORKERS,
 };
 use crate::origins::origins_of;
-use crate::setup::{Fetching, Named, Pages, Serving, Setup, SetupFault};
+use crate::setup::{Addresses, Fetching, Named, Pages, Serving, Setup, SetupFault};
 use access_log::LogFormat;
 use clap::ArgMatches;
 use decimals::decimal_of;
@@ -69,6 +69,19 @@ fn address_of(word: Option<&str>) -> Option<SocketAddr>
     word?.parse().ok()
 }
 
+// The address that a word writes, where there is one; `None` if it isn't one.
+fn admin_of(word: Option<&str>) -> Option<Option<SocketAddr>>
+    ensures { let admin = option_map (λ w. w.now) word.entry in MatchOption result (IsNoAdmin admin) (IsAdmin admin) }
+{
+    if word.is_none() {
+        return Some(None);
+    }
+    match address_of(word) {
+        Some(address) => Some(Some(address)),
+        None => None,
+    }
+}
+
 /// Whether a flag is set, by its option's value.
 pub fn is_set(word: Option<&str>) -> bool
     ensures { result ≡ is_set (option_map (λ w. w.now) word.entry) }
@@ -125,10 +138,21 @@ fn ahead_of(word: Option<&str>, fetches: u16) -> Option<u16>
     }
 }
 
+// Where the server listens.
+fn addresses_of(matches: &ArgMatches<'_>) -> Result<Addresses, Named>
+    ensures { let rows = rows_of (found_of matches.now) in
+        MatchResult result (SaysAddresses rows) (IsFirstWrong rows) }
+{
+    Ok(Addresses {
+        listen: address_of(word_of(matches, "listen")).ok_or(Named::Listen)?,
+        admin: admin_of(word_of(matches, "admin")).ok_or(Named::Admin)?,
+    })
+}
+
 // How pages are assembled and kept.
 fn pages_of(matches: &ArgMatches<'_>) -> Result<Pages, Named>
     ensures says { let rows = rows_of (found_of matches.now) in
-        MatchResult result (SaysPages rows) (λ option. HasAddress rows → IsFirstWrong rows option) }
+        MatchResult result (SaysPages rows) (λ option. HasAddresses rows → IsFirstWrong rows option) }
     ensures within { IfOk result IsWithin }
 {
     let workers = WORKERS.u8_of(matches).ok_or(Named::Workers)?;
@@ -146,7 +170,7 @@ fn pages_of(matches: &ArgMatches<'_>) -> Result<Pages, Named>
 // How origins are asked.
 fn fetching_of(matches: &ArgMatches<'_>) -> Result<Fetching, Named>
     ensures { let rows = rows_of (found_of matches.now) in
-        MatchResult result (SaysFetching rows) (λ option. HasAddress rows → HasPages rows → IsFirstWrong rows option) }
+        MatchResult result (SaysFetching rows) (λ option. HasAddresses rows → HasPages rows → IsFirstWrong rows option) }
 {
     Ok(Fetching {
         timeout: TIMEOUT.u32_of(matches).ok_or(Named::Timeout)?,
@@ -163,7 +187,7 @@ fn fetching_of(matches: &ArgMatches<'_>) -> Result<Fetching, Named>
 // How connections are served.
 fn serving_of(matches: &ArgMatches<'_>) -> Result<Serving, Named>
     ensures { let rows = rows_of (found_of matches.now) in
-        MatchResult result (SaysServing rows) (λ option. HasAddress rows → HasPages rows → HasFetching rows → IsFirstWrong rows option) }
+        MatchResult result (SaysServing rows) (λ option. HasAddresses rows → HasPages rows → HasFetching rows → IsFirstWrong rows option) }
 {
     Ok(Serving {
         accept: accepts_of(word_of(matches, "accept")).ok_or(Named::Accept)?,
@@ -188,7 +212,7 @@ pub(crate) struct Tokens<'a> {
 // What the options name.
 fn tokens_of<'a>(matches: &ArgMatches<'a>) -> Result<Tokens<'a>, Named>
     ensures { let rows = rows_of (found_of matches.now) in
-        MatchResult result (SaysTokens rows) (λ option. HasAddress rows → HasPages rows → HasFetching rows → HasServing rows → IsFirstWrong rows option) }
+        MatchResult result (SaysTokens rows) (λ option. HasAddresses rows → HasPages rows → HasFetching rows → HasServing rows → IsFirstWrong rows option) }
 {
     Ok(Tokens {
         name: token_of(word_of(matches, "name")).ok_or(Named::Name)?,
@@ -204,7 +228,7 @@ pub fn setup_of(alloc: Global, matches: &ArgMatches<'_>) -> Result<Setup, SetupF
     ensures says { MatchResult result (SaysSetup (rows_of (found_of matches.now))) (IsRefusedBy (rows_of (found_of matches.now))) }
     ensures within { IfOk result (λ setup. IsWithin setup.pages) }
 {
-    let listen = address_of(word_of(matches, "listen")).ok_or(Named::Listen)?;
+    let addresses = addresses_of(matches)?;
     let pages = pages_of(matches)?;
     let fetching = fetching_of(matches)?;
     let serving = serving_of(matches)?;
@@ -214,7 +238,7 @@ pub fn setup_of(alloc: Global, matches: &ArgMatches<'_>) -> Result<Setup, SetupF
         Err(fault) => return Err(SetupFault::Wrong(Named::Origin(fault))),
     };
     Ok(Setup {
-        listen,
+        addresses,
         origins,
         pages,
         fetching,

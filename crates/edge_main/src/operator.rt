@@ -1,0 +1,79 @@
+//! The operator of a server: where it is answered, and how it stops the server.
+
+use crate::end_of_input::EndOfInput;
+use crate::status::Status;
+use hyper_edge::StopSign;
+use operator_http::{OperatorListener, StopRequest};
+use std::alloc::AllocGlobal;
+use std::net::{Net, SocketAddr, TcpListener, TcpStream};
+use std::random::RandomSource;
+
+/// What stops a server: the end of standard input, or its operator, each where it is asked for.
+#[derive(Drop)]
+pub(crate) struct Stop {
+    pub input: EndOfInput,
+    pub operator: Option<StopRequest>,
+}
+
+impl Stop {
+    /// What stops a server with this operator. Refused if there is no memory.
+    pub(crate) fn of(input: EndOfInput, operator: Option<&Operator>) -> Result<Stop, Status> {
+        let Some(operator) = operator else {
+            return Ok(Stop {
+                input,
+                operator: None,
+            });
+        };
+        match operator.listener.stop_request() {
+            Some(request) => Ok(Stop {
+                input,
+                operator: Some(request),
+            }),
+            None => Err(Status::NoMemory),
+        }
+    }
+}
+
+impl<R> StopSign<R> for Stop {
+    fn is_given(&self, rt: &R) -> bool {
+        let is_requested = match &self.operator {
+            Some(operator) => operator.is_made(),
+            None => false,
+        };
+        is_requested || self.input.is_given(rt)
+    }
+}
+
+/// A listener at an address, and where that is.
+pub(crate) fn bound<R>(rt: &R, address: SocketAddr) -> Result<(TcpListener, SocketAddr), Status>
+where
+    R: Net<Stream = TcpStream, Listener = TcpListener>,
+{
+    let listener = match TcpListener::bind(rt, address) {
+        Ok(listener) => listener,
+        Err(error) => return Err(Status::of_listening(error)),
+    };
+    let address = listener.local_addr()?;
+    Ok((listener, address))
+}
+
+/// Where the operator of a server is answered.
+#[derive(Drop)]
+pub(crate) struct Operator {
+    pub listener: OperatorListener,
+    pub address: SocketAddr,
+}
+
+impl Operator {
+    /// One that is answered at this address, port 0 for a free one.
+    pub(crate) fn at<R>(rt: &R, address: SocketAddr) -> Result<Operator, Status>
+    where
+        R: AllocGlobal + RandomSource + Net<Stream = TcpStream, Listener = TcpListener>,
+    {
+        let (listener, address) = bound(rt, address)?;
+        Ok(Operator {
+            listener: OperatorListener::new(rt, listener)?,
+            address,
+        })
+    }
+}

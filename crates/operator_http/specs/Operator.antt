@@ -1,0 +1,83 @@
+-- What an operator asks of a server by HTTP, and what is sent.
+use Rattle.std.specs.Prelude.{◌≡◌, ℕ, true, ◌||◌, bytes_eq, List, [], ◌∷◌, ◌++◌, codes, decimal, length, ◌==◌, Option, None, Some, is_some, if◌then◌else◌}
+use Rattle.http.specs.declared.response.Response.{Response}
+use Rattle.http.specs.Response.{head_of, body_of}
+use Rattle.http_body_util.specs.declared.full.Full.{Full}
+use Rattle.http_header.specs.FieldValue.{FieldValue, plain_value}
+use Rattle.http_header.specs.HeaderMap.{Entry, Entries}
+use Rattle.operator_http.specs.declared.asked.Asked.{Asked}
+use Rattle.operator_http.specs.declared.asked.Asked.TheVariants as asked
+use Rattle.operator_http.specs.declared.purge.Purge.{Purge}
+use Rattle.operator_http.specs.declared.told.Told.{Told}
+use Rattle.operator_http.specs.declared.told.Told.TheVariants as told
+
+-- what is asked for by a method that reads (RFC 9110, sections 9.3.1 and 9.3.2), and by POST (section 9.3.3)
+abbrev pub if_read : List ℕ → Asked → Asked
+if_read method wanted = if bytes_eq method (codes "GET") || bytes_eq method (codes "HEAD") then wanted else asked.NotRead
+
+abbrev pub if_posted : List ℕ → Asked → Asked
+if_posted method wanted = if bytes_eq method (codes "POST") then wanted else asked.NotPosted
+
+-- what a method and a path ask for
+abbrev pub asked_by : List ℕ → List ℕ → Asked
+asked_by method path =
+    if bytes_eq path (codes "/health") then if_read method asked.Health
+    else (if bytes_eq path (codes "/metrics") then if_read method asked.Metrics
+    else (if bytes_eq path (codes "/stop") then if_posted method asked.Stop
+    else (if bytes_eq path (codes "/purge") then if_posted method asked.Purge
+    else asked.OtherPath)))
+
+-- what is told to a request for this, where its query wants these answers to go
+abbrev pub Fits : Asked → Option Purge → Told → Type 0
+Fits wanted purge told.Health = wanted ≡ asked.Health
+Fits wanted purge (told.Metrics metrics) = wanted ≡ asked.Metrics
+Fits wanted purge told.Stopping = wanted ≡ asked.Stop
+Fits wanted purge (told.Purged count) = (wanted ≡ asked.Purge) × (is_some purge ≡ true)
+Fits wanted purge told.NoPurge = (wanted ≡ asked.Purge) × (purge ≡ None)
+Fits wanted purge told.OtherPath = wanted ≡ asked.OtherPath
+Fits wanted purge told.NotRead = wanted ≡ asked.NotRead
+Fits wanted purge told.NotPosted = wanted ≡ asked.NotPosted
+
+-- the type of the body
+abbrev pub typed : FieldValue → Entry FieldValue
+typed value = (codes "content-type", value ∷ [])
+
+abbrev pub plain : Entry FieldValue
+plain = typed (plain_value (codes "text/plain"))
+
+-- the type of metrics (Prometheus, "Exposition formats", "Basic info")
+abbrev pub of_metrics : Entry FieldValue
+of_metrics = typed (plain_value (codes "text/plain; version=0.0.4; charset=utf-8"))
+
+-- the methods that a path has (RFC 9110, section 10.2.1)
+abbrev pub allow : FieldValue → Entry FieldValue
+allow methods = (codes "allow", methods ∷ [])
+
+-- the one piece of a body, unless that is empty
+abbrev pub piece : List ℕ → Option (List ℕ)
+piece text = if length text == 0 then None else Some text
+
+-- what is sent: a status, fields, and a body
+pub record Sends (status : ℕ) (fields : Entries FieldValue) (text : List ℕ) (response : Response (Full (List ℕ))) : Type 0 where
+  pub status_is : (head_of response).status ≡ status
+  pub fields_are : (head_of response).headers ≡ fields
+  pub text_is : (body_of response).buf ≡ piece text
+
+-- how many answers went
+abbrev pub purged : ℕ → List ℕ
+purged count = codes "purged " ++ decimal count ++ codes "\n"
+
+-- the response says this
+abbrev pub Says : Told → Response (Full (List ℕ)) → Type 0
+Says told.Health response = Sends 200 (plain ∷ []) (codes "ok\n") response
+Says (told.Metrics metrics) response = Sends 200 (of_metrics ∷ []) metrics response
+Says told.Stopping response = Sends 200 (plain ∷ []) (codes "stopping\n") response
+Says (told.Purged count) response = Sends 200 (plain ∷ []) (purged count) response
+Says told.NoPurge response = Sends 400 (plain ∷ []) (codes "url= or prefix= is wanted\n") response
+Says told.OtherPath response = Sends 404 (plain ∷ []) (codes "not found\n") response
+Says told.NotRead response = Sends 405 (plain ∷ allow (plain_value (codes "GET, HEAD")) ∷ []) (codes "method not allowed\n") response
+Says told.NotPosted response = Sends 405 (plain ∷ allow (plain_value (codes "POST")) ∷ []) (codes "method not allowed\n") response
+
+-- the response says what fits
+abbrev pub Answers : Asked → Option Purge → Response (Full (List ℕ)) → Type 0
+Answers wanted purge response = (said : Told) × Fits wanted purge said × Says said response

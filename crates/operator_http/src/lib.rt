@@ -1,0 +1,21 @@
+//! An address of its own at which the operator of a server asks how it is, lets go of what it keeps, and stops it.
+//!
+//! Source: RFC 9110, "HTTP Semantics", and RFC 9112, "HTTP/1.1"; the paths and texts are our profile.
+#![tactic(auto)]
+
+mod asked;
+mod clock;
+mod listener;
+mod operated;
+mod purge;
+mod response;
+mod service;
+mod stream;
+mod told;
+
+pub use asked::{Asked, asked_by};
+pub use listener::{OperatorListener, StopRequest};
+pub use operated::Operated;
+pub use purge::{Purge, purge_of};
+pub use response::response_of;
+pub use told::Told;

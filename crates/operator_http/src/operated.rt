@@ -1,0 +1,15 @@
+//! What a server does for its operator.
+
+use crate::purge::Purge;
+use edge_types::NoMemory;
+use std::alloc::AllocError;
+
+/// A server that has an operator.
+pub trait Operated<R> {
+    /// What it has counted, in the text format of Prometheus.
+    fn metrics(&self, rt: &R) -> Result<Vec<u8>, AllocError>;
+
+    /// Lets go of the answers that are wanted to go, and says how many went. Where there is no memory some of them may
+    /// have gone.
+    fn purge(&self, rt: &R, purge: &Purge) -> Result<usize, NoMemory>;
+}

@@ -1,0 +1,101 @@
+//! What is sent to an operator.
+
+ghost use Rattle.std.specs.Prelude.{◌≡◌, ◌∷◌, [], codes, IfOk};
+ghost use Rattle.operator_http.specs.Operator as spec;
+
+use crate::told::Told;
+use bytes::Bytes;
+use http::header::{ALLOW, CONTENT_TYPE, HeaderValue};
+use http::response::Parts;
+use http::{Response, StatusCode};
+use http_body_util::Full;
+use itoa::Buffer;
+use std::alloc::{AllocError, Global};
+
+/// Makes the response that tells an operator this: 200 with some words, or with metrics; 400 for a purge of nobody knows
+/// what; 404 for another path, and 405 for another method, with those that the path has. Of the response to HEAD the HTTP
+/// library leaves the body out.
+///
+/// The only refusal of the call itself is out of memory.
+///
+/// Source: RFC 9110, "400 Bad Request", "404 Not Found", "405 Method Not Allowed"; Prometheus, "Exposition formats"; the texts are our profile.
+pub fn response_of(alloc: Global, told: Told) -> Result<Response<Full<Bytes>>, AllocError>
+    ensures { IfOk result (spec.Says told) }
+{
+    match told {
+        Told::Metrics(metrics) => measured(alloc, metrics),
+        Told::Health => plain(alloc, StatusCode::OK, "ok\n"),
+        Told::Stopping => plain(alloc, StatusCode::OK, "stopping\n"),
+        Told::Purged(count) => purged(alloc, count),
+        Told::NoPurge => plain(
+            alloc,
+            StatusCode::BAD_REQUEST,
+            "url= or prefix= is wanted\n",
+        ),
+        Told::OtherPath => plain(alloc, StatusCode::NOT_FOUND, "not found\n"),
+        Told::NotRead => allowing(alloc, HeaderValue::from_static("GET, HEAD")),
+        Told::NotPosted => allowing(alloc, HeaderValue::from_static("POST")),
+    }
+}
+
+// A plain text.
+fn plain(
+    alloc: Global,
+    status: StatusCode,
+    text: &'static str,
+) -> Result<Response<Full<Bytes>>, AllocError>
+    ensures { IfOk result (spec.Sends status (spec.plain ∷ []) text.now) }
+{
+    let head = head_of(alloc, status, HeaderValue::from_static("text/plain"))?;
+    Ok(Response::from_parts(head, Full::from(text)))
+}
+
+// How many answers went.
+fn purged(alloc: Global, count: usize) -> Result<Response<Full<Bytes>>, AllocError>
+    ensures { IfOk result (spec.Sends 200 (spec.plain ∷ []) (spec.purged count)) }
+{
+    let mut digits = Buffer::new();
+    let mut text = Vec::from_slice(alloc, b"purged ")?;
+    text.extend_from_slice(digits.format(count).as_bytes())?;
+    text.extend_from_slice(b"\n")?;
+    let head = head_of(
+        alloc,
+        StatusCode::OK,
+        HeaderValue::from_static("text/plain"),
+    )?;
+    Ok(Response::from_parts(head, Full::from(Bytes::from_vec(text)?)))
+}
+
+// The metrics.
+fn measured(alloc: Global, metrics: Bytes) -> Result<Response<Full<Bytes>>, AllocError>
+    ensures { IfOk result (spec.Sends 200 (spec.of_metrics ∷ []) metrics) }
+{
+    let kind = HeaderValue::from_static("text/plain; version=0.0.4; charset=utf-8");
+    let head = head_of(alloc, StatusCode::OK, kind)?;
+    Ok(Response::from_parts(head, Full::from(metrics)))
+}
+
+// The refusal of a method, with those that are allowed.
+fn allowing(alloc: Global, methods: HeaderValue) -> Result<Response<Full<Bytes>>, AllocError>
+    ensures { IfOk result (spec.Sends 405 (spec.plain ∷ spec.allow methods ∷ []) (codes "method not allowed\n")) }
+{
+    let plain = HeaderValue::from_static("text/plain");
+    let mut head = head_of(alloc, StatusCode::METHOD_NOT_ALLOWED, plain)?;
+    if head.headers.insert(ALLOW, methods).is_err() {
+        return Err(AllocError);
+    }
+    Ok(Response::from_parts(head, Full::from("method not allowed\n")))
+}
+
+// The head of a body of this type.
+fn head_of(alloc: Global, status: StatusCode, kind: HeaderValue) -> Result<Parts, AllocError>
+    ensures status { IfOk result (λ head. head.status ≡ status) }
+    ensures fields { IfOk result (λ head. head.headers ≡ spec.typed kind ∷ []) }
+{
+    let mut head = Parts::new(alloc);
+    head.status = status;
+    if head.headers.insert(CONTENT_TYPE, kind).is_err() {
+        return Err(AllocError);
+    }
+    Ok(head)
+}

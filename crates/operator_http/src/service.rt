@@ -1,0 +1,113 @@
+//! What answers an operator's requests.
+
+ghost use Rattle.std.specs.Prelude.{◌≡◌, IfOk, IfSome};
+ghost use Rattle.http.specs.Request as http;
+ghost use Rattle.http_uri.specs.Uri.{uri_path, uri_query};
+ghost use Rattle.operator_http.specs.Operator as spec;
+ghost use Rattle.operator_http.specs.Purged.{purged_by, query_or_empty};
+ghost use Rattle.operator_http.specs.declared.asked.Asked.TheVariants as asked_for;
+
+use crate::asked::{Asked, asked_by};
+use crate::operated::Operated;
+use crate::purge::purge_of;
+use crate::response::response_of;
+use crate::told::Told;
+use bytes::Bytes;
+use futures::future;
+use futures::future::Ready;
+use http::{Request, Response, Uri};
+use http_body_util::Full;
+use hyper::body::Incoming;
+use hyper::service::Service;
+use std::alloc::{AllocError, AllocGlobal};
+use std::sync::atomic::{AtomicBool, Ordering};
+use std::sync::{Arc, Wait};
+
+/// Does what an operator asks of this server, and notes that it is to stop.
+#[derive(Drop)]
+pub(crate) struct OperatorService<R, M> {
+    pub rt: R,
+    pub operated: Arc<M>,
+    pub is_to_stop: Arc<AtomicBool>,
+}
+
+impl<R: Wait + AllocGlobal, M: Operated<R>> OperatorService<R, M> {
+    // Does what is asked for, and makes the response.
+    fn answer(&self, asked: Asked, query: &[u8]) -> Result<Response<Full<Bytes>>, AllocError>
+        ensures { IfOk result (spec.Answers asked (purged_by query.now)) }
+    {
+        let told = self.done(asked, query)?;
+        response_of(self.rt.alloc(), told)
+    }
+
+    // Does what is asked for, and says what is told.
+    fn done(&self, asked: Asked, query: &[u8]) -> Result<Told, AllocError>
+        ensures { IfOk result (spec.Fits asked (purged_by query.now)) }
+    {
+        match asked {
+            Asked::Health => Ok(Told::Health),
+            Asked::Metrics => {
+                let metrics = self.operated.metrics(&self.rt)?;
+                Ok(Told::Metrics(Bytes::from_vec(metrics)?))
+            }
+            Asked::Stop => {
+                self.is_to_stop.store(true, Ordering::SeqCst);
+                Ok(Told::Stopping)
+            }
+            Asked::Purge => self.purged(query),
+            Asked::OtherPath => Ok(Told::OtherPath),
+            Asked::NotRead => Ok(Told::NotRead),
+            Asked::NotPosted => Ok(Told::NotPosted),
+        }
+    }
+
+    // Lets go of the answers that a query wants to go.
+    fn purged(&self, query: &[u8]) -> Result<Told, AllocError>
+        ensures { IfOk result (spec.Fits asked_for.Purge (purged_by query.now)) }
+    {
+        match purge_of(self.rt.alloc(), query) {
+            Ok(Some(purge)) => match self.operated.purge(&self.rt, &purge) {
+                Ok(count) => Ok(Told::Purged(count)),
+                Err(_) => Err(AllocError),
+            },
+            Ok(None) => Ok(Told::NoPurge),
+            Err(_) => Err(AllocError),
+        }
+    }
+}
+
+// The query of a target, empty where it has none.
+fn query_in(target: &Uri) -> &[u8]
+    ensures { result.now ≡ query_or_empty (uri_query target.now) }
+{
+    match target.query() {
+        Some(query) => query.as_bytes(),
+        None => b"".as_slice(),
+    }
+}
+
+impl<I, R, M> Service<Request<Incoming<I>>> for OperatorService<R, M>
+where
+    I: Drop,
+    R: Wait + AllocGlobal + Drop,
+    M: Operated<R> + Drop,
+{
+    type Response = Response<Full<Bytes>>;
+
+    type Error = AllocError;
+
+    type Future = Ready<Result<Response<Full<Bytes>>, AllocError>>;
+
+    ghost calls = { λ service request future. IfSome future.0 (λ given. IfOk given
+        (spec.Answers (spec.asked_by (http.head_of request).method (uri_path (http.head_of request).uri)) (purged_by (query_or_empty (uri_query (http.head_of request).uri))))) };
+
+    // Nobody reads a body.
+    fn call(&self, request: Request<Incoming<I>>) -> Self::Future {
+        let target = request.uri();
+        let asked = asked_by(
+            request.method().as_str().as_bytes(),
+            target.path().as_bytes(),
+        );
+        future::ready(self.answer(asked, query_in(target)))
+    }
+}

@@ -1,0 +1,24 @@
+//! What an operator is told.
+
+use bytes::Bytes;
+
+/// What a server says to what its operator asks.
+#[derive(Drop)]
+pub enum Told {
+    /// That it answers.
+    Health,
+    /// What it has counted.
+    Metrics(Bytes),
+    /// That it stops.
+    Stopping,
+    /// That so many answers went.
+    Purged(usize),
+    /// That the query of a purge doesn't say which answers are to go.
+    NoPurge,
+    /// That it has no such path.
+    OtherPath,
+    /// That the path is one that is read.
+    NotRead,
+    /// That the path is one that is posted to.
+    NotPosted,
+}

@@ -1,0 +1,354 @@
+"""What the operator of a server asks it at an address of its own: whether it is well, what it has counted, to let go of answers that it
+keeps, and to stop."""
+import os
+import re
+import socket
+import threading
+import time
+
+from harness import ASKED, PATIENCE, PLAIN, TEMPLATE, Edge, Origin, Response, Wires, before, client, ended, exchange, get, rest, same, sized, told
+from logs import ask_on
+
+ADMIN = ("--admin", "127.0.0.1:0")
+# How long a connection of the operator's may take.
+LIMIT = 5
+METRICS = "text/plain; version=0.0.4; charset=utf-8"
+# A page and its fragment, both cached.
+CACHED = {"/p": (PLAIN["/p"][0], "text/html", TEMPLATE + ", max-age=600"), "/x": (b"12345678", "text/plain", "max-age=600")}
+
+
+class Desk:
+    """The operator's address of an edge that was started with ADMIN: the second line that it prints."""
+
+    def __init__(self, edge):
+        line = edge.process.stdout.readline()
+        found = re.fullmatch(rb"answering the operator on 127\.0\.0\.1:([1-9][0-9]*)\n", line)
+        same("the second line", True, bool(found))
+        self.port = int(found.group(1))
+
+    def ask(self, target, method="GET", **rest_of_it):
+        return get(self, target, method=method, **rest_of_it)
+
+
+def health_is_told_while_all_threads_are_at_work():
+    """While each thread that serves waits for an origin that says nothing, and further clients wait for a thread."""
+    gate = threading.Event()
+    texts = {"/p": lambda _: gate.wait(PATIENCE) and sized("HTTP/1.1 200 OK", "late")}
+    with Wires(texts) as origin, before(origin, *ADMIN, "--threads", "2", "--workers", "1") as edge:
+        desk = Desk(edge)
+        clients = [client(edge, ASKED) for _ in range(6)]
+        time.sleep(0.3)
+        began = time.monotonic()
+        for _ in range(10):
+            came = desk.ask("/health")
+            same("health", (200, "text/plain", "3", "close", b"ok\n"), (came.status, came.fields["content-type"], came.fields["content-length"], came.fields["connection"], came.body))
+        same("within a second", True, time.monotonic() - began < 1)
+        gate.set()
+        for one in clients:
+            rest(one)
+            one.close()
+
+
+def what_else_is_asked_is_refused():
+    """HEAD is answered without the body; another path 404, another method 405 with those that there are."""
+    rows = (
+        ("HEAD", "/health", 200, None, b""), ("HEAD", "/metrics", 200, None, b""), ("GET", "/health?deep=1", 200, None, b"ok\n"),
+        ("GET", "/", 404, None, b"not found\n"), ("GET", "/healthy", 404, None, b"not found\n"), ("POST", "/Stop", 404, None, b"not found\n"),
+        ("POST", "/health", 405, "GET, HEAD", b"method not allowed\n"), ("PUT", "/metrics", 405, "GET, HEAD", b"method not allowed\n"),
+        ("GET", "/stop", 405, "POST", b"method not allowed\n"), ("HEAD", "/stop", 405, "POST", b""),
+        ("GET", "/purge?prefix=http://", 405, "POST", b"method not allowed\n"), ("DELETE", "/purge", 405, "POST", b"method not allowed\n"),
+        ("POST", "/purge/", 404, None, b"not found\n"),
+    )
+    with Edge(*ADMIN) as edge:
+        desk = Desk(edge)
+        for method, target, status, allow, body in rows:
+            came = desk.ask(target, method)
+            same("%s %s" % (method, target), (status, allow, body), (came.status, came.fields.get("allow"), came.body))
+        same("a long path", 404, desk.ask("/" + "x" * 4000).status)
+        same("no HTTP", True, exchange(desk, b"nothing of HTTP\r\n\r\n").startswith(b"HTTP/1.1 400 "))
+        same("it still runs", None, edge.process.poll())
+
+
+def nobody_holds_the_operator_up():
+    """A connection that says nothing has five seconds; then the next one is answered."""
+    with Edge(*ADMIN) as edge:
+        desk = Desk(edge)
+        with socket.create_connection(("127.0.0.1", desk.port), PATIENCE) as silent:
+            began = time.monotonic()
+            same("health", b"ok\n", desk.ask("/health").body)
+            taken = time.monotonic() - began
+            same("after five seconds", True, LIMIT - 0.5 < taken < LIMIT + 2)
+            same("the silent one has ended", b"", rest(silent))
+
+
+def read(text):
+    """The samples of a text in the format of Prometheus, version 0.0.4, read strictly: each metric's lines stand together, behind
+    what it means and its kind."""
+    samples, kinds, metric = {}, {}, None
+    same("the last byte", "\n", text[-1])
+    lines = text[:-1].split("\n")
+    while lines:
+        meaning = re.fullmatch(r"# HELP ([a-z_]+) [^\\]+", lines.pop(0))
+        metric = meaning.group(1)
+        kind = re.fullmatch(r"# TYPE %s (counter|gauge|histogram)" % metric, lines.pop(0)).group(1)
+        same("one list of " + metric, False, metric in kinds)
+        kinds[metric] = kind
+        names = (metric,) if kind != "histogram" else (metric + "_bucket", metric + "_sum", metric + "_count")
+        while lines and not lines[0].startswith("#"):
+            name, labels, value = re.fullmatch(r'([a-z_]+)((?:\{[a-z]+="[^"\\]+"\})?) ([0-9]+(?:e-6)?)', lines.pop(0)).groups()
+            same("a name of " + metric, True, name in names)
+            same("once", False, name + labels in samples)
+            samples[name + labels] = float(value)
+    return samples, kinds
+
+
+KINDS = {
+    "esi_edge_requests_total": "counter", "esi_edge_sent_bytes_total": "counter", "esi_edge_request_seconds": "histogram", "esi_edge_connections": "gauge",
+    "esi_edge_connections_accepted_total": "counter", "esi_edge_accepts_failed_total": "counter", "esi_edge_cache_answers": "gauge",
+    "esi_edge_cache_lookups_total": "counter", "esi_edge_log_lines_lost_total": "counter", "process_resident_memory_bytes": "gauge",
+}
+
+
+def resident(edge):
+    """How many bytes of the edge's memory the system says to be resident."""
+    with open("/proc/%d/statm" % edge.process.pid, encoding="ascii") as statm:
+        return 4096 * int(statm.read().split()[1])
+
+
+def of(samples, metric):
+    """The samples of a metric, by their labels."""
+    return {name[len(metric) :]: count for name, count in samples.items() if name.startswith(metric)}
+
+
+def what_was_answered_is_counted():
+    """Requests by their status, the bytes of bodies, how long each took, connections, what the cache keeps and how it was asked: with
+    a log or without."""
+    for words in ((), ("--log",)):
+        with Origin(CACHED) as origin, before(origin, *ADMIN, *words) as edge:
+            desk = Desk(edge)
+            samples, kinds = read(desk.ask("/metrics").body.decode())
+            same("memory", True, resident(edge) / 2 < samples.pop("process_resident_memory_bytes") < 2 * resident(edge))
+            same("at first", {0.0}, set(samples.values()))
+            same("kinds", KINDS, kinds)
+            sent = sum(len(get(edge, "/p").body) for _ in range(20)) + len(get(edge, "/p", method="PUT").body) + len(get(edge, "/p", host="a/b").body)
+            time.sleep(0.2)
+            came = desk.ask("/metrics")
+            same("its type", METRICS, came.fields["content-type"])
+            samples, _ = read(came.body.decode())
+            wanted = {'{status="%dxx"}' % at: count for at, count in ((1, 0), (2, 20), (3, 0), (4, 2), (5, 0))}
+            same("requests", wanted, of(samples, "esi_edge_requests_total"))
+            same("bytes", sent, samples["esi_edge_sent_bytes_total"])
+            buckets = [samples['esi_edge_request_seconds_bucket{le="%s"}' % le] for le in ("0.001", "0.005", "0.01", "0.05", "0.1", "0.5", "1", "5", "10", "+Inf")]
+            same("no bucket has less than one before", sorted(buckets), buckets)
+            same("all", (22, 22), (buckets[-1], samples["esi_edge_request_seconds_count"]))
+            same("a time", True, 0 < samples["esi_edge_request_seconds_sum"] < 22 * 5)
+            # The page and its fragment are fetched once each, and found by the nineteen requests after.
+            wanted = {'{by="hit"}': 38, '{by="join"}': 0, '{by="lead"}': 2, '{by="bypass"}': 0}
+            same("look-ups", wanted, of(samples, "esi_edge_cache_lookups_total"))
+            same("connections", (0, 22, 0), tuple(samples["esi_edge_" + it] for it in ("connections", "connections_accepted_total", "accepts_failed_total")))
+            same("answers kept, lines lost", (2, 0), (samples["esi_edge_cache_answers"], samples["esi_edge_log_lines_lost_total"]))
+
+
+def a_fetch_for_many_is_counted_once():
+    """Of clients who ask for one URL at the same time one leads the fetch, and the others join it."""
+    gate = threading.Event()
+    texts = {"/p": lambda _: gate.wait(PATIENCE) and sized("HTTP/1.1 200 OK", "late")}
+    with Wires(texts) as origin, before(origin, *ADMIN, "--threads", "8") as edge:
+        desk = Desk(edge)
+        clients = [client(edge, ASKED) for _ in range(5)]
+        time.sleep(0.5)
+        samples, _ = read(desk.ask("/metrics").body.decode())
+        wanted = {'{by="hit"}': 0, '{by="join"}': 4, '{by="lead"}': 1, '{by="bypass"}': 0}
+        same("look-ups", wanted, of(samples, "esi_edge_cache_lookups_total"))
+        same("answers kept", 0, samples["esi_edge_cache_answers"])
+        same("open connections", (5, 5), (samples["esi_edge_connections"], samples["esi_edge_connections_accepted_total"]))
+        gate.set()
+        for one in clients:
+            rest(one)
+            one.close()
+
+
+def lost(desk):
+    return read(desk.ask("/metrics").body.decode())[0]["esi_edge_log_lines_lost_total"]
+
+
+def lines_that_are_lost_are_counted():
+    """While nobody reads the log: as many as the log says itself, once somebody reads it."""
+    with Origin(CACHED) as origin, before(origin, *ADMIN, "--log", "--threads", "1", "--keep-alive", "20") as edge:
+        desk = Desk(edge)
+        ask_on(edge, 1000, "/p?" + "x" * 1500)
+        time.sleep(0.2)
+        unread = lost(desk)
+        same("some are lost", True, 0 < unread < 1000)
+        came = []
+        reader = threading.Thread(target=lambda: came.extend(iter(lambda: os.read(edge.process.stderr.fileno(), 65536), b"")))
+        reader.start()
+        # What waits goes out with the next lines.
+        for _ in range(100):
+            ask_on(edge, 1, "/p")
+        time.sleep(0.2)
+        counted = lost(desk)
+        same("none is forgotten", True, unread <= counted)
+        same("its answer", 200, desk.ask("/stop", "POST").status)
+        same("exit status", 0, edge.ends())
+        reader.join()
+    lines = [line.split(" ") for line in b"".join(came).decode().split("\n")[:-1]]
+    told = [int(line[2]) for line in lines if line[1] == "LOST"]
+    same("as many as the log says", counted, sum(told))
+    same("all lines", 1100, len(lines) - len(told) + counted)
+
+
+# An answer that is kept for longer than a test takes.
+KEPT = sized("HTTP/1.1 200 OK|surrogate-control: max-age=600", "12345678")
+
+
+def purged(desk, query):
+    """What is told to who purges: the number of answers that went."""
+    came = desk.ask("/purge?" + query, "POST")
+    same("type of " + query, (200, "text/plain"), (came.status, came.fields["content-type"]))
+    return int(re.fullmatch(rb"purged (0|[1-9][0-9]*)\n", came.body).group(1))
+
+
+def fetched(edge, origin, targets):
+    """Which of these are fetched now, and not had from the cache."""
+    before_them = len(origin.asked())
+    for target in targets:
+        same(target, (200, b"12345678"), told(edge, target))
+    return origin.asked()[before_them:]
+
+
+def a_url_is_purged():
+    """Its answer is fetched anew, and is kept again; that of another URL stays, also where its URL begins so. The URL may stand in the
+    query as it is, or with escapes."""
+    urls = ("/p", "/p?a=1&b=2", "/p2", "/p?a=1")
+    with Wires(dict.fromkeys(urls, KEPT)) as origin, before(origin, *ADMIN) as edge:
+        desk = Desk(edge)
+        same("nothing is kept yet", 0, purged(desk, "url=http://a.test/p"))
+        same("at first", list(urls), fetched(edge, origin, urls))
+        same("hits", [], fetched(edge, origin, urls))
+        rows = (
+            ("url=http://a.test/p", "/p"), ("url=http://a.test/p?a=1&b=2", "/p?a=1&b=2"), ("url=http%3A%2F%2Fa.test%2Fp%3Fa%3D1%26b%3D2", "/p?a=1&b=2"),
+            ("url=HTTP://A.test:80/x/../p2", "/p2"), ("url=http://a.test/%70", "/p"),
+        )
+        for query, url in rows:
+            same(query, 1, purged(desk, query))
+            same(query + " once more", 0, purged(desk, query))
+            same("fetched after " + query, [url], fetched(edge, origin, urls))
+            same("hits after " + query, [], fetched(edge, origin, urls))
+        same("another host", 0, purged(desk, "url=http://b.test/p"))
+        same("hits at last", [], fetched(edge, origin, urls))
+
+
+def a_prefix_is_purged():
+    """All answers whose URLs begin with it go, in all shards, and no other."""
+    news, others = ["/news/%d" % at for at in range(40)], ["/new", "/sport/news/1"]
+    with Wires(dict.fromkeys(news + others, KEPT)) as origin, before(origin, *ADMIN) as edge:
+        desk = Desk(edge)
+        fetched(edge, origin, news + others)
+        same("the news", 40, purged(desk, "prefix=http://a.test/news/"))
+        same("the others are kept", [], fetched(edge, origin, others))
+        same("the news are fetched", news, fetched(edge, origin, news))
+        same("some of them, with escapes", 11, purged(desk, "prefix=http%3A%2F%2Fa.test%2Fnews%2F1"))
+        same("another host", 0, purged(desk, "prefix=http://b.test"))
+        same("in other letters", 0, purged(desk, "prefix=HTTP://"))
+        same("all", 31, purged(desk, "prefix=http://"))
+        same("nothing is left", 0, purged(desk, "prefix=http://"))
+        same("all are fetched", news + others, fetched(edge, origin, news + others))
+
+
+def a_purge_of_nothing_is_refused():
+    """No query, none of the two words, a text that is no URL of a page, no prefix: 400, and what is cached stays."""
+    queries = (
+        "", "?", "?http://a.test/p", "?url", "?url=", "?URL=http://a.test/p", "?url=/p", "?url=https://a.test/p", "?url=http://me@a.test/p", "?url=http%3A%2F%2Fa.test/%FF",
+        "?url=http://a.test/" + "x" * 2048, "?prefix", "?prefix=", "?all", "?a=1&url=http://a.test/p",
+    )
+    with Wires({"/p": KEPT}) as origin, before(origin, *ADMIN) as edge:
+        desk = Desk(edge)
+        fetched(edge, origin, ["/p"])
+        for query in queries:
+            came = desk.ask("/purge" + query, "POST")
+            same(query, (400, "text/plain", b"url= or prefix= is wanted\n"), (came.status, came.fields["content-type"], came.body))
+        same("it is kept", [], fetched(edge, origin, ["/p"]))
+
+
+def a_purge_disturbs_no_page_in_flight():
+    """Who waits for a fetch gets its answer, though the URL was purged meanwhile."""
+    gate = threading.Event()
+    texts = {"/p": lambda _: gate.wait(PATIENCE) and KEPT}
+    with Wires(texts) as origin, before(origin, *ADMIN) as edge:
+        desk = Desk(edge)
+        clients = [client(edge, ASKED) for _ in range(3)]
+        time.sleep(0.3)
+        same("nothing is kept yet", 0, purged(desk, "url=http://a.test/p"))
+        same("nor under a prefix", 0, purged(desk, "prefix=http://"))
+        gate.set()
+        same("the pages", [b"12345678"] * 3, [Response(rest(one)).body for one in clients])
+        same("one fetch", ["/p"], origin.asked())
+        for one in clients:
+            one.close()
+
+
+def a_stop_loses_no_answer():
+    """While clients ask without a pause, the operator stops the server: it is told so, each connection that is accepted gets its
+    whole answer or is ended before a byte of it, and the status is 0."""
+    ends = []
+
+    def ask_on():
+        try:
+            while True:
+                ends.append(exchange(edge, ASKED))
+        except OSError:
+            pass
+
+    with Origin(PLAIN) as origin, before(origin, *ADMIN, "--client-timeout", "30000") as edge:
+        desk = Desk(edge)
+        clients = [threading.Thread(target=ask_on) for _ in range(16)]
+        for one in clients:
+            one.start()
+        time.sleep(0.5)
+        came = desk.ask("/stop", "POST", fields="Content-Length: 0\r\n")
+        same("its answer", (200, b"stopping\n"), (came.status, came.body))
+        same("exit status", 0, edge.ends())
+        for one in clients:
+            one.join(PATIENCE)
+        same("standard error", b"", edge.end())
+    same("there were some", True, len(ends) > 50)
+    same("answers that were cut", [], [came for came in ends if came and not came.endswith(b"\r\n\r\n[12345678]")][:3])
+
+
+def what_is_under_way_ends_after_a_stop():
+    """A page that is being made comes whole, and meanwhile the operator is still answered."""
+    texts = {"/p": lambda _: time.sleep(1) or sized("HTTP/1.1 200 OK", "slow")}
+    with Wires(texts) as origin, before(origin, *ADMIN) as edge:
+        desk = Desk(edge)
+        asking = client(edge, ASKED)
+        time.sleep(0.3)
+        same("its answer", 200, desk.ask("/stop", "POST").status)
+        same("health", b"ok\n", desk.ask("/health").body)
+        same("the page", b"slow", Response(rest(asking)).body)
+        same("exit status", 0, edge.ends())
+        asking.close()
+
+
+def a_used_operators_address_is_told():
+    """An address of --admin that somebody listens on: status 5, and a line that says so."""
+    with Origin() as origin:
+        said = b"error: the address of --listen or --admin is in use: another process listens there\n"
+        same("a used port", (5, b"", said), ended("--listen", "127.0.0.1:0", "--admin", origin.at))
+
+
+TESTS = (
+    health_is_told_while_all_threads_are_at_work,
+    what_else_is_asked_is_refused,
+    nobody_holds_the_operator_up,
+    what_was_answered_is_counted,
+    a_fetch_for_many_is_counted_once,
+    lines_that_are_lost_are_counted,
+    a_url_is_purged,
+    a_prefix_is_purged,
+    a_purge_of_nothing_is_refused,
+    a_purge_disturbs_no_page_in_flight,
+    a_stop_loses_no_answer,
+    what_is_under_way_ends_after_a_stop,
+    a_used_operators_address_is_told,
+)
