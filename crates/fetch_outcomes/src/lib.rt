@@ -1,0 +1,8 @@
+//! How fetches from origins end.
+#![tactic(auto)]
+
+mod fetch_fault;
+mod fetch_tally;
+
+pub use fetch_fault::FetchFault;
+pub use fetch_tally::FetchTally;
