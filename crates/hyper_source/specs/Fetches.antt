@@ -1,21 +1,42 @@
 -- What a fetch results in.
-use Rattle.std.specs.Prelude.{◌≡◌, ℕ, ⊤, true, List, codes, Result, IfOk, IsErr}
+use Rattle.std.specs.Prelude.{◌≡◌, ℕ, ◌<◌, ◌⊎◌, ⊤, true, false, List, codes, Some, Result, IfOk, IsErr, MatchOption}
 use Rattle.std.specs.List.{join_by}
-use Rattle.edge_types.specs.Answered.{Answered, failed}
+use Rattle.edge_types.specs.Answered.{failed}
 use Rattle.edge_types.specs.declared.answer.Reply.{Reply}
 use Rattle.edge_types.specs.declared.answer.Reply.TheVariants.{Failed, Got}
 use Rattle.edge_types.specs.declared.control.Control.{Control}
 use Rattle.surrogate_headers.specs.Control.{control_of}
+use Rattle.http.specs.declared.response.Parts.{Parts}
 use Rattle.http_header.specs.FieldValue.{FieldValue}
 use Rattle.http_header.specs.HeaderMap.{Entries, get_all}
 use Rattle.hyper_source.specs.declared.gathered.Lost.{Lost}
-use Rattle.hyper_source.specs.declared.gathered.Lost.TheVariants.{Fault, Unreachable, NoMemory}
+use Rattle.hyper_source.specs.declared.gathered.Lost.TheVariants.{Fault, NoMemory}
+use Rattle.hyper_source.specs.Heads.{is_coded}
+use Rattle.hyper_source.specs.declared.answers.Fetched.{Fetched}
+use Rattle.fetch_outcomes.specs.declared.fetch_fault.FetchFault.{FetchFault}
 
--- a fetch that got no response: its answer is a failed one, unless memory ran out
-abbrev pub AnswersLost : {E : Type 0} → Lost → List ℕ → Result Answered E → Type 0
-AnswersLost Fault url result = IfOk result (λ answer. answer ≡ failed url)
-AnswersLost Unreachable url result = IfOk result (λ answer. answer ≡ failed url)
+-- the failed answer of a URL, with the reason
+abbrev pub lost_with : FetchFault → List ℕ → Fetched
+lost_with fault url = record { answer = failed url; fault = Some fault }
+
+-- a fetch that got no response: its answer is a failed one, for the same reason, unless memory ran out
+abbrev pub AnswersLost : {E : Type 0} → Lost → List ℕ → Result Fetched E → Type 0
+AnswersLost (Fault fault) url result = IfOk result (λ fetched. fetched ≡ lost_with fault url)
 AnswersLost NoMemory url result = IsErr result
+
+-- an answer that isn't a failed one
+abbrev pub HasCome : Reply → Type 0
+HasCome Failed = ⊥
+HasCome (Got status content_type control body) = ⊤
+
+-- the answer is a failed one exactly where there is a reason
+abbrev pub NamesFault : Fetched → Type 0
+NamesFault fetched = MatchOption fetched.fault (HasCome fetched.answer.reply) (λ _. fetched.answer.reply ≡ Failed)
+
+-- the body isn't coded, and no answer may have the status
+pub record IsRefused (head : Parts) : Type 0 where
+  pub plain : is_coded head.headers ≡ false
+  pub status : (head.status < 200) ⊎ (599 < head.status)
 
 -- all lines of the field as one, separated by `, ` (RFC 9110, section 5.3)
 abbrev pub control_value : Entries FieldValue → List ℕ

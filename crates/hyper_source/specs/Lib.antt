@@ -3,3 +3,5 @@ pub mod Names
 pub mod Heads
 pub mod Fetches
 pub mod Bounded
+pub mod Notes
+pub mod Authorities

@@ -8,6 +8,7 @@ ghost use Rattle.hyper_source.specs.Bounded as spec;
 use crate::gathered::Lost;
 use crate::origin::Origin;
 use edge_types::NoMemory;
+use fetch_outcomes::FetchFault;
 use origin_health::{Bounds, FetchEnd, Leave, OriginHealth, Permit};
 use std::alloc::Global;
 use std::net::SocketAddr;
@@ -36,12 +37,9 @@ impl OriginGate {
         }
     }
 
-    /// Leave to make a fetch now; none where it is one too many, or the origin rests.
-    pub(crate) fn permit<R: Wait + Clock>(&self, rt: &R) -> Option<Permit> {
-        match self.leave(rt) {
-            Leave::Granted(permit) => Some(permit),
-            Leave::TooMany | Leave::Rests => None,
-        }
+    /// Leave to make a fetch now, or why none may be made.
+    pub(crate) fn permit<R: Wait + Clock>(&self, rt: &R) -> Result<Permit, Lost> {
+        granted(self.leave(rt))
     }
 
     /// Whether a fetch may be made now.
@@ -57,6 +55,17 @@ impl OriginGate {
     /// The fetch has ended.
     pub(crate) fn ended<R: Wait + Clock>(&self, rt: &R, permit: Permit, end: FetchEnd) {
         self.health.lock(rt).ended(permit, end, millis(rt));
+    }
+}
+
+/// A leave's permit; or why it gives none.
+pub(crate) fn granted(leave: Leave) -> Result<Permit, Lost>
+    ensures { result ≡ spec.granted leave }
+{
+    match leave {
+        Leave::Granted(permit) => Ok(permit),
+        Leave::TooMany => Err(Lost::Fault(FetchFault::TooMany)),
+        Leave::Rests => Err(Lost::Fault(FetchFault::AtRest)),
     }
 }
 
@@ -108,8 +117,8 @@ pub(crate) fn end_of<T>(came: &Result<T, Lost>) -> FetchEnd
 {
     match came {
         Ok(_) => FetchEnd::Answered,
-        Err(Lost::Unreachable) => FetchEnd::Unreachable,
-        Err(Lost::Fault | Lost::NoMemory) => FetchEnd::Other,
+        Err(Lost::Fault(FetchFault::Connect | FetchFault::Timeout)) => FetchEnd::Unreachable,
+        Err(Lost::Fault(_) | Lost::NoMemory) => FetchEnd::Other,
     }
 }
 

@@ -8,6 +8,7 @@ use crate::polled_stream::PolledStream;
 use crate::round_trip::{Response, bare, ended};
 use crate::stream_signals::{Readiness, StreamSignals};
 use bytes::Bytes;
+use fetch_outcomes::FetchFault;
 use futures::Future;
 use futures::task::{Context, Poll, Solo};
 use http::Request;
@@ -75,7 +76,7 @@ impl Exchange {
         };
         let io = PolledStream::over(socket, told);
         let Ok((mut sender, connection)) = client::conn::http1::handshake(alloc, keys, io) else {
-            return Err(Lost::Fault);
+            return Err(Lost::Fault(FetchFault::Cut));
         };
         let response = sender.send_request(request);
         // The connection ends with this response.
@@ -150,7 +151,7 @@ impl Exchange {
         };
         match response.poll(cx) {
             Poll::Ready(Ok(response)) => self.page = Page::Head(Rest::of(alloc, response)),
-            Poll::Ready(Err(_)) => self.page = Page::Whole(Err(Lost::Fault)),
+            Poll::Ready(Err(_)) => self.page = Page::Whole(Err(Lost::Fault(FetchFault::Cut))),
             Poll::Pending => {}
         }
     }
@@ -177,7 +178,7 @@ impl Exchange {
         } = self;
         let came = match page {
             Page::Whole(came) => came,
-            Page::Nothing(_) | Page::Head(_) => Err(Lost::Fault),
+            Page::Nothing(_) | Page::Head(_) => Err(Lost::Fault(FetchFault::Cut)),
         };
         ended(came, stream.map(|stream| stream.into_socket()))
     }

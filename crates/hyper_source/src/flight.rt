@@ -6,13 +6,15 @@ ghost use Rattle.hyper_source.specs.Heads.{StaysOpen};
 use crate::deadline::Deadline;
 use crate::exchange::{Exchange, Progress};
 use crate::gathered::Lost;
+use crate::origin::Chosen;
 use crate::poller::{Poller, Watched};
 use crate::reach::{Reach, lost_by};
 use crate::round_trip::Response;
 use crate::stream_signals::Readiness;
 use edge_types::PageUrl;
+use fetch_outcomes::FetchFault;
 use std::alloc::Global;
-use std::net::{SocketAddr, TcpStream};
+use std::net::TcpStream;
 use std::time::{Clock, Instant};
 
 /// A fetch that is under way.
@@ -20,12 +22,12 @@ use std::time::{Clock, Instant};
 pub(crate) struct Flight {
     /// What is fetched.
     pub(crate) url: PageUrl,
-    /// Where it is asked.
-    pub(crate) address: SocketAddr,
+    /// The origin that is asked.
+    pub(crate) origin: Chosen,
     /// Until when the fetch may take.
     pub(crate) deadline: Deadline,
-    // What new connections tell of the origin, where fetches are bounded.
-    reach: Option<Reach>,
+    // What new connections tell of the origin.
+    reach: Reach,
     // Its connection; `None` once that has ended.
     leg: Option<Leg>,
     // Whether it goes on without its socket being ready.
@@ -58,14 +60,14 @@ impl Flight {
     /// A fetch over a connection.
     pub(crate) fn new(
         url: PageUrl,
-        address: SocketAddr,
+        origin: Chosen,
         deadline: Deadline,
-        reach: Option<Reach>,
+        reach: Reach,
         leg: Leg,
     ) -> Flight {
         Flight {
             url,
-            address,
+            origin,
             deadline,
             reach,
             leg: Some(leg),
@@ -87,11 +89,8 @@ impl Flight {
     }
 
     /// What a new connection of this fetch tells of the origin.
-    pub(crate) fn told(&self) -> Result<Option<Reach>, Lost> {
-        match &self.reach {
-            Some(reach) => Ok(Some(reach.share()?)),
-            None => Ok(None),
-        }
+    pub(crate) fn told(&self) -> Result<Reach, Lost> {
+        self.reach.share()
     }
 
     /// Tries the fetch once more, over another connection.
@@ -109,7 +108,7 @@ impl Flight {
     ) -> Turn {
         self.goes_on = false;
         let Some(mut leg) = self.leg.take() else {
-            return Turn::Ended(Err(Lost::Fault), None);
+            return Turn::Ended(Err(Lost::Fault(FetchFault::Cut)), None);
         };
         let progress = leg.exchange.go_on(alloc, poller.task());
         match progress {
@@ -117,7 +116,7 @@ impl Flight {
             Progress::GoesOn => self.goes_on = true,
             Progress::Waits(readiness) => {
                 if !leg.is_watched(poller, key, readiness) {
-                    return Turn::Ended(Err(Lost::Fault), None);
+                    return Turn::Ended(Err(Lost::Fault(FetchFault::Cut)), None);
                 }
             }
         }
@@ -134,15 +133,8 @@ impl Flight {
         let may_retry = leg.is_kept && !leg.exchange.has_heard();
         let (came, socket) = leg.into_response(poller);
         match came {
-            Err(Lost::Fault) if may_retry => Turn::Unheard,
-            came => Turn::Ended(self.judged(came), socket),
-        }
-    }
-
-    fn judged(&self, came: Response) -> Response {
-        match &self.reach {
-            Some(reach) => reach.judged(came),
-            None => came,
+            Err(Lost::Fault(_)) if may_retry => Turn::Unheard,
+            came => Turn::Ended(self.reach.judged(came), socket),
         }
     }
 }

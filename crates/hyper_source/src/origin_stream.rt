@@ -94,9 +94,9 @@ impl<R: Drop> OriginStream<R> {
 
 impl<R: Clock> OriginStream<R> {
     /// The same stream, which tells of its origin by its reads and writes.
-    pub(crate) fn telling(self, reach: Option<Reach>) -> OriginStream<R> {
+    pub(crate) fn telling(self, reach: Reach) -> OriginStream<R> {
         let mut stream = self;
-        stream.reach = reach;
+        stream.reach = Some(reach);
         stream
     }
 

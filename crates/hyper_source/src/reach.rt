@@ -1,63 +1,70 @@
 //! Whether an origin can be reached.
 
-ghost use Rattle.std.specs.Prelude.{◌≡◌, ◌≢◌, ◌⊎◌, Err};
+ghost use Rattle.std.specs.Prelude.{◌≡◌, ◌⊎◌, Ok, Err};
 ghost use Rattle.std.specs.IoError.{error_kind};
+ghost use Rattle.fetch_outcomes.specs.declared.fetch_fault.FetchFault.{FetchFault};
+ghost use Rattle.fetch_outcomes.specs.declared.fetch_fault.FetchFault.TheVariants as faults;
 ghost use Rattle.hyper_source.specs.Bounded as spec;
 ghost use Rattle.hyper_source.specs.declared.gathered.Lost.TheVariants as lost;
 
 use crate::gathered::Lost;
+use fetch_outcomes::FetchFault;
 use std::alloc::Global;
 use std::io;
 use std::io::ErrorKind;
 use std::sync::Arc;
 use std::sync::atomic::{AtomicBool, Ordering};
 
-// Whether a failure says that the origin can't be reached. A socket whose own limit of time is over says that it would
-// block.
-fn is_unreachable(kind: ErrorKind) -> bool
-    ensures { result ≡ spec.is_unreachable kind }
+// What a failed call says of the fetch. A socket whose own limit of time is over says that it would block.
+fn fault_of(kind: ErrorKind) -> FetchFault
+    ensures { result ≡ spec.fault_of kind }
 {
-    matches!(
-        kind,
+    match kind {
         ErrorKind::ConnectionRefused
-            | ErrorKind::ConnectionReset
-            | ErrorKind::HostUnreachable
-            | ErrorKind::NetworkUnreachable
-            | ErrorKind::TimedOut
-            | ErrorKind::WouldBlock
-    )
+        | ErrorKind::ConnectionReset
+        | ErrorKind::HostUnreachable
+        | ErrorKind::NetworkUnreachable => FetchFault::Connect,
+        ErrorKind::TimedOut | ErrorKind::WouldBlock => FetchFault::Timeout,
+        _ => FetchFault::Cut,
+    }
 }
 
 /// What a connection that isn't made loses.
 pub(crate) fn lost_by(error: &io::Error) -> Lost
-    ensures { result ≡ spec.lost_by (error_kind error.now) }
+    ensures { result ≡ lost.Fault (spec.fault_of (error_kind error.now)) }
 {
-    if is_unreachable(error.kind()) {
-        Lost::Unreachable
-    } else {
-        Lost::Fault
-    }
+    Lost::Fault(fault_of(error.kind()))
 }
 
 /// What a stream tells of the origin, in the middle of a round trip whose errors keep no kind.
 #[derive(Drop)]
 pub(crate) struct Reach {
-    is_lost: Arc<AtomicBool>,
+    told: Arc<Told>,
+}
+
+#[derive(Drop)]
+struct Told {
+    is_lost: AtomicBool,
+    is_late: AtomicBool,
 }
 
 impl Reach {
     /// Nothing is told yet.
     pub(crate) fn new(alloc: Global) -> Result<Reach, Lost> {
-        match Arc::new(alloc, AtomicBool::new(false)) {
-            Ok(is_lost) => Ok(Reach { is_lost }),
+        let told = Told {
+            is_lost: AtomicBool::new(false),
+            is_late: AtomicBool::new(false),
+        };
+        match Arc::new(alloc, told) {
+            Ok(told) => Ok(Reach { told }),
             Err(_) => Err(Lost::NoMemory),
         }
     }
 
     /// One more that tells and asks the same.
     pub(crate) fn share(&self) -> Result<Reach, Lost> {
-        match self.is_lost.clone() {
-            Ok(is_lost) => Ok(Reach { is_lost }),
+        match self.told.clone() {
+            Ok(told) => Ok(Reach { told }),
             Err(_) => Err(Lost::NoMemory),
         }
     }
@@ -67,21 +74,42 @@ impl Reach {
         ensures { result ≡ came }
     {
         if let Err(error) = &came {
-            if is_unreachable(error.kind()) {
-                self.is_lost.store(true, Ordering::SeqCst);
-            }
+            self.tell(fault_of(error.kind()));
         }
         came
     }
 
+    fn tell(&self, fault: FetchFault) {
+        match fault {
+            FetchFault::Connect => self.told.is_lost.store(true, Ordering::SeqCst),
+            FetchFault::Timeout => self.told.is_late.store(true, Ordering::SeqCst),
+            _ => {}
+        }
+    }
+
     /// What a fetch results in whose stream told this.
     pub(crate) fn judged<T>(&self, came: Result<T, Lost>) -> Result<T, Lost>
-        ensures same { came ≢ Err lost.Fault → result ≡ came }
-        ensures fault { came ≡ Err lost.Fault → (result ≡ came) ⊎ (result ≡ Err lost.Unreachable) }
+        ensures ok { (page : T) → came ≡ Ok page → result ≡ came }
+        ensures no_memory { came ≡ Err lost.NoMemory → result ≡ came }
+        ensures fault { (fault : FetchFault) → came ≡ Err (lost.Fault fault)
+            → (result ≡ came) ⊎ (result ≡ Err (lost.Fault faults.Connect)) ⊎ (result ≡ Err (lost.Fault faults.Timeout)) }
     {
         match came {
-            Err(Lost::Fault) if self.is_lost.load(Ordering::SeqCst) => Err(Lost::Unreachable),
+            Err(Lost::Fault(fault)) => Err(Lost::Fault(self.cause_of(fault))),
             came => came,
+        }
+    }
+
+    // Why a fetch failed, where that is known better than by this.
+    fn cause_of(&self, fault: FetchFault) -> FetchFault
+        ensures { (result ≡ fault) ⊎ (result ≡ faults.Connect) ⊎ (result ≡ faults.Timeout) }
+    {
+        if self.told.is_lost.load(Ordering::SeqCst) {
+            FetchFault::Connect
+        } else if self.told.is_late.load(Ordering::SeqCst) {
+            FetchFault::Timeout
+        } else {
+            fault
         }
     }
 }

@@ -4,6 +4,7 @@ use crate::edge_name::{EdgeName, capability_for};
 use crate::gathered::Lost;
 use bytes::Bytes;
 use edge_types::PageUrl;
+use fetch_outcomes::FetchFault;
 use http::header::{ACCEPT_ENCODING, CONNECTION, HOST};
 use http::request::Builder;
 use http::{Error, Request};
@@ -26,7 +27,7 @@ pub(crate) fn request_of(
     keeps: bool,
 ) -> Result<Request<Empty<Bytes>>, Lost> {
     let Some((authority, target)) = parts_of(url) else {
-        return Err(Lost::Fault);
+        return Err(Lost::Fault(FetchFault::Cut));
     };
     let request = Request::get(alloc, target)
         .header(HOST, authority)
@@ -35,7 +36,7 @@ pub(crate) fn request_of(
     match identified(request, name, way).body(Empty::new()) {
         Ok(request) => Ok(request),
         Err(Error::OutOfMemory) => Err(Lost::NoMemory),
-        Err(_) => Err(Lost::Fault),
+        Err(_) => Err(Lost::Fault(FetchFault::Cut)),
     }
 }
 

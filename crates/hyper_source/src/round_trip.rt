@@ -7,6 +7,7 @@ use crate::executors::Executor;
 use crate::gathered::{Lost, Rest};
 use crate::head::stays_open;
 use bytes::Bytes;
+use fetch_outcomes::FetchFault;
 use futures::TryFutureExt;
 use futures::future::join;
 use http::Request;
@@ -38,17 +39,17 @@ where
     ensures { IfOk result.0 (λ page. IsSome result.1 → StaysOpen page.0) }
 {
     let Ok((mut sender, connection)) = client::conn::http1::handshake(alloc, keys, io) else {
-        return (Err(Lost::Fault), None);
+        return (Err(Lost::Fault(FetchFault::Cut)), None);
     };
     let page = sender
         .send_request(request)
-        .map_err(|_| Lost::Fault)
+        .map_err(|_| Lost::Fault(FetchFault::Cut))
         .and_then(move |response| Rest::of(alloc, response));
     // The connection ends with this response.
     drop(sender);
     match executor.run_until(rt, join(page, connection.without_shutdown())) {
         Ok((page, parts)) => ended(page, bare(parts)),
-        Err(_) => (Err(Lost::Fault), None),
+        Err(_) => (Err(Lost::Fault(FetchFault::Cut)), None),
     }
 }
 

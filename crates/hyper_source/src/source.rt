@@ -1,14 +1,18 @@
 //! A source that fetches from origins.
 
+ghost use Rattle.std.specs.Prelude.{◌≡◌, IfOk};
+ghost use Rattle.std.specs.Arc.{arc_value};
+
 mod concurrent;
 
-use crate::answers::answered;
+use crate::answers::{Fetched, answered};
 use crate::bounded::{OriginGate, end_of, gate_of, gates_of};
 use crate::deadline::Deadline;
 use crate::edge_name::{EdgeName, device_of, way_through};
 use crate::executors::IdleExecutors;
 use crate::gathered::Lost;
-use crate::origin::{Origin, address_of};
+use crate::notes::FetchNotes;
+use crate::origin::{Chosen, Origin, origin_for};
 use crate::origin_stream::OriginStream;
 use crate::poller::IdlePollers;
 use crate::pool::Pool;
@@ -16,6 +20,7 @@ use crate::reach::{Reach, lost_by};
 use crate::request::request_of;
 use crate::round_trip::{Response, round_trip};
 use edge_types::{Answer, NoMemory, PageUrl};
+use fetch_outcomes::FetchFault;
 use fetch_workers::{OnBehalf, Source};
 use origin_health::Bounds;
 use std::alloc::{AllocGlobal, Global};
@@ -34,6 +39,8 @@ use std::time::{Clock, Duration};
 /// An answer can't be fetched, and is a failed one, if no origin has the URL's authority, if the
 /// socket or HTTP fails (also by the time limit), if the body ends before its length, is coded or
 /// longer than `MAX_BODY`, and if no answer may have the status.
+///
+/// Each fetch is noted at its end, by the origin that was asked (`notes`).
 ///
 /// A content type that no answer may have counts as empty; several lines of `Surrogate-Control` count
 /// as one, joined by `, `. An answer that only the close of its connection ends is never to be stored.
@@ -60,6 +67,7 @@ struct Shared {
     origins: Vec<Origin>,
     executors: IdleExecutors,
     pollers: IdlePollers,
+    notes: Arc<FetchNotes>,
 }
 
 impl HyperSource {
@@ -74,10 +82,12 @@ impl HyperSource {
         origins: Vec<Origin>,
         limit: Option<Duration>,
     ) -> io::Result<HyperSource> {
+        let notes = FetchNotes::new(alloc, origins.as_slice())?;
         let shared = Shared {
             origins,
             executors: IdleExecutors::new(alloc),
             pollers: IdlePollers::new(alloc),
+            notes: Arc::new(alloc, notes)?,
         };
         Ok(HyperSource {
             shared: Arc::new(alloc, shared)?,
@@ -122,23 +132,33 @@ impl HyperSource {
         Ok(source)
     }
 
-    // What the URL's origin answers, if it may be asked.
-    fn asked<R>(&self, rt: &R, alloc: Global, url: &PageUrl) -> Response
+    /// One more owner of what this source, and all that are made of it `on_behalf` of others, note of their fetches.
+    ///
+    /// `NoMemory` if one more owner can't be made.
+    pub fn notes(&self) -> Result<Arc<FetchNotes>, NoMemory> {
+        Ok(Arc::try_clone(&self.shared.notes)?)
+    }
+
+    // The origin that is asked for a URL.
+    fn origin_of(&self, url: &PageUrl) -> Option<Chosen> {
+        origin_for(self.shared.origins.as_slice(), url.authority())
+    }
+
+    // What a URL's origin answers, if it has one that may be asked.
+    fn asked<R>(&self, rt: &R, alloc: Global, url: &PageUrl, origin: Option<Chosen>) -> Response
     where
         R: Wait + Net<Stream = TcpStream> + Clock + RandomSource + AllocGlobal + Clone + Drop,
     {
-        let Some(address) = address_of(self.shared.origins.as_slice(), url.authority()) else {
-            return Err(Lost::Fault);
-        };
-        let Some(gate) = gate_of(self.gates.as_slice(), address) else {
-            return self.fetched(rt, alloc, url, address, None);
+        let Some(Chosen { place: _, address }) = origin else {
+            return Err(Lost::Fault(FetchFault::NoOrigin));
         };
         let reach = Reach::new(alloc)?;
         let told = reach.share()?;
-        let Some(permit) = gate.permit(rt) else {
-            return Err(Lost::Fault);
+        let Some(gate) = gate_of(self.gates.as_slice(), address) else {
+            return reach.judged(self.fetched(rt, alloc, url, address, told));
         };
-        let got = reach.judged(self.fetched(rt, alloc, url, address, Some(told)));
+        let permit = gate.permit(rt)?;
+        let got = reach.judged(self.fetched(rt, alloc, url, address, told));
         gate.ended(rt, permit, end_of(&got));
         got
     }
@@ -150,13 +170,13 @@ impl HyperSource {
         alloc: Global,
         url: &PageUrl,
         address: SocketAddr,
-        reach: Option<Reach>,
+        reach: Reach,
     ) -> Response
     where
         R: Wait + Net<Stream = TcpStream> + Clock + RandomSource + AllocGlobal + Clone + Drop,
     {
         let Ok(deadline) = Deadline::after(rt, self.limit) else {
-            return Err(Lost::Fault);
+            return Err(Lost::Fault(FetchFault::Cut));
         };
         if let Some(came) = self.asked_over_idle(rt, alloc, url, address, deadline) {
             return came;
@@ -185,7 +205,7 @@ impl HyperSource {
         let told = Arc::try_clone(&heard).ok()?;
         let io = OriginStream::over(rt, idle.socket, deadline, Some(told)).ok()?;
         let came = self.asked_over(rt, alloc, url, address, io);
-        if matches!(came, Err(Lost::Fault)) && !heard.load(Ordering::SeqCst) {
+        if matches!(came, Err(Lost::Fault(_))) && !heard.load(Ordering::SeqCst) {
             return None;
         }
         Some(came)
@@ -211,7 +231,7 @@ impl HyperSource {
             self.pool.keeps(),
         )?;
         let Some(mut executor) = self.shared.executors.take(rt) else {
-            return Err(Lost::Fault);
+            return Err(Lost::Fault(FetchFault::Cut));
         };
         let (came, open) = round_trip(rt, alloc, &mut executor, self.keys, io, request);
         self.shared.executors.leave(rt, executor);
@@ -219,6 +239,24 @@ impl HyperSource {
             self.pool.leave(rt, address, io.into_socket());
         }
         came
+    }
+
+    // The answer that a fetch results in, once that is noted.
+    fn noted<R: Wait>(
+        &self,
+        rt: &R,
+        alloc: Global,
+        url: &PageUrl,
+        origin: Option<Chosen>,
+        came: Response,
+    ) -> Result<Arc<Answer>, NoMemory>
+        ensures { IfOk result (λ answer. (arc_value answer).url ≡ url.now) }
+    {
+        let Fetched { answer, fault } = answered(alloc, url, device_of(&self.name), came)?;
+        let answer = Arc::new(alloc, answer)?;
+        let place = origin.map(|origin| origin.place);
+        self.shared.notes.note(rt, url, place, fault);
+        Ok(answer)
     }
 }
 
@@ -233,9 +271,9 @@ where
     ghost names_url = { λ _ _ _ named. named };
 
     fn fetch(&self, rt: &R, alloc: Global, url: &PageUrl) -> Result<Arc<Answer>, NoMemory> {
-        let came = self.asked(rt, alloc, url);
-        let answer = answered(alloc, url, device_of(&self.name), came)?;
-        Ok(Arc::new(alloc, answer)?)
+        let origin = self.origin_of(url);
+        let came = self.asked(rt, alloc, url, origin);
+        self.noted(rt, alloc, url, origin, came)
     }
 }
 

@@ -1,14 +1,12 @@
 //! Fetches of one thread that are in flight at once.
 
-use crate::answers::answered;
-use crate::bounded::{end_of, gate_of};
+use crate::bounded::{end_of, gate_of, granted};
 use crate::deadline::Deadline;
-use crate::edge_name::device_of;
 use crate::exchange::Exchange;
 use crate::flight::{Flight, Leg, Turn};
 use crate::gathered::Lost;
 use crate::in_flight::{FetchesInFlight, HeldPermit};
-use crate::origin::address_of;
+use crate::origin::Chosen;
 use crate::poller::Watched;
 use crate::reach::{Reach, lost_by};
 use crate::request::request_of;
@@ -16,6 +14,7 @@ use crate::round_trip::Response;
 use crate::source::HyperSource;
 use crate::stream_signals::StreamSignals;
 use edge_types::{Answer, NoMemory, PageUrl};
+use fetch_outcomes::FetchFault;
 use fetch_workers::ConcurrentSource;
 use origin_health::Leave;
 use std::alloc::{AllocGlobal, Global};
@@ -25,7 +24,7 @@ use std::sync::{Arc, Wait};
 use std::time::Clock;
 
 impl HyperSource {
-    // Begins a fetch, if the URL's origin may be asked; gives its key. One that is too many, while others of the same
+    // Begins a fetch, if the URL has an origin that may be asked; gives its key. One that is too many, while others of the same
     // thread are asked there, is held back until one of them has ended: they would make a page fail by itself.
     fn departed<R>(
         &self,
@@ -33,31 +32,31 @@ impl HyperSource {
         alloc: Global,
         in_flight: &mut FetchesInFlight,
         url: PageUrl,
+        origin: Option<Chosen>,
     ) -> Result<Option<usize>, Lost>
     where
         R: Wait + Net<Stream = TcpStream> + Clock + RandomSource + AllocGlobal + Clone + Drop,
     {
-        if !self.has_poller(rt, in_flight) {
-            return Err(Lost::Fault);
-        }
-        let Some(address) = address_of(self.shared.origins.as_slice(), url.authority()) else {
-            return Err(Lost::Fault);
+        let Some(origin) = origin else {
+            return Err(Lost::Fault(FetchFault::NoOrigin));
         };
-        let Some(gate) = gate_of(self.gates.as_slice(), address) else {
-            let flight = self.flight(rt, alloc, url, address, None)?;
+        if !self.has_poller(rt, in_flight) {
+            return Err(Lost::Fault(FetchFault::Cut));
+        }
+        let reach = Reach::new(alloc)?;
+        let Some(gate) = gate_of(self.gates.as_slice(), origin.address) else {
+            let flight = self.flight(rt, alloc, url, origin, reach)?;
             return Ok(Some(in_flight.admit(flight)?));
         };
         let gate = gate.share()?;
-        let reach = Reach::new(alloc)?;
         let permit = match gate.leave(rt) {
-            Leave::Granted(permit) => permit,
-            Leave::TooMany if in_flight.asks(address) => {
+            Leave::TooMany if in_flight.asks(origin.address) => {
                 in_flight.hold_back(url)?;
                 return Ok(None);
             }
-            Leave::TooMany | Leave::Rests => return Err(Lost::Fault),
+            leave => granted(leave)?,
         };
-        let admitted = match self.flight(rt, alloc, url, address, Some(reach)) {
+        let admitted = match self.flight(rt, alloc, url, origin, reach) {
             Ok(flight) => in_flight.admit(flight),
             Err(lost) => Err(lost),
         };
@@ -86,26 +85,20 @@ impl HyperSource {
         rt: &R,
         alloc: Global,
         url: PageUrl,
-        address: SocketAddr,
-        reach: Option<Reach>,
+        origin: Chosen,
+        reach: Reach,
     ) -> Result<Flight, Lost>
     where
         R: Wait + Net<Stream = TcpStream> + Clock + RandomSource + AllocGlobal + Clone + Drop,
     {
         let Ok(deadline) = Deadline::after(rt, self.limit) else {
-            return Err(Lost::Fault);
+            return Err(Lost::Fault(FetchFault::Cut));
         };
-        let leg = match self.pool.take_nonblocking(rt, address) {
+        let leg = match self.pool.take_nonblocking(rt, origin.address) {
             Some(idle) => self.leg(alloc, &url, idle.socket, true, None)?,
-            None => {
-                let told = match &reach {
-                    Some(reach) => Some(reach.share()?),
-                    None => None,
-                };
-                self.new_leg(rt, alloc, &url, address, told)?
-            }
+            None => self.new_leg(rt, alloc, &url, origin.address, reach.share()?)?,
         };
-        Ok(Flight::new(url, address, deadline, reach, leg))
+        Ok(Flight::new(url, origin, deadline, reach, leg))
     }
 
     // The exchange of a fetch over a new connection, which need not be made yet.
@@ -115,10 +108,10 @@ impl HyperSource {
         alloc: Global,
         url: &PageUrl,
         address: SocketAddr,
-        told: Option<Reach>,
+        told: Reach,
     ) -> Result<Leg, Lost> {
         match mio::net::TcpStream::connect(rt, address) {
-            Ok(socket) => self.leg(alloc, url, TcpStream::from(socket), false, told),
+            Ok(socket) => self.leg(alloc, url, TcpStream::from(socket), false, Some(told)),
             Err(error) => Err(lost_by(&error)),
         }
     }
@@ -183,7 +176,7 @@ impl HyperSource {
             return Ok(());
         };
         let told = flight.told()?;
-        let leg = self.new_leg(rt, alloc, &flight.url, flight.address, told)?;
+        let leg = self.new_leg(rt, alloc, &flight.url, flight.origin.address, told)?;
         flight.retries(leg);
         match in_flight.due.push_back(key) {
             Ok(()) => Ok(()),
@@ -208,10 +201,10 @@ impl HyperSource {
             return Ok(None);
         };
         if let Some(socket) = socket {
-            self.pool.leave(rt, flight.address, socket);
+            self.pool.leave(rt, flight.origin.address, socket);
         }
-        let answer = answered(alloc, &flight.url, device_of(&self.name), came)?;
-        Ok(Some(Arc::new(alloc, answer)?))
+        let answer = self.noted(rt, alloc, &flight.url, Some(flight.origin), came)?;
+        Ok(Some(answer))
     }
 }
 
@@ -234,13 +227,11 @@ where
         url: &PageUrl,
     ) -> Result<(), NoMemory> {
         in_flight.reserve()?;
-        let begun = match self.departed(rt, alloc, in_flight, url.share()?) {
+        let origin = self.origin_of(url);
+        let begun = match self.departed(rt, alloc, in_flight, url.share()?, origin) {
             Ok(Some(key)) => self.turned(rt, alloc, in_flight, key)?,
             Ok(None) => None,
-            Err(lost) => {
-                let answer = answered(alloc, url, device_of(&self.name), Err(lost))?;
-                Some(Arc::new(alloc, answer)?)
-            }
+            Err(lost) => Some(self.noted(rt, alloc, url, origin, Err(lost))?),
         };
         if let Some(answer) = begun {
             in_flight.answers.push_back(answer)?;

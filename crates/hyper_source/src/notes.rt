@@ -1,0 +1,135 @@
+//! What a source notes of its fetches. Clauses see the authorities of its origins, in order.
+
+ghost use Rattle.std.specs.Prelude.{◌≡◌, IfOk};
+ghost use Rattle.hyper_source.specs.Authorities as spec;
+ghost use Rattle.hyper_source.specs.Origins.{authorities_of};
+
+use crate::fetch_counts::FetchCounts;
+use crate::latest_faults::LatestFaults;
+use crate::origin::Origin;
+use edge_types::{NoMemory, PageUrl};
+use fetch_outcomes::{FetchFault, FetchTally};
+use std::alloc::{AllocError, Global};
+use std::marker::Model;
+use std::sync::atomic::{AtomicU64, Ordering};
+use std::sync::{Mutex, Wait};
+
+/// How the fetches from one origin have ended.
+///
+/// Our profile.
+#[derive(Drop)]
+pub struct OriginTally {
+    /// The origin's authority.
+    pub authority: Vec<u8>,
+    /// How many have ended how.
+    pub fetches: FetchTally,
+}
+
+// An origin's authority, and how the fetches from it have ended.
+#[derive(Drop)]
+struct OriginCounts {
+    authority: Vec<u8>,
+    counts: FetchCounts,
+}
+
+/// How the fetches of a `HyperSource`, and of all sources for other requests that were made of it, have ended: each is
+/// noted once, at its end. One that is given up isn't, nor is one for which memory ran out.
+///
+/// Our profile.
+#[derive(Drop)]
+pub struct FetchNotes {
+    origins: Vec<OriginCounts>,
+    without_origin: AtomicU64,
+    latest: Mutex<LatestFaults>,
+}
+
+impl Model for FetchNotes {
+    ghost use Rattle.std.specs.Prelude.{List, ℕ};
+    ghost use Rattle.hyper_source.specs.Authorities.{counted};
+
+    ghost Value = { List (List ℕ) };
+
+    ghost view = { λ n. counted n.origins.items };
+}
+
+impl FetchNotes {
+    /// No fetch from these origins has ended yet.
+    pub(crate) fn new(alloc: Global, origins: &[Origin]) -> Result<FetchNotes, AllocError>
+        ensures { IfOk result (λ notes. notes ≡ authorities_of origins.now) }
+    {
+        Ok(FetchNotes {
+            origins: counts_of(alloc, origins)?,
+            without_origin: AtomicU64::new(0),
+            latest: Mutex::new(LatestFaults::new(alloc)?),
+        })
+    }
+
+    /// How the fetches from each origin have ended until now, in the order of the origins. Of several with one authority
+    /// the first alone is asked.
+    ///
+    /// `NoMemory` if an allocation fails.
+    pub fn tallies(&self, alloc: Global) -> Result<Vec<OriginTally>, NoMemory>
+        ensures { IfOk result (λ tallies. spec.told tallies.items ≡ self.now) }
+    {
+        tallies_of(alloc, self.origins.as_slice())
+    }
+
+    /// How many fetches had no origin until now. Takes no memory.
+    pub fn without_origin(&self) -> u64 {
+        self.without_origin.load(Ordering::SeqCst)
+    }
+
+    /// Why a URL couldn't be fetched when that failed last. `None` if it hasn't failed, if 1,024 other URLs have failed
+    /// since, or if there was no memory to note it. That it was fetched since then changes nothing. Takes no memory.
+    pub fn fault_of<R: Wait>(&self, rt: &R, url: &PageUrl) -> Option<FetchFault> {
+        self.latest.lock(rt).fault_of(url)
+    }
+
+    /// A fetch has ended, of a URL whose origin stands at this place, if it has one: with this fault, or with an answer.
+    pub(crate) fn note<R: Wait>(
+        &self,
+        rt: &R,
+        url: &PageUrl,
+        place: Option<usize>,
+        fault: Option<FetchFault>,
+    ) {
+        self.count_of(place, fault).fetch_add(1, Ordering::SeqCst);
+        if let Some(fault) = fault {
+            let _ = self.latest.lock(rt).note(url, fault);
+        }
+    }
+
+    fn count_of(&self, place: Option<usize>, fault: Option<FetchFault>) -> &AtomicU64 {
+        let origin = place.and_then(|place| self.origins.get(place));
+        match origin.and_then(|origin| origin.counts.count_of(fault)) {
+            Some(count) => count,
+            None => &self.without_origin,
+        }
+    }
+}
+
+fn counts_of(alloc: Global, origins: &[Origin]) -> Result<Vec<OriginCounts>, AllocError>
+    ensures { IfOk result (λ made. spec.counted made.items ≡ authorities_of origins.now) }
+{
+    let mut made = Vec::new(alloc);
+    for origin in origins {
+        made.push(OriginCounts {
+            authority: origin.authority.as_slice().to_vec(alloc)?,
+            counts: FetchCounts::new(),
+        })?;
+    }
+    Ok(made)
+}
+
+fn tallies_of(alloc: Global, origins: &[OriginCounts]) -> Result<Vec<OriginTally>, NoMemory>
+    ensures { IfOk result (λ made. spec.told made.items ≡ spec.counted origins.now) }
+{
+    let mut made = Vec::new(alloc);
+    for origin in origins {
+        made.push(OriginTally {
+            authority: origin.authority.as_slice().to_vec(alloc)?,
+            fetches: origin.counts.tally(),
+        })?;
+    }
+    Ok(made)
+}
