@@ -83,6 +83,7 @@ fn call_of_page(rt: &HostRuntime, name: &str) -> Option<()> {
         "Shard::land" => shards::land(rt, name),
         "Shard::land:bridged" => shards::bridge(rt, name),
         "Shard::pick" => shards::pick(rt, name),
+        "Shard::purge_prefix" => shards::purge_prefix(rt, name),
         _ => None,
     }
 }

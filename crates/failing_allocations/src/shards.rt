@@ -5,7 +5,7 @@ ghost use Rattle.std.specs.Arc.{arc_value};
 ghost use Rattle.fragment_cache.specs.Shown.{begun_answer};
 ghost use Rattle.fragment_cache.specs.Sound.{NamesUrl};
 
-use allocation_tools::printing::{answers, bytes, calls, out_of_memory, word};
+use allocation_tools::printing::{answers, bytes, calls, number, out_of_memory, word};
 use allocation_tools::values::{answer, stored, url};
 use edge_types::{Answer, NoMemory, PageUrl};
 use fragment_cache::{Begun, Flight, Picked, Shard};
@@ -191,6 +191,23 @@ pub fn bridge(rt: &HostRuntime, name: &str) -> Option<()> {
     word(rt, "left")?;
     print_look(rt, &mut shard, "/x")?;
     print_pick(rt, &mut shard, 1)
+}
+
+/// Purges one of two answers.
+pub fn purge_prefix(rt: &HostRuntime, name: &str) -> Option<()> {
+    let mut shard = shard(rt.alloc())?;
+    store(&mut shard, answer(rt.alloc(), "/x", stored(), "1")?);
+    store(&mut shard, answer(rt.alloc(), "/y", stored(), "2")?);
+    calls(rt, name)?;
+    let purged = shard.purge_prefix(b"http://a.test/x");
+    answers(rt)?;
+    match purged {
+        Ok(count) => number(rt, count)?,
+        Err(NoMemory) => out_of_memory(rt)?,
+    }
+    word(rt, "left")?;
+    print_look(rt, &mut shard, "/x")?;
+    print_look(rt, &mut shard, "/y")
 }
 
 // What is there for those who wait for a flight.

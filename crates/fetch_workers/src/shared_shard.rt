@@ -11,7 +11,7 @@ use crate::cache_flights::Led;
 use crate::source::Found;
 use crate::tally::CacheTally;
 use edge_types::{Answer, NoMemory, PageUrl};
-use fragment_cache::{Begun, Flight, MAX_CAPACITY, Picked, Shard};
+use fragment_cache::{Begun, Flight, MAX_CAPACITY, Picked, Shard, is_failing};
 use std::alloc::Global;
 use std::collections::BTreeMap;
 use std::sync::{Arc, Condvar, Mutex, MutexGuard, Wait};
@@ -39,7 +39,11 @@ impl Shelf {
         ensures { (arc_value result).url ≡ flight.url }
     {
         let number = flight.number();
+        let fails = is_failing(&answer);
         let landed = self.shard.land(flight, answer, now);
+        if fails && !is_failing(&landed) {
+            self.asked.note_bridge();
+        }
         for _ in 0..self.left.remove(&number).unwrap_or(0) {
             let _ = self.shard.pick(number);
         }
@@ -62,6 +66,17 @@ impl Shelf {
         let found = self.shard.look(url, now)?;
         if found.is_some() {
             self.asked.note_hit();
+        }
+        Ok(found)
+    }
+
+    // What would bridge a failing landing for a URL, which is counted as a bridge.
+    fn bridging(&mut self, url: &PageUrl, now: u64) -> Found
+        ensures { IfOk result (λ found. IfSome found (λ answer. (arc_value answer).url ≡ url.now)) }
+    {
+        let found = self.shard.bridging(url, now)?;
+        if found.is_some() {
+            self.asked.note_bridge();
         }
         Ok(found)
     }
@@ -145,7 +160,7 @@ impl SharedShard {
     pub(crate) fn bridging<R: Wait>(&self, rt: &R, url: &PageUrl, now: u64) -> Found
         ensures { IfOk result (λ found. IfSome found (λ answer. (arc_value answer).url ≡ url.now)) }
     {
-        self.lock(rt).shard.bridging(url, now)
+        self.lock(rt).bridging(url, now)
     }
 
     pub(crate) fn purge<R: Wait>(&self, rt: &R, url: &PageUrl) -> bool {
@@ -161,6 +176,7 @@ impl SharedShard {
         let shelf = self.lock(rt);
         let mut tally = shelf.asked;
         tally.entries = u64::try_from(shelf.shard.entries()).unwrap_or(u64::MAX);
+        tally.bytes = shelf.shard.bytes();
         tally
     }
 

@@ -2,14 +2,16 @@
 
 use fragment_cache::Begun;
 
-/// How many answers a cache keeps, and by what it gave those that were asked for. A look-up that is refused, since as many wait
-/// for its fetch as may, isn't counted.
+/// What a cache keeps, and by what it gave the answers that were asked for. A look-up that is refused, since as many wait for its
+/// fetch as may, is counted only where it is bridged.
 ///
 /// Our profile.
 #[derive(Clone, Copy, Debug, Drop, PartialEq, Eq)]
 pub struct CacheTally {
     /// Answers that are kept.
     pub entries: u64,
+    /// The bytes of their bodies.
+    pub bytes: u64,
     /// Given by an answer that is kept.
     pub hits: u64,
     /// Given by a fetch that somebody else makes.
@@ -18,6 +20,8 @@ pub struct CacheTally {
     pub leads: u64,
     /// Given by a fetch for whoever asked alone, for want of room.
     pub bypasses: u64,
+    /// Answers that are kept and were given in place of a fetch that failed, or wasn't made in time.
+    pub bridges: u64,
 }
 
 impl CacheTally {
@@ -25,10 +29,12 @@ impl CacheTally {
     pub(crate) fn new() -> CacheTally {
         CacheTally {
             entries: 0,
+            bytes: 0,
             hits: 0,
             joins: 0,
             leads: 0,
             bypasses: 0,
+            bridges: 0,
         }
     }
 
@@ -48,14 +54,21 @@ impl CacheTally {
         self.hits = self.hits.saturating_add(1);
     }
 
+    /// Counts an answer that bridges.
+    pub(crate) fn note_bridge(&mut self) {
+        self.bridges = self.bridges.saturating_add(1);
+    }
+
     /// Both together.
     pub(crate) fn plus(self, other: CacheTally) -> CacheTally {
         CacheTally {
             entries: self.entries.saturating_add(other.entries),
+            bytes: self.bytes.saturating_add(other.bytes),
             hits: self.hits.saturating_add(other.hits),
             joins: self.joins.saturating_add(other.joins),
             leads: self.leads.saturating_add(other.leads),
             bypasses: self.bypasses.saturating_add(other.bypasses),
+            bridges: self.bridges.saturating_add(other.bridges),
         }
     }
 }

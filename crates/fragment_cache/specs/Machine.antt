@@ -1,10 +1,10 @@
 -- The cache machine: what a shard keeps, and names for what it does with it.
-use Rattle.std.specs.Prelude.{◌≢◌, ℕ, ◌+◌, ◌-◌, Bool, not, bytes_eq, nat_eq, nat_lt, List, [], ◌∷◌, ◌++◌, take, filter, Option, Some, None, is_none, option_and_then, if◌then◌else◌}
+use Rattle.std.specs.Prelude.{◌≢◌, ℕ, ◌+◌, ◌-◌, ◌^◌, min, Bool, not, bytes_eq, nat_eq, nat_lt, List, [], ◌∷◌, ◌++◌, length, sum_by, take, filter, Option, Some, None, is_none, option_and_then, if◌then◌else◌}
 use Rattle.std.specs.Option.{option_map_or}
 use Rattle.std.specs.List.{starts_with, list_any}
 use Rattle.std.specs.Map.{lookup}
 use Rattle.std.specs.Ordering.{eq_by_cmp, nat_cmp}
-use Rattle.edge_types.specs.Answered.{Answered}
+use Rattle.edge_types.specs.Answered.{Answered, body_of}
 use Rattle.fragment_cache.specs.Times.{second_after, extension_of}
 
 -- a stored answer, and the second at which it expires
@@ -83,6 +83,14 @@ used url entries = filter (λ e. bytes_eq url e.0) entries ++ others url entries
 -- this entry of the URL first, in place of an older one, else of the last one if the shard is full
 abbrev pub stored : ℕ → List ℕ → Entry → Entries → Entries
 stored capacity url entry entries = (url, entry) ∷ take (capacity - 1) (others url entries)
+
+-- the bytes of an entry's body
+abbrev pub body_bytes : Entry → ℕ
+body_bytes e = length (body_of e.answer.reply)
+
+-- the bytes of the bodies of the entries, up to the largest number of 64 bits
+abbrev pub bytes_of : Entries → ℕ
+bytes_of entries = min (sum_by (λ e. body_bytes e.1) entries) (2 ^ 64 - 1)
 
 -- the entry's answer, if now is before this second
 abbrev pub answer_before : ℕ → ℕ → Answered → Option Answered

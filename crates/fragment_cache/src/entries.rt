@@ -5,11 +5,11 @@ ghost use Rattle.std.specs.Arc.{arc_value};
 ghost use Rattle.std.specs.NonZero.{non_zero_usize_get};
 ghost use Rattle.lru.specs.LruCache.{IsValid, lru_cache, promoted};
 ghost use Rattle.std.specs.Map.{keys_of};
-ghost use Rattle.fragment_cache.specs.Machine.{begins};
+ghost use Rattle.fragment_cache.specs.Machine.{begins, bytes_of};
 ghost use Rattle.fragment_cache.specs.Times.{expiry_of};
 
 use crate::times::{expiry, extension};
-use edge_types::{Answer, NoMemory, PageUrl, SharedAnswer};
+use edge_types::{Answer, NoMemory, PageUrl, Reply, SharedAnswer};
 use lru::LruCache;
 use std::alloc::Global;
 use std::marker::Model;
@@ -32,7 +32,17 @@ impl Model for Stored {
 }
 
 impl Stored {
-    ghost use Rattle.fragment_cache.specs.Machine.{bridge_end};
+    ghost use Rattle.fragment_cache.specs.Machine.{body_bytes, bridge_end};
+
+    // How many bytes the answer's body has.
+    fn body_bytes(&self) -> u64
+        ensures { result ≡ body_bytes self.now }
+    {
+        match self.answer.get().reply() {
+            Reply::Failed => 0,
+            Reply::Got { body, .. } => body.len() as u64,
+        }
+    }
 
     // Until when the answer bridges a failing origin.
     fn bridge_end(&self) -> u64
@@ -103,8 +113,19 @@ fn begun_by(
     Ok(urls)
 }
 
+// How many bytes the bodies of the entries have together.
+fn bytes_in(cache: &LruCache<PageUrl, Stored>) -> u64
+    ensures { result ≡ bytes_of cache.now.entries }
+{
+    let mut bytes: u64 = 0;
+    for (_, stored) in cache.iter() {
+        bytes = bytes.saturating_add(stored.body_bytes());
+    }
+    bytes
+}
+
 impl Entries {
-    ghost use Rattle.fragment_cache.specs.Machine.{entry_of, others, left, is_among, begins, used, stored, fresh, bridging};
+    ghost use Rattle.fragment_cache.specs.Machine.{entry_of, others, left, is_among, begins, bytes_of, used, stored, fresh, bridging};
     ghost use Rattle.fragment_cache.specs.Sound.{AreEntries};
 
     pub(crate) fn new(alloc: Global, capacity: NonZeroUsize) -> Result<Entries, NoMemory>
@@ -211,6 +232,13 @@ impl Entries {
     {
         let _ = self.cache.pop(url);
         check(&self.cache);
+    }
+
+    // How many bytes the bodies of the entries have together.
+    pub(crate) fn bytes(&self) -> u64
+        ensures { result ≡ bytes_of self.now.entries }
+    {
+        bytes_in(&self.cache)
     }
 
     // How many entries there are.

@@ -13,4 +13,4 @@ mod times;
 pub use flights::{Flight, MAX_FLIGHTS, Picked};
 pub use kept::MAX_PICKS;
 pub use shard::{Begun, MAX_CAPACITY, Shard};
-pub use times::is_to_be_stored;
+pub use times::{is_failing, is_to_be_stored};

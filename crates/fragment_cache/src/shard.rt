@@ -54,7 +54,7 @@ impl Model for Shard {
 impl Shard {
     ghost use Rattle.std.specs.Prelude.{◌≡◌, ◌<◌, ◌≤◌, ◌+◌, ◌++◌, ◌∷◌, [], length, ℕ, None, Some, IfOk, IfSome, OnErr, MatchOption};
     ghost use Rattle.std.specs.Arc.{arc_value};
-    ghost use Rattle.fragment_cache.specs.Machine.{empty, fresh, picks_at, flying_at, NoneFlies};
+    ghost use Rattle.fragment_cache.specs.Machine.{bytes_of, empty, fresh, picks_at, flying_at, NoneFlies};
     ghost use Rattle.fragment_cache.specs.Steps.{Begins, Looks, Found, Missing, Refused, LandsSomehow, Picks};
     ghost use Rattle.fragment_cache.specs.Shown.{begun_answer, picked_answer};
     ghost use Rattle.fragment_cache.specs.Sound.{IsSound, NamesUrl};
@@ -170,6 +170,15 @@ impl Shard {
         ensures { result ≡ length self.now.entries }
     {
         self.entries.len()
+    }
+
+    /// How many bytes the bodies of the entries have together, at most `u64::MAX`. Looks at each entry; takes no memory.
+    ///
+    /// Our profile.
+    pub fn bytes(&self) -> u64
+        ensures { result ≡ bytes_of self.now.entries }
+    {
+        self.entries.bytes()
     }
 
     // Joins the flight of a URL that no entry answers, or leads a new one.

@@ -49,8 +49,11 @@ pub(crate) fn extension(answer: &Answer) -> u32
     }
 }
 
-// Whether the origin fails: nothing could be fetched, or the status is 500 to 599.
-pub(crate) fn is_failing(answer: &Answer) -> bool
+/// Whether the origin fails with an answer, so that a stored one may bridge it: nothing could be fetched, or the status is
+/// 500 to 599.
+///
+/// Our profile.
+pub fn is_failing(answer: &Answer) -> bool
     ensures { result ≡ is_failing answer.now.reply }
 {
     match answer.reply() {
