@@ -1,11 +1,11 @@
 -- The bytes of lines that wait until they are written.
-use Rattle.std.specs.Prelude.{◌≡◌, ◌⊎◌, ℕ, ◌+◌, ◌-◌, ◌^◌, ◌<◌, min, Bool, true, false, not, nat_eq, nat_le, List, [], ◌++◌, length, take, drop, if◌then◌else◌}
+use Rattle.std.specs.Prelude.{◌≡◌, ◌⊎◌, ◌&&◌, ◌||◌, ℕ, ◌+◌, ◌-◌, ◌^◌, ◌<◌, min, Bool, true, false, not, nat_eq, nat_le, List, [], ◌++◌, length, drop, if◌then◌else◌}
 use Rattle.access_log.specs.Lines.{IsReportOf}
 use Rattle.access_log.specs.Queued.{Queued}
 use Rattle.access_log.specs.declared.format.LogFormat.{LogFormat}
 
 abbrev pub empty : ℕ → Queued
-empty most = record { waiting = []; most = most; lost = 0; lost_in_all = 0; is_written = false }
+empty most = record { waiting = []; most = most; lost = 0; lost_in_all = 0; is_written = false; begun_at = 0 }
 
 -- there is room for these bytes
 abbrev pub fits : List ℕ → Queued → Bool
@@ -36,6 +36,18 @@ Tells format second line old new =
 -- somebody writes
 abbrev pub begun : Queued → Queued
 begun queue = record queue { is_written = true }
+
+-- somebody writes from this millisecond on
+abbrev pub begun_at : ℕ → Queued → Queued
+begun_at now queue = record queue { is_written = true; begun_at = now }
+
+-- a write is due: so many bytes wait that it takes few calls for each line, or the last one began long enough ago
+abbrev pub is_due : ℕ → Queued → Bool
+is_due now queue = nat_le 4096 (length queue.waiting) || nat_le 10 (now - queue.begun_at)
+
+-- nobody writes, and a write is due
+abbrev pub may_begin : ℕ → Queued → Bool
+may_begin now queue = not queue.is_written && is_due now queue
 
 abbrev pub stopped : Queued → Queued
 stopped queue = record queue { is_written = false }

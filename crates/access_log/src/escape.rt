@@ -1,6 +1,7 @@
 //! Texts of clients between the quotes of a line.
 
 ghost use Rattle.std.specs.Prelude.{◌≡◌, ◌++◌, ◌<◌, OnOk};
+ghost use Rattle.std.specs.List.{list_all};
 ghost use Rattle.access_log.specs.Escapes as spec;
 
 use std::alloc::AllocError;
@@ -11,8 +12,25 @@ pub(crate) const IN_LOG: &[u8] = b"\\x";
 /// What does so in a string of JSON.
 pub(crate) const IN_JSON: &[u8] = b"\\u00";
 
-/// Appends a text, with each byte that can't stand between quotes in two digits of base 16 behind the prefix.
+/// Appends a text, with each byte that can't stand between quotes in two digits of base 16 behind the prefix. Most texts
+/// have none, and are appended whole.
+#[tactic(auto, using(crate::proofs::Plain::stands_as_it_is))]
 pub(crate) fn push_escaped(line: &mut Vec<u8>, prefix: &[u8], text: &[u8]) -> Result<(), AllocError>
+    ensures { OnOk result (line.new.items ≡ line.old.items ++ spec.escaped prefix.now text.now) }
+{
+    if is_plain_text(text) {
+        return line.extend_from_slice(text);
+    }
+    push_each(line, prefix, text)
+}
+
+fn is_plain_text(text: &[u8]) -> bool
+    ensures { result ≡ list_all spec.is_plain text.now }
+{
+    text.iter().all(|byte| is_plain(*byte))
+}
+
+fn push_each(line: &mut Vec<u8>, prefix: &[u8], text: &[u8]) -> Result<(), AllocError>
     ensures { OnOk result (line.new.items ≡ line.old.items ++ spec.escaped prefix.now text.now) }
 {
     for byte in text {

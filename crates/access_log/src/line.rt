@@ -12,8 +12,12 @@ use crate::parts::{
     push_quoted, push_text_member, version_text,
 };
 use crate::record::{Fault, Place, RequestRecord};
+use fetch_outcomes::FetchFault;
 use std::alloc::{AllocError, Global};
 use std::net::IpAddr;
+
+// Most lines have fewer bytes, and are made without a move.
+const USUAL_BYTES: usize = 512;
 
 /// The line of a request that was reported in this second since 1970.
 ///
@@ -43,7 +47,7 @@ fn dated_line(
 ) -> Result<Vec<u8>, AllocError>
     ensures { IfOk result (λ line. line.items ≡ spec.line format second date.now request.now) }
 {
-    let mut line = Vec::new(alloc);
+    let mut line = Vec::with_capacity(alloc, USUAL_BYTES)?;
     match format {
         LogFormat::Line => {
             push_plain_line(&mut line, second, request)?;
@@ -247,6 +251,7 @@ fn push_fault_member(line: &mut Vec<u8>, fault: Option<&Fault>) -> Result<(), Al
     line.extend_from_slice(fault.reason.name().as_bytes())?;
     push_url(line, fault.url.as_slice())?;
     push_place(line, fault.place)?;
+    push_cause(line, fault.cause)?;
     line.extend_from_slice(b"\"")
 }
 
@@ -270,6 +275,16 @@ fn push_place(line: &mut Vec<u8>, place: Option<Place>) -> Result<(), AllocError
     push_number(line, row as u64)?;
     line.extend_from_slice(b":")?;
     push_number(line, column as u64)
+}
+
+fn push_cause(line: &mut Vec<u8>, cause: Option<FetchFault>) -> Result<(), AllocError>
+    ensures { OnOk result (line.new.items ≡ line.old.items ++ spec.cause_part cause) }
+{
+    let Some(cause) = cause else {
+        return Ok(());
+    };
+    line.extend_from_slice(b": ")?;
+    line.extend_from_slice(cause.name().as_bytes())
 }
 
 fn push_plain_report(line: &mut Vec<u8>, second: u64, lost: u64) -> Result<(), AllocError>

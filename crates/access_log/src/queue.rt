@@ -7,9 +7,15 @@ use crate::line::report_of;
 use std::alloc::{AllocError, Global};
 use std::marker::Model;
 
+// A write is due as soon as so many bytes wait,
+const CHUNK: usize = 4_096;
+
+// or so many milliseconds after the last one began.
+const PAUSE_MILLIS: u64 = 10;
+
 /// Lines that wait until somebody writes them, as many as there is room for: whoever has a line leaves it here, and
-/// writes what waits only where nobody else does. What there is no room for is lost, and the next line that is kept
-/// comes behind one that says how many were.
+/// writes what waits only where nobody else does and a write is due. What there is no room for is lost, and the next line
+/// that is kept comes behind one that says how many were.
 ///
 /// Our profile.
 #[derive(Drop)]
@@ -22,6 +28,8 @@ pub struct LineQueue {
     lost: u64,
     lost_in_all: u64,
     is_written: bool,
+    // The millisecond in which the last write began.
+    begun_at: u64,
 }
 
 impl Model for LineQueue {
@@ -30,13 +38,13 @@ impl Model for LineQueue {
 
     ghost Value = { Queued };
 
-    ghost view = { λ q. record { waiting = drop q.start q.bytes.items; most = q.most; lost = q.lost; lost_in_all = q.lost_in_all; is_written = q.is_written } };
+    ghost view = { λ q. record { waiting = drop q.start q.bytes.items; most = q.most; lost = q.lost; lost_in_all = q.lost_in_all; is_written = q.is_written; begun_at = q.begun_at } };
 
     ghost invariant = { λ q. q.start ≤ vec_len q.bytes };
 }
 
 impl LineQueue {
-    ghost use Rattle.access_log.specs.Queue.{Tells, begun, empty, fits, kept, lost_one, stopped, taken};
+    ghost use Rattle.access_log.specs.Queue.{Tells, begun, begun_at, empty, fits, is_due, kept, lost_one, may_begin, stopped, taken};
 
     /// A queue in which this many bytes may wait. Takes no memory.
     pub fn new(alloc: Global, most: usize) -> LineQueue
@@ -49,6 +57,7 @@ impl LineQueue {
             lost: 0,
             lost_in_all: 0,
             is_written: false,
+            begun_at: 0,
         }
     }
 
@@ -116,8 +125,32 @@ impl LineQueue {
         }
     }
 
-    /// Whether the caller is to write what waits, since nobody does: then nobody else is told so until it has stopped.
-    pub fn begin(&mut self) -> bool
+    /// Whether the caller is to write what waits, at this millisecond of a clock: nobody does, and 4,096 bytes or more
+    /// wait, or the last write that was begun so began ten milliseconds ago or earlier. Then nobody else is told so until
+    /// it has stopped. What isn't written now waits for a later line, or for `begin_now`; so does what waits while the
+    /// clock has gone back.
+    pub fn begin(&mut self, now: u64) -> bool
+        ensures due { result ≡ may_begin now self.old }
+        ensures begun { self.new ≡ (if may_begin now self.old then begun_at now self.old else self.old) }
+    {
+        if self.is_written || !self.is_due(now) {
+            return false;
+        }
+        self.is_written = true;
+        self.begun_at = now;
+        true
+    }
+
+    // Whether a write is worth its calls.
+    fn is_due(&self, now: u64) -> bool
+        ensures { result ≡ is_due now self.now }
+    {
+        let waiting = self.bytes.len() - self.start;
+        waiting >= CHUNK || now.saturating_sub(self.begun_at) >= PAUSE_MILLIS
+    }
+
+    /// The same at any time, however few bytes wait. No later `begin` counts from it.
+    pub fn begin_now(&mut self) -> bool
         ensures free { result ≡ not self.old.is_written }
         ensures begun { self.new ≡ begun self.old }
     {

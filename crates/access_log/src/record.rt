@@ -4,6 +4,7 @@ ghost use Rattle.std.specs.Prelude.{◌≡◌};
 ghost use Rattle.access_log.specs.Faults.{name_of};
 
 use edge_types::PageFault;
+use fetch_outcomes::FetchFault;
 use std::net::IpAddr;
 
 /// The version of HTTP in which a request came.
@@ -69,6 +70,8 @@ pub struct Fault {
     pub url: Vec<u8>,
     /// Where the template at this URL has its fault, if it has one.
     pub place: Option<Place>,
+    /// Why the fetch of this URL got no answer, if it got none and that is known.
+    pub cause: Option<FetchFault>,
 }
 
 /// A request, and how it was answered. A text for which there is no memory is empty.

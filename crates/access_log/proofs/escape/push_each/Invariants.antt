@@ -1,6 +1,6 @@
 use Rattle.std.proofs.Common.{◌≡◌, ◌++◌, take}
 use Rattle.access_log.specs.Escapes.{escaped}
-use Rattle.access_log.proofs.escape.push_escaped.Given as goal
+use Rattle.access_log.proofs.escape.push_each.Given as goal
 
 abbrev pub invariant-loop-byte : goal.invariant-loop-byte
 invariant-loop-byte l = l.line.items ≡ l.initial.line.items ++ escaped l.prefix (take l.byte-index l.text)
