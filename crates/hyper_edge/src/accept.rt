@@ -51,6 +51,15 @@ pub trait Accept<R> {
         false
     }
 
+    /// Whether what is under way is to be cut short. Asked several times a second, once the server is to stop. By default
+    /// it isn't.
+    fn is_to_cut(&self, _rt: &R) -> bool {
+        false
+    }
+
+    /// From now on each read and write of a stream fails. By default none does because of it.
+    fn cut(&self) {}
+
     /// Ends each accept that waits; it fails then, and so does each later one.
     fn end(&self, rt: &R);
 }

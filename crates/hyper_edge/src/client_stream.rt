@@ -26,9 +26,29 @@ const LINGERS_SECONDS: u64 = 1;
 
 const LINGERS_READS: usize = 16;
 
+/// What the streams of one listener share.
+#[derive(Drop)]
+pub(crate) struct Shared {
+    /// Whether there are threads to spare, so that a read or write may block for a moment.
+    pub may_wait: AtomicBool,
+    /// Whether each read and write fails.
+    pub is_cut: AtomicBool,
+}
+
+impl Shared {
+    /// There are threads to spare, and nothing is cut.
+    pub(crate) fn new() -> Shared {
+        Shared {
+            may_wait: AtomicBool::new(true),
+            is_cut: AtomicBool::new(false),
+        }
+    }
+}
+
 /// A connection to a client. A read or write that can't be done now blocks for a moment, as long as there is a
 /// thread to spare and the client hasn't let the connection wait before; else the stream tells what it waits for, by
-/// its signals. Past the limits of its exchange, where that has some, each read and write fails.
+/// its signals. Past the limits of its exchange, where that has some, each read and write fails; so does each once the
+/// streams of the listener are cut.
 #[derive(Drop)]
 pub struct ClientStream<R> {
     socket: TcpStream,
@@ -38,8 +58,7 @@ pub struct ClientStream<R> {
     exchange: Exchange,
     // Whether the client has let no read or write wait so far, so that one may block.
     is_prompt: bool,
-    // Whether there are threads to spare.
-    may_wait: Arc<AtomicBool>,
+    shared: Arc<Shared>,
     signals: Arc<Signals>,
 }
 
@@ -51,9 +70,9 @@ impl<R: Clock + Drop> ClientStream<R> {
         client: IpAddr,
         rt: R,
         limits: Limits,
-        may_wait: Arc<AtomicBool>,
+        shared: Arc<Shared>,
     ) -> io::Result<ClientStream<R>> {
-        let is_prompt = may_wait.load(Ordering::SeqCst);
+        let is_prompt = shared.may_wait.load(Ordering::SeqCst);
         if is_prompt {
             socket.set_read_timeout(Some(Duration::from_millis(PATIENCE_MILLIS)))?;
         } else {
@@ -68,7 +87,7 @@ impl<R: Clock + Drop> ClientStream<R> {
             limits,
             exchange,
             is_prompt,
-            may_wait,
+            shared,
             signals: Arc::new(alloc, signals)?,
         })
     }
@@ -87,8 +106,18 @@ impl<R: Clock + Drop> ClientStream<R> {
         self.limits.idle.is_some()
     }
 
-    // Has whoever serves the connection wait until its socket is ready. Refused if the client's time is over.
+    // Refused once the streams of the listener are cut.
+    fn uncut(&self) -> io::Result<()> {
+        if self.shared.is_cut.load(Ordering::SeqCst) {
+            return Err(ErrorKind::ConnectionAborted.into());
+        }
+        Ok(())
+    }
+
+    // Has whoever serves the connection wait until its socket is ready. Refused if the client's time is over, or the
+    // streams were cut meanwhile.
     fn waits(&mut self, readiness: Readiness) -> io::Result<()> {
+        self.uncut()?;
         self.exchange.in_time(&self.rt)?;
         self.blocks_no_more()?;
         if self.exchange.stage == Stage::Kept {
@@ -118,9 +147,10 @@ impl<R: Clock + Drop> ClientStream<R> {
     fn read(&mut self, buf: &mut [u8]) -> io::Result<usize>
         ensures { ReadsAtMost result buf.new }
     {
+        self.uncut()?;
         match self.exchange.stage {
             Stage::Accepted | Stage::Kept | Stage::Idle => {
-                if !self.may_wait.load(Ordering::SeqCst) {
+                if !self.shared.may_wait.load(Ordering::SeqCst) {
                     self.blocks_no_more()?;
                 }
             }
@@ -148,6 +178,7 @@ impl<R: Clock + Drop> ClientStream<R> {
     fn write(&mut self, buf: &[u8]) -> io::Result<usize>
         ensures { WritesAtMost result buf.now }
     {
+        self.uncut()?;
         if self.is_answering() {
             self.exchange.in_time(&self.rt)?;
         } else {
@@ -175,6 +206,7 @@ impl<R: Clock + Drop> ClientStream<R> {
     // Ends the output. What a client sends that is never read would have the system reset the connection, and
     // drop what is still on its way to the client; so after a long response it is read away for a moment.
     fn shut_down(&mut self) -> io::Result<()> {
+        self.uncut()?;
         if self.exchange.stage != Stage::Lingering {
             self.socket.shutdown(Shutdown::Write)?;
             let limit = Duration::from_secs(LINGERS_SECONDS);
@@ -215,7 +247,7 @@ impl<R: Clock + Drop> ClientStream<R> {
     // Whether a further request is waited for without a look whether it has come, so that each connection gets its turn
     // at a thread.
     fn gives_way(&self) -> bool {
-        let may_block = self.is_prompt && self.may_wait.load(Ordering::SeqCst);
+        let may_block = self.is_prompt && self.shared.may_wait.load(Ordering::SeqCst);
         self.exchange.stage == Stage::Kept && !may_block
     }
 }

@@ -1,12 +1,14 @@
 //! Why a request wasn't answered with a page as it should be, for who reads the log.
 
-ghost use Rattle.std.specs.Prelude.{◌≡◌, option_map};
+ghost use Rattle.std.specs.Prelude.{◌≡◌, option_map, IfSome};
+ghost use Rattle.edge_types.specs.declared.answer.Reply.TheVariants.{Failed};
 ghost use Rattle.hyper_edge.specs.Records.{reason_of, status_of};
 
-use crate::journal::copy;
+use crate::journal::{Journal, copy};
 use crate::responding::Responded;
 use access_log::{Fault, Place, Reason};
 use edge_types::{Answer, Outcome, PageFault, Reply};
+use fetch_outcomes::FetchFault;
 use std::alloc::Global;
 use std::sync::Arc;
 use template_check::check;
@@ -34,8 +36,14 @@ pub(crate) fn reason_of(status: Result<u16, PageFault>, sent: u16) -> Option<Rea
     }
 }
 
-/// The reason of a response, with what it is about. What there is no memory for is left out.
-pub(crate) fn fault_of(alloc: Global, responded: &Responded) -> Option<Fault>
+/// The reason of a response, with what it is about, and the cause that the journal knows. What there is no memory for is
+/// left out.
+pub(crate) fn fault_of<R, J: Journal<R>>(
+    rt: &R,
+    journal: &J,
+    alloc: Global,
+    responded: &Responded,
+) -> Option<Fault>
     ensures { option_map (λ fault. fault.reason) result ≡ responded.now.reason }
 {
     let reason = responded.reason?;
@@ -43,12 +51,24 @@ pub(crate) fn fault_of(alloc: Global, responded: &Responded) -> Option<Fault>
         reason,
         url: Vec::new(alloc),
         place: None,
+        cause: None,
     };
     if let Some(answer) = about(alloc, reason, responded) {
         fault.url = copy(alloc, answer.url().as_bytes());
         fault.place = place_in(alloc, answer);
+        fault.cause = cause_of(rt, journal, answer);
     }
     Some(fault)
+}
+
+// Why the fetch of an answer has failed, where it has and the journal knows.
+fn cause_of<R, J: Journal<R>>(rt: &R, journal: &J, answer: &Answer) -> Option<FetchFault>
+    ensures { IfSome result (λ _. answer.now.reply ≡ Failed) }
+{
+    match answer.reply() {
+        Reply::Failed => journal.cause_of(rt, answer.url()),
+        Reply::Got { .. } => None,
+    }
 }
 
 // The answer that a reason is about: a fragment that failed, or the page's own.

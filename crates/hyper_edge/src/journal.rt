@@ -11,6 +11,8 @@ ghost use Rattle.hyper_edge.specs.Records.{IsCopyOrEmpty};
 use crate::faults::fault_of;
 use crate::responding::Responded;
 use access_log::{RequestRecord, Version};
+use edge_types::PageUrl;
+use fetch_outcomes::FetchFault;
 use http::Request;
 use http::header::{HeaderName, REFERER, USER_AGENT};
 use http_body::Body;
@@ -37,6 +39,22 @@ pub trait Journal<R> {
 
     /// An accept has failed, and not because the server was stopped; of several at the same time one counts.
     fn accept_failed(&self) {}
+
+    /// A connection was parked: it waits for its client, and no thread holds it any longer.
+    fn parked(&self) {}
+
+    /// A connection that was parked isn't any longer: it is gone on with, or ended. Never told before `parked` of the
+    /// same connection.
+    fn unparked(&self) {}
+
+    /// A moment has passed. Told some ten times a second, or more often, by one thread, which waits for nothing
+    /// meanwhile.
+    fn tick(&self, _rt: &R) {}
+
+    /// Why the last fetch of this URL got no answer, where the journal knows. By default it doesn't.
+    fn cause_of(&self, _rt: &R, _url: &PageUrl) -> Option<FetchFault> {
+        None
+    }
 }
 
 /// No journal. It costs nothing.
@@ -59,8 +77,10 @@ pub(crate) struct Unreported {
 }
 
 impl Unreported {
-    /// A request of this client whose head had come at `begun`.
-    pub(crate) fn new<B>(
+    /// A request of this client whose head had come at `begun`. Why a fetch failed is asked of the journal.
+    pub(crate) fn new<R, J: Journal<R>, B>(
+        rt: &R,
+        journal: &J,
         alloc: Global,
         begun: Instant,
         client: Option<IpAddr>,
@@ -69,7 +89,7 @@ impl Unreported {
     ) -> Unreported {
         Unreported {
             begun,
-            record: record_of(alloc, client, request, responded),
+            record: record_of(rt, journal, alloc, client, request, responded),
         }
     }
 
@@ -84,7 +104,9 @@ impl Unreported {
 }
 
 // The record of how a request was answered, as long as it hasn't been reported.
-fn record_of<B>(
+fn record_of<R, J: Journal<R>, B>(
+    rt: &R,
+    journal: &J,
     alloc: Global,
     client: Option<IpAddr>,
     request: &Request<B>,
@@ -110,7 +132,7 @@ fn record_of<B>(
         micros: 0,
         referer: field_of(alloc, request, REFERER),
         agent: field_of(alloc, request, USER_AGENT),
-        fault: fault_of(alloc, responded),
+        fault: fault_of(rt, journal, alloc, responded),
     }
 }
 

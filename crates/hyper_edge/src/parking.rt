@@ -7,6 +7,7 @@ use crate::signals::Pause;
 use slab::Slab;
 use std::alloc::Global;
 use std::collections::BTreeSet;
+use std::mem;
 use std::sync::{Mutex, Wait};
 use std::time::Instant;
 
@@ -61,6 +62,17 @@ impl<T: Drop> ParkingPlace<T> {
     pub(crate) fn take_idle(&self, rt: &impl Wait) -> Option<T> {
         self.lot.lock(rt).take_idle()
     }
+
+    /// Each connection that waits; none waits any longer.
+    pub(crate) fn take_all(&self, rt: &impl Wait, alloc: Global) -> Slab<Parked<T>> {
+        let mut lot = self.lot.lock(rt);
+        let Lot {
+            parked,
+            limits: _,
+            idle: _,
+        } = mem::replace(&mut *lot, Lot::new(alloc));
+        parked
+    }
 }
 
 // The connections that wait, by their keys.
@@ -72,9 +84,11 @@ struct Lot<T> {
     idle: BTreeSet<(Instant, usize)>,
 }
 
+/// A connection that waits.
 #[derive(Drop)]
-struct Parked<T> {
-    session: T,
+pub(crate) struct Parked<T> {
+    pub session: T,
+    // When the time of its client is over.
     until: Option<Instant>,
 }
 

@@ -54,14 +54,27 @@ where
         self.roster.end()
     }
 
-    /// Stops the server if that is asked for: nobody accepts any longer, and connections that are idle are ended.
-    pub(crate) fn look_for_stop(&self) {
+    /// What one thread does again and again: it tells the journal that a moment has passed, and stops the server if that
+    /// is asked for.
+    pub(crate) fn tick(&self) {
+        self.serving.journal.tick(self.serving.rt);
+        self.look_for_stop();
+    }
+
+    // Stops the server if that is asked for: nobody accepts any longer, and connections that are idle are ended. Where
+    // what is under way is to be cut short, so is each other connection that is parked; one that a thread serves ends at
+    // its next read or write, and until then what is assembled for it goes on.
+    fn look_for_stop(&self) {
         let rt = self.serving.rt;
         if !self.acceptor.is_to_stop(rt) {
             return;
         }
         if self.roster.stop(rt) {
             self.acceptor.end(rt);
+        }
+        if self.acceptor.is_to_cut(rt) {
+            self.acceptor.cut();
+            self.end_parked();
         }
         for _ in rt.forever() {
             if !self.end_idle() {
@@ -107,7 +120,7 @@ where
         let rt = self.serving.rt;
         let mut executor = None;
         for _ in rt.forever() {
-            self.look_for_stop();
+            self.tick();
             if !self.roster.is_empty(rt) {
                 self.resume(&mut executor);
             } else if self.roster.may_accept(rt) == Admission::Accepts {
@@ -175,11 +188,15 @@ where
     fn next(&self) -> Option<Session<F>> {
         let rt = self.serving.rt;
         let now = Instant::now(rt).ok()?;
-        if let Some(late) = self.parked.take_late(rt, now) {
-            return Some(late);
-        }
-        let key = self.acceptor.ready(rt)?;
-        self.parked.take(rt, key)
+        let session = match self.parked.take_late(rt, now) {
+            Some(late) => late,
+            None => {
+                let key = self.acceptor.ready(rt)?;
+                self.parked.take(rt, key)?
+            }
+        };
+        self.serving.journal.unparked();
+        Some(session)
     }
 
     // Serves a connection until it has ended or is parked. Without room for that, it ends.
@@ -193,9 +210,14 @@ where
             None => None,
         };
         let is_parked = match waits {
-            Some((session, pause)) => self
-                .parked
-                .park(rt, session, pause, |key| self.acceptor.watch(key, &pause)),
+            // The journal is told before another thread can take the connection out.
+            Some((session, pause)) => self.parked.park(rt, session, pause, |key| {
+                let is_watched = self.acceptor.watch(key, &pause);
+                if is_watched {
+                    self.serving.journal.parked();
+                }
+                is_watched
+            }),
             None => false,
         };
         if is_parked {
@@ -224,8 +246,22 @@ where
         let Some(idle) = self.parked.take_idle(rt) else {
             return false;
         };
-        drop(idle);
-        self.ended();
+        self.end_one(idle);
         true
+    }
+
+    // Ends each connection that is parked.
+    fn end_parked(&self) {
+        let rt = self.serving.rt;
+        for (_, parked) in self.parked.take_all(rt, rt.alloc()) {
+            self.end_one(parked.session);
+        }
+    }
+
+    // Ends a connection that was parked.
+    fn end_one(&self, session: Session<F>) {
+        self.serving.journal.unparked();
+        self.serving.end(session);
+        self.ended();
     }
 }

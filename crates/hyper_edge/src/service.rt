@@ -1,6 +1,9 @@
 //! What answers the requests of a connection.
 
-ghost use Rattle.std.specs.Prelude.{◌≡◌, [], false, map, length, IfOk, MatchOption};
+ghost use Rattle.std.specs.Prelude.{◌≡◌, ◌↔◌, [], false, true, map, length, Some, IfOk, IsErrOf, IsSomeAnd, MatchOption};
+ghost use Rattle.http_header.specs.FieldName.{IsFieldName};
+ghost use Rattle.http_header.specs.Token.{lowercase};
+ghost use Rattle.http_header.specs.declared.name.HeaderNameError.TheVariants as header_name_error;
 ghost use Rattle.page_http.specs.Passed.{passed_edges};
 ghost use Rattle.hyper_edge.specs.Circles.{is_circle};
 ghost use Rattle.hyper_edge.specs.Lines.{line, lines_of};
@@ -83,7 +86,9 @@ impl<S: Drop, R: Drop> EdgeService<S, R> {
     /// The same, and HEAD is answered like GET, without the body.
     ///
     /// Source: RFC 9110, "HEAD".
-    pub fn answering_head(mut self) -> EdgeService<S, R> {
+    pub fn answering_head(mut self) -> EdgeService<S, R>
+        ensures { result ≡ record self { answers_head = true } }
+    {
         self.answers_head = true;
         self
     }
@@ -93,7 +98,9 @@ impl<S: Drop, R: Drop> EdgeService<S, R> {
     /// client whose connection was reset ends its page like it.
     ///
     /// Our profile.
-    pub fn limited_to(mut self, limit: Option<Duration>) -> EdgeService<S, R> {
+    pub fn limited_to(mut self, limit: Option<Duration>) -> EdgeService<S, R>
+        ensures { result ≡ record self { limit = limit } }
+    {
         self.limit = limit;
         self
     }
@@ -102,7 +109,9 @@ impl<S: Drop, R: Drop> EdgeService<S, R> {
     /// its page, as past a limit. So one that ends its input behind its request gets only what needs no fetch.
     ///
     /// Our profile.
-    pub fn aborting_on_close(mut self) -> EdgeService<S, R> {
+    pub fn aborting_on_close(mut self) -> EdgeService<S, R>
+        ensures { result ≡ record self { aborts_on_close = true } }
+    {
         self.aborts_on_close = true;
         self
     }
@@ -112,7 +121,9 @@ impl<S: Drop, R: Drop> EdgeService<S, R> {
     /// behalf of these edges, so that a circle of several ends as soon as it is closed.
     ///
     /// Source: RFC 8586, "The CDN-Loop Request Header Field".
-    pub fn named(mut self, name: Vec<u8>) -> EdgeService<S, R> {
+    pub fn named(mut self, name: Vec<u8>) -> EdgeService<S, R>
+        ensures { result ≡ record self { name = Some name } }
+    {
         self.name = Some(name);
         self
     }
@@ -122,7 +133,10 @@ impl<S: Drop, R: Drop> EdgeService<S, R> {
     /// proxies may reach the server. Refused if it isn't the name of a field, or an allocation fails.
     ///
     /// Source: our profile, of the field `x-forwarded-for` as nginx and HAProxy write it.
-    pub fn forwarded_by(mut self, field: &[u8]) -> Result<EdgeService<S, R>, HeaderNameError> {
+    pub fn forwarded_by(mut self, field: &[u8]) -> Result<EdgeService<S, R>, HeaderNameError>
+        ensures ok { IfOk result (λ service. IsSomeAnd service.forwarded (λ name. (name ≡ lowercase field.now) × (service ≡ record self { forwarded = Some name }))) }
+        ensures invalid { IsErrOf result header_name_error.Invalid ↔ ¬ (IsFieldName field.now) }
+    {
         self.forwarded = Some(HeaderName::from_bytes(self.alloc, field)?);
         Ok(self)
     }

@@ -149,6 +149,20 @@ where
         unreachable!()
     }
 
+    /// Ends a connection that was given back, and reports what is to be reported of it.
+    pub(crate) fn end<F>(&self, session: Session<F>)
+    where
+        F: Future<Output = hyper::Result<()>>,
+    {
+        let Session {
+            connection,
+            client: _,
+            mut unreported,
+        } = session;
+        drop(connection);
+        self.report(&mut unreported);
+    }
+
     // The response to a request. Over a connection that is kept it says that it is the last one, where something of the
     // request's body is left, which nobody reads.
     fn answered(
@@ -168,7 +182,15 @@ where
         if let Some(begun) = begun {
             let alloc = self.service.alloc();
             let client = self.service.client_of(&asked.head, client);
-            let left = Unreported::new(alloc, begun, client, &asked.head, &responded);
+            let left = Unreported::new(
+                self.rt,
+                self.journal,
+                alloc,
+                begun,
+                client,
+                &asked.head,
+                &responded,
+            );
             let _ = unreported.push(left);
         }
         let mut response = responded.response;

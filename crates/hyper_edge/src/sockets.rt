@@ -1,7 +1,7 @@
 //! The sockets of a listener.
 
 use crate::accept::Accept;
-use crate::client_stream::{ClientStream, PATIENCE_MILLIS};
+use crate::client_stream::{ClientStream, PATIENCE_MILLIS, Shared};
 use crate::exchange::Limits;
 use crate::signals::{Pause, Readiness, Signals};
 use libc::net::{
@@ -13,7 +13,7 @@ use std::alloc::AllocGlobal;
 use std::net::{IpAddr, Net, Shutdown, TcpListener, TcpStream};
 use std::os::fd::{AsRawFd, OwnedFd};
 use std::sync::Arc;
-use std::sync::atomic::{AtomicBool, Ordering};
+use std::sync::atomic::Ordering;
 use std::time::{Clock, Duration};
 use std::{io, thread};
 
@@ -27,6 +27,12 @@ const QUEUE: i32 = 1_024;
 pub trait StopSign<R> {
     /// Whether it is to stop. Asked several times a second by one thread, which waits for nothing meanwhile.
     fn is_given(&self, rt: &R) -> bool;
+
+    /// Whether what is under way is to be cut short. Asked in the same way, once the server is to stop. By default it
+    /// isn't.
+    fn cuts(&self, _rt: &R) -> bool {
+        false
+    }
 }
 
 /// Sockets of a listener, with limits of time.
@@ -36,7 +42,7 @@ pub struct Sockets<Q> {
     // A second handle to the listener's socket.
     same: TcpStream,
     limits: Limits,
-    may_wait: Arc<AtomicBool>,
+    shared: Arc<Shared>,
     // The sockets that are watched. Several threads wait in it at once, which its own call doesn't allow.
     watched: Poll,
     stop: Q,
@@ -62,7 +68,7 @@ impl<Q: Drop> Sockets<Q> {
             listener,
             same,
             limits,
-            may_wait: Arc::new(rt.alloc(), AtomicBool::new(true))?,
+            shared: Arc::new(rt.alloc(), Shared::new())?,
             watched: Poll::new(rt)?,
             stop,
         })
@@ -92,8 +98,8 @@ where
     fn accept(&self, rt: &R) -> Option<ClientStream<R>> {
         let (socket, address) = self.listener.accept().ok()?;
         let rt = rt.clone().ok()?;
-        let may_wait = self.may_wait.clone().ok()?;
-        ClientStream::new(rt.alloc(), socket, address.ip(), rt, self.limits, may_wait).ok()
+        let shared = self.shared.clone().ok()?;
+        ClientStream::new(rt.alloc(), socket, address.ip(), rt, self.limits, shared).ok()
     }
 
     fn rest(&self, rt: &R, pause: Duration) {
@@ -113,7 +119,7 @@ where
     }
 
     fn set_may_wait(&self, may_wait: bool) {
-        self.may_wait.store(may_wait, Ordering::SeqCst);
+        self.shared.may_wait.store(may_wait, Ordering::SeqCst);
     }
 
     // A socket that was watched before is known already.
@@ -131,6 +137,14 @@ where
 
     fn is_to_stop(&self, rt: &R) -> bool {
         self.stop.is_given(rt)
+    }
+
+    fn is_to_cut(&self, rt: &R) -> bool {
+        self.stop.cuts(rt)
+    }
+
+    fn cut(&self) {
+        self.shared.is_cut.store(true, Ordering::SeqCst);
     }
 
     fn end(&self, _rt: &R) {

@@ -34,7 +34,9 @@ use tokio::io::{AsyncRead, AsyncWrite};
 /// to a second, twice as long each time; sixteen in succession end the server.
 ///
 /// Where the acceptor says that the server is to stop, nobody accepts any longer, connections that are idle are ended,
-/// and what is under way goes on to its end.
+/// and what is under way goes on to its end. Once it says that this is to be cut short, each read and write of a
+/// connection fails, and what is parked is ended, so within a few tenths of a second; but a page that is being assembled
+/// goes on until it is done, or its own limits end it.
 ///
 /// Where the acceptor keeps connections, each serves one request after another.
 ///
@@ -120,7 +122,7 @@ where
                 let work = match server.roster.wait_for_wanted(rt) {
                     Wanted::Thread(work) => work,
                     Wanted::Nothing => {
-                        server.look_for_stop();
+                        server.tick();
                         continue;
                     }
                     Wanted::Nobody => return false,
