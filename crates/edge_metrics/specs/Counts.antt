@@ -1,5 +1,5 @@
 -- What a server counts of the requests that it has answered.
-use Rattle.std.specs.Prelude.{ℕ, ◌+◌, ◌-◌, ◌^◌, min, Bool, ◌&&◌, nat_le, nat_lt, if◌then◌else◌}
+use Rattle.std.specs.Prelude.{ℕ, ◌+◌, ◌-◌, ◌^◌, min, max, Bool, ◌&&◌, nat_le, nat_lt, if◌then◌else◌}
 use Rattle.edge_metrics.specs.declared.counts.Counts.{Counts}
 use Rattle.edge_metrics.specs.declared.durations.Durations.{Durations}
 use Rattle.edge_metrics.specs.declared.statuses.Statuses.{Statuses}
@@ -72,7 +72,7 @@ sum_of_durations one other = record {
 -- ---- all of it
 
 abbrev pub nothing : Counts
-nothing = record { statuses = no_statuses; bytes = 0; durations = no_durations }
+nothing = record { statuses = no_statuses; bytes = 0; durations = no_durations; slowest = 0 }
 
 -- a request with this status and a body of so many bytes, which took so many microseconds
 abbrev pub counted : ℕ → ℕ → ℕ → Counts → Counts
@@ -80,7 +80,12 @@ counted status bytes micros counts = record {
   statuses = counted_status status counts.statuses;
   bytes = plus counts.bytes bytes;
   durations = counted_duration micros counts.durations;
+  slowest = max counts.slowest micros;
 }
+
+-- where the slowest one is sought anew
+abbrev pub anew : Counts → Counts
+anew counts = record counts { slowest = 0 }
 
 -- what two have counted together
 abbrev pub sum : Counts → Counts → Counts
@@ -88,4 +93,5 @@ sum one other = record {
   statuses = sum_of_statuses one.statuses other.statuses;
   bytes = plus one.bytes other.bytes;
   durations = sum_of_durations one.durations other.durations;
+  slowest = max one.slowest other.slowest;
 }

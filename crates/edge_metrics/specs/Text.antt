@@ -1,11 +1,18 @@
 -- The text in which a monitoring system reads what a server counts (Prometheus, "Exposition formats", "Text-based format",
 -- version 0.0.4).
 use Rattle.std.specs.Prelude.{ℕ, List, [], ◌++◌, codes, decimal, Option, Some, None}
+use Rattle.std.specs.List.{flat_map}
 use Rattle.edge_metrics.specs.declared.cache_counts.CacheCounts.{CacheCounts}
 use Rattle.edge_metrics.specs.declared.durations.Durations.{Durations}
 use Rattle.edge_metrics.specs.declared.connection_counts.ConnectionCounts.{ConnectionCounts}
 use Rattle.edge_metrics.specs.declared.measured.Measured.{Measured}
+use Rattle.edge_metrics.specs.declared.origin_counts.OriginCounts.{OriginCounts}
 use Rattle.edge_metrics.specs.declared.statuses.Statuses.{Statuses}
+use Rattle.edge_metrics.specs.Labels.{escaped}
+use Rattle.fetch_outcomes.specs.declared.fetch_fault.FetchFault.{FetchFault}
+use Rattle.fetch_outcomes.specs.declared.fetch_fault.FetchFault.TheVariants as fault
+use Rattle.fetch_outcomes.specs.declared.fetch_tally.FetchTally.{FetchTally}
+use Rattle.fetch_outcomes.specs.Names.{name_of}
 
 -- the line that says what a metric means, and the one that says of which kind it is
 abbrev pub help_line : List ℕ → List ℕ → List ℕ
@@ -78,6 +85,18 @@ open_connections count =
     head (codes "esi_edge_connections") (codes "Open connections.") (codes "gauge")
     ++ sample (codes "esi_edge_connections") count
 
+unfoldable pub parked_head : List ℕ
+parked_head = head (codes "esi_edge_connections_parked") (codes "Open connections that no thread holds.") (codes "gauge")
+
+unfoldable pub parked_connections : ℕ → List ℕ
+parked_connections count = parked_head ++ sample (codes "esi_edge_connections_parked") count
+
+unfoldable pub serving_head : List ℕ
+serving_head = head (codes "esi_edge_connections_serving") (codes "Open connections that a thread holds.") (codes "gauge")
+
+unfoldable pub serving_connections : ℕ → List ℕ
+serving_connections count = serving_head ++ sample (codes "esi_edge_connections_serving") count
+
 unfoldable pub accepted_head : List ℕ
 accepted_head = head (codes "esi_edge_connections_accepted_total") (codes "Accepted connections.") (codes "counter")
 
@@ -90,7 +109,9 @@ failed_accepts count =
     ++ sample (codes "esi_edge_accepts_failed_total") count
 
 unfoldable pub connections : ConnectionCounts → List ℕ
-connections counts = open_connections counts.open ++ accepted_connections counts.accepted ++ failed_accepts counts.failed_accepts
+connections counts =
+    open_connections counts.open ++ parked_connections counts.parked ++ serving_connections counts.serving
+    ++ accepted_connections counts.accepted ++ failed_accepts counts.failed_accepts
 
 -- ---- the cache
 
@@ -98,6 +119,18 @@ unfoldable pub kept_answers : ℕ → List ℕ
 kept_answers count =
     head (codes "esi_edge_cache_answers") (codes "Answers that are kept.") (codes "gauge")
     ++ sample (codes "esi_edge_cache_answers") count
+
+unfoldable pub kept_bytes_head : List ℕ
+kept_bytes_head = head (codes "esi_edge_cache_bytes") (codes "Bytes of the bodies of kept answers.") (codes "gauge")
+
+unfoldable pub kept_bytes : ℕ → List ℕ
+kept_bytes bytes = kept_bytes_head ++ sample (codes "esi_edge_cache_bytes") bytes
+
+unfoldable pub bridges_head : List ℕ
+bridges_head = head (codes "esi_edge_cache_bridges_total") (codes "Answers in place of a failing fetch.") (codes "counter")
+
+unfoldable pub bridges : ℕ → List ℕ
+bridges count = bridges_head ++ sample (codes "esi_edge_cache_bridges_total") count
 
 unfoldable pub lookups_head : List ℕ
 lookups_head = head (codes "esi_edge_cache_lookups_total") (codes "Answers asked for, by how they came.") (codes "counter")
@@ -117,7 +150,54 @@ unfoldable pub lookups : CacheCounts → List ℕ
 lookups counts = lookups_head ++ unfetched counts ++ fetched counts
 
 unfoldable pub cache : CacheCounts → List ℕ
-cache counts = kept_answers counts.entries ++ lookups counts
+cache counts = kept_answers counts.entries ++ kept_bytes counts.bytes ++ lookups counts ++ bridges counts.bridges
+
+-- ---- fetches
+
+unfoldable pub fetches_head : List ℕ
+fetches_head = head (codes "esi_edge_fetches_total") (codes "Fetches from origins, by their end.") (codes "counter")
+
+-- those from one origin that had this end
+unfoldable pub ended : List ℕ → List ℕ → ℕ → List ℕ
+ended authority outcome count =
+    codes "esi_edge_fetches_total{origin=\"" ++ escaped authority ++ codes "\",outcome=\"" ++ outcome ++ sample (codes "\"}") count
+
+abbrev pub failed : List ℕ → FetchFault → ℕ → List ℕ
+failed authority why count = ended authority (name_of why) count
+
+-- those that were answered or never made, those of which no whole response came, and those whose response is no answer
+unfoldable pub unsent : List ℕ → FetchTally → List ℕ
+unsent authority counts =
+    ended authority (codes "answered") counts.answered
+    ++ failed authority fault.TooMany counts.too_many
+    ++ failed authority fault.AtRest counts.at_rest
+
+unfoldable pub unfinished : List ℕ → FetchTally → List ℕ
+unfinished authority counts =
+    failed authority fault.Connect counts.connect
+    ++ failed authority fault.Timeout counts.timeout
+    ++ failed authority fault.Cut counts.cut
+
+unfoldable pub refused : List ℕ → FetchTally → List ℕ
+refused authority counts =
+    failed authority fault.TooLong counts.too_long
+    ++ failed authority fault.Coded counts.coded
+    ++ failed authority fault.Status counts.status
+
+unfoldable pub from_origin : OriginCounts → List ℕ
+from_origin origin =
+    unsent origin.authority.items origin.fetches
+    ++ unfinished origin.authority.items origin.fetches
+    ++ refused origin.authority.items origin.fetches
+
+unfoldable pub fetches_by_origin : List OriginCounts → List ℕ
+fetches_by_origin origins = fetches_head ++ flat_map from_origin origins
+
+unfoldable pub without_origin_head : List ℕ
+without_origin_head = head (codes "esi_edge_fetches_without_origin_total") (codes "Fetches for which there is no origin.") (codes "counter")
+
+unfoldable pub without_origin : ℕ → List ℕ
+without_origin count = without_origin_head ++ sample (codes "esi_edge_fetches_without_origin_total") count
 
 -- ---- the process
 
@@ -138,7 +218,9 @@ resident (Some bytes) = resident_bytes bytes
 
 -- ---- all of it
 
-abbrev pub text : Measured → List ℕ
-text measured =
+abbrev pub text : Measured → List OriginCounts → List ℕ
+text measured origins =
     requests measured.requests.statuses ++ sent measured.requests.bytes ++ durations measured.requests.durations
-    ++ connections measured.connections ++ cache measured.cache ++ lost_lines measured.lost_lines ++ resident measured.resident
+    ++ connections measured.connections ++ cache measured.cache
+    ++ fetches_by_origin origins ++ without_origin measured.without_origin
+    ++ lost_lines measured.lost_lines ++ resident measured.resident

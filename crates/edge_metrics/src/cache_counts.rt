@@ -7,6 +7,8 @@
 pub struct CacheCounts {
     /// How many answers are kept.
     pub entries: u64,
+    /// How many bytes the bodies of those have.
+    pub bytes: u64,
     /// How many look-ups were answered from what is kept.
     pub hits: u64,
     /// How many waited for the fetch of another one.
@@ -15,4 +17,6 @@ pub struct CacheCounts {
     pub leads: u64,
     /// How many made a fetch for themselves.
     pub bypasses: u64,
+    /// How many answers were given in place of a fetch that failed.
+    pub bridges: u64,
 }

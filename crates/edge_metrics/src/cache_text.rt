@@ -12,7 +12,9 @@ pub(crate) fn push_cache(text: &mut Vec<u8>, counts: &CacheCounts) -> Result<(),
     ensures { OnOk result (text.new.items ≡ text.old.items ++ spec.cache counts.now) }
 {
     push_kept_answers(text, counts.entries)?;
-    push_lookups(text, counts)
+    push_kept_bytes(text, counts.bytes)?;
+    push_lookups(text, counts)?;
+    push_bridges(text, counts.bridges)
 }
 
 #[tactic(auto, unfolding(crate::specs::Text::kept_answers))]
@@ -26,6 +28,46 @@ fn push_kept_answers(text: &mut Vec<u8>, count: u64) -> Result<(), AllocError>
         b"gauge",
     )?;
     push_sample(text, b"esi_edge_cache_answers", count)
+}
+
+#[tactic(auto, unfolding(crate::specs::Text::kept_bytes))]
+fn push_kept_bytes(text: &mut Vec<u8>, bytes: u64) -> Result<(), AllocError>
+    ensures { OnOk result (text.new.items ≡ text.old.items ++ spec.kept_bytes bytes) }
+{
+    push_kept_bytes_head(text)?;
+    push_sample(text, b"esi_edge_cache_bytes", bytes)
+}
+
+#[tactic(auto, unfolding(crate::specs::Text::kept_bytes_head))]
+fn push_kept_bytes_head(text: &mut Vec<u8>) -> Result<(), AllocError>
+    ensures { OnOk result (text.new.items ≡ text.old.items ++ spec.kept_bytes_head) }
+{
+    push_head(
+        text,
+        b"esi_edge_cache_bytes",
+        b"Bytes of the bodies of kept answers.",
+        b"gauge",
+    )
+}
+
+#[tactic(auto, unfolding(crate::specs::Text::bridges))]
+fn push_bridges(text: &mut Vec<u8>, count: u64) -> Result<(), AllocError>
+    ensures { OnOk result (text.new.items ≡ text.old.items ++ spec.bridges count) }
+{
+    push_bridges_head(text)?;
+    push_sample(text, b"esi_edge_cache_bridges_total", count)
+}
+
+#[tactic(auto, unfolding(crate::specs::Text::bridges_head))]
+fn push_bridges_head(text: &mut Vec<u8>) -> Result<(), AllocError>
+    ensures { OnOk result (text.new.items ≡ text.old.items ++ spec.bridges_head) }
+{
+    push_head(
+        text,
+        b"esi_edge_cache_bridges_total",
+        b"Answers in place of a failing fetch.",
+        b"counter",
+    )
 }
 
 #[tactic(auto, unfolding(crate::specs::Text::lookups))]

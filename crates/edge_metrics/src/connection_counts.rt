@@ -7,6 +7,10 @@
 pub struct ConnectionCounts {
     /// How many were accepted and haven't ended.
     pub open: u64,
+    /// How many of those no thread holds, since their client is waited for.
+    pub parked: u64,
+    /// How many of those a thread holds.
+    pub serving: u64,
     /// How many were accepted.
     pub accepted: u64,
     /// How many accepts failed.

@@ -15,6 +15,8 @@ pub(crate) fn push_connections(
     ensures { OnOk result (text.new.items ≡ text.old.items ++ spec.connections counts.now) }
 {
     push_open(text, counts.open)?;
+    push_parked(text, counts.parked)?;
+    push_serving(text, counts.serving)?;
     push_accepted(text, counts.accepted)?;
     push_failed_accepts(text, counts.failed_accepts)
 }
@@ -30,6 +32,46 @@ fn push_open(text: &mut Vec<u8>, count: u64) -> Result<(), AllocError>
         b"gauge",
     )?;
     push_sample(text, b"esi_edge_connections", count)
+}
+
+#[tactic(auto, unfolding(crate::specs::Text::parked_connections))]
+fn push_parked(text: &mut Vec<u8>, count: u64) -> Result<(), AllocError>
+    ensures { OnOk result (text.new.items ≡ text.old.items ++ spec.parked_connections count) }
+{
+    push_parked_head(text)?;
+    push_sample(text, b"esi_edge_connections_parked", count)
+}
+
+#[tactic(auto, unfolding(crate::specs::Text::parked_head))]
+fn push_parked_head(text: &mut Vec<u8>) -> Result<(), AllocError>
+    ensures { OnOk result (text.new.items ≡ text.old.items ++ spec.parked_head) }
+{
+    push_head(
+        text,
+        b"esi_edge_connections_parked",
+        b"Open connections that no thread holds.",
+        b"gauge",
+    )
+}
+
+#[tactic(auto, unfolding(crate::specs::Text::serving_connections))]
+fn push_serving(text: &mut Vec<u8>, count: u64) -> Result<(), AllocError>
+    ensures { OnOk result (text.new.items ≡ text.old.items ++ spec.serving_connections count) }
+{
+    push_serving_head(text)?;
+    push_sample(text, b"esi_edge_connections_serving", count)
+}
+
+#[tactic(auto, unfolding(crate::specs::Text::serving_head))]
+fn push_serving_head(text: &mut Vec<u8>) -> Result<(), AllocError>
+    ensures { OnOk result (text.new.items ≡ text.old.items ++ spec.serving_head) }
+{
+    push_head(
+        text,
+        b"esi_edge_connections_serving",
+        b"Open connections that a thread holds.",
+        b"gauge",
+    )
 }
 
 #[tactic(auto, unfolding(crate::specs::Text::accepted_connections))]

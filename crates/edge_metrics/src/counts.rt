@@ -5,6 +5,7 @@ ghost use Rattle.edge_metrics.specs.Counts as spec;
 
 use crate::durations::Durations;
 use crate::statuses::Statuses;
+use std::mem;
 
 /// What was counted of the requests that were answered. No number wraps: one that is the largest stays.
 ///
@@ -17,6 +18,8 @@ pub struct Counts {
     pub bytes: u64,
     /// How long they took.
     pub durations: Durations,
+    /// How many microseconds the slowest took of those since that was last taken.
+    pub slowest: u64,
 }
 
 impl Counts {
@@ -28,6 +31,7 @@ impl Counts {
             statuses: Statuses::new(),
             bytes: 0,
             durations: Durations::new(),
+            slowest: 0,
         }
     }
 
@@ -39,6 +43,16 @@ impl Counts {
         self.statuses.count(status);
         self.bytes = self.bytes.saturating_add(bytes);
         self.durations.count(micros);
+        self.slowest = self.slowest.max(micros);
+    }
+
+    /// How many microseconds the slowest request took since this was last asked; 0 where there was none. The next slowest
+    /// is sought anew.
+    pub fn take_slowest(&mut self) -> u64
+        ensures result { result ≡ self.old.slowest }
+        ensures anew { self.new ≡ spec.anew self.old }
+    {
+        mem::take(&mut self.slowest)
     }
 
     /// What two have counted together.
@@ -49,6 +63,7 @@ impl Counts {
             statuses: self.statuses.plus(&other.statuses),
             bytes: self.bytes.saturating_add(other.bytes),
             durations: self.durations.plus(&other.durations),
+            slowest: self.slowest.max(other.slowest),
         }
     }
 }

@@ -1,17 +1,24 @@
-//! What a server counts of the requests that it has answered, of its connections and of its cache, and the text in which
-//! a monitoring system reads it.
+//! What a server counts of the requests that it has answered, of its connections, of its cache and of its fetches, the
+//! text in which a monitoring system reads it, and a page that shows the last minutes of it.
 #![tactic(auto)]
 
 mod cache_counts;
 mod cache_text;
+mod chart;
 mod connection_counts;
 mod connection_text;
 mod counts;
 mod durations;
+mod escape;
+mod fetch_text;
+mod history;
 mod lines;
 mod measured;
 mod memory;
+mod origin_counts;
+mod page;
 mod process_text;
+mod series;
 mod statuses;
 mod text;
 
@@ -19,10 +26,15 @@ pub use cache_counts::CacheCounts;
 pub use connection_counts::ConnectionCounts;
 pub use counts::Counts;
 pub use durations::Durations;
+pub use history::{History, Sample};
 pub use measured::Measured;
 pub use memory::resident_of;
+pub use origin_counts::OriginCounts;
+pub use page::page_of;
 pub use statuses::Statuses;
 pub use text::text_of;
 
+#[cfg(test)]
+mod page_tests;
 #[cfg(test)]
 mod tests;

@@ -15,6 +15,8 @@ pub struct Measured {
     pub connections: ConnectionCounts,
     /// What was counted of its cache.
     pub cache: CacheCounts,
+    /// How many fetches there were of URLs for whose authority there is no origin.
+    pub without_origin: u64,
     /// How many lines of its log were lost.
     pub lost_lines: u64,
     /// How many bytes of its memory are resident, where that is known.

@@ -1,6 +1,8 @@
 //! The text as a whole, with ample memory, and what the system writes of a process.
 
-use crate::{CacheCounts, ConnectionCounts, Counts, Measured, resident_of, text_of};
+use crate::{CacheCounts, ConnectionCounts, Counts, Measured, OriginCounts, resident_of, text_of};
+use fetch_outcomes::FetchTally;
+use std::alloc::Global;
 use std::process::Abort;
 use std::str;
 use std::test::Fail;
@@ -34,6 +36,12 @@ esi_edge_request_seconds_count 2
 const CONNECTIONS: &str = "# HELP esi_edge_connections Open connections.
 # TYPE esi_edge_connections gauge
 esi_edge_connections 3
+# HELP esi_edge_connections_parked Open connections that no thread holds.
+# TYPE esi_edge_connections_parked gauge
+esi_edge_connections_parked 2
+# HELP esi_edge_connections_serving Open connections that a thread holds.
+# TYPE esi_edge_connections_serving gauge
+esi_edge_connections_serving 1
 # HELP esi_edge_connections_accepted_total Accepted connections.
 # TYPE esi_edge_connections_accepted_total counter
 esi_edge_connections_accepted_total 21
@@ -42,16 +50,40 @@ esi_edge_connections_accepted_total 21
 esi_edge_accepts_failed_total 1
 ";
 
-const CACHE_AND_LOG: &str = "# HELP esi_edge_cache_answers Answers that are kept.
+const CACHE: &str = "# HELP esi_edge_cache_answers Answers that are kept.
 # TYPE esi_edge_cache_answers gauge
 esi_edge_cache_answers 7
+# HELP esi_edge_cache_bytes Bytes of the bodies of kept answers.
+# TYPE esi_edge_cache_bytes gauge
+esi_edge_cache_bytes 4096
 # HELP esi_edge_cache_lookups_total Answers asked for, by how they came.
 # TYPE esi_edge_cache_lookups_total counter
 esi_edge_cache_lookups_total{by=\"hit\"} 40
 esi_edge_cache_lookups_total{by=\"join\"} 5
 esi_edge_cache_lookups_total{by=\"lead\"} 9
 esi_edge_cache_lookups_total{by=\"bypass\"} 2
-# HELP esi_edge_log_lines_lost_total Lines of the log that were lost.
+# HELP esi_edge_cache_bridges_total Answers in place of a failing fetch.
+# TYPE esi_edge_cache_bridges_total counter
+esi_edge_cache_bridges_total 6
+";
+
+const FETCHES: &str = "# HELP esi_edge_fetches_total Fetches from origins, by their end.
+# TYPE esi_edge_fetches_total counter
+esi_edge_fetches_total{origin=\"www.example.com\",outcome=\"answered\"} 90
+esi_edge_fetches_total{origin=\"www.example.com\",outcome=\"too_many\"} 1
+esi_edge_fetches_total{origin=\"www.example.com\",outcome=\"at_rest\"} 2
+esi_edge_fetches_total{origin=\"www.example.com\",outcome=\"connect\"} 3
+esi_edge_fetches_total{origin=\"www.example.com\",outcome=\"timeout\"} 4
+esi_edge_fetches_total{origin=\"www.example.com\",outcome=\"cut\"} 5
+esi_edge_fetches_total{origin=\"www.example.com\",outcome=\"too_long\"} 6
+esi_edge_fetches_total{origin=\"www.example.com\",outcome=\"coded\"} 7
+esi_edge_fetches_total{origin=\"www.example.com\",outcome=\"status\"} 8
+# HELP esi_edge_fetches_without_origin_total Fetches for which there is no origin.
+# TYPE esi_edge_fetches_without_origin_total counter
+esi_edge_fetches_without_origin_total 4
+";
+
+const LOG: &str = "# HELP esi_edge_log_lines_lost_total Lines of the log that were lost.
 # TYPE esi_edge_log_lines_lost_total counter
 esi_edge_log_lines_lost_total 3
 ";
@@ -69,36 +101,60 @@ fn measured(resident: Option<u64>) -> Measured {
         requests,
         connections: ConnectionCounts {
             open: 3,
+            parked: 2,
+            serving: 1,
             accepted: 21,
             failed_accepts: 1,
         },
         cache: CacheCounts {
             entries: 7,
+            bytes: 4_096,
             hits: 40,
             joins: 5,
             leads: 9,
             bypasses: 2,
+            bridges: 6,
         },
+        without_origin: 4,
         lost_lines: 3,
         resident,
     }
 }
 
+fn one_origin(alloc: Global) -> Option<OriginCounts> {
+    Some(OriginCounts {
+        authority: Vec::from_slice(alloc, b"www.example.com").ok()?,
+        fetches: FetchTally {
+            answered: 90,
+            too_many: 1,
+            at_rest: 2,
+            connect: 3,
+            timeout: 4,
+            cut: 5,
+            too_long: 6,
+            coded: 7,
+            status: 8,
+        },
+    })
+}
+
 #[test]
 fn each_number_is_told_in_its_place(rt: HostRuntime) {
-    let text = text_of(rt.alloc(), &measured(Some(1_806_336))).expect(&rt, "memory");
+    let origins = [one_origin(rt.alloc()).expect(&rt, "memory")];
+    let text = text_of(rt.alloc(), &measured(Some(1_806_336)), &origins).expect(&rt, "memory");
     let text = str::from_utf8(text.as_slice()).expect(&rt, "UTF-8");
-    let wanted = format!(in rt.alloc(); "{REQUESTS}{CONNECTIONS}{CACHE_AND_LOG}{MEMORY}").expect(
-        &rt, "memory",
-    );
+    let wanted = format!(in rt.alloc();
+        "{REQUESTS}{CONNECTIONS}{CACHE}{FETCHES}{LOG}{MEMORY}"
+    ).expect(&rt, "memory");
     assert_eq!(rt; text, wanted.as_str());
 }
 
 #[test]
 fn what_is_not_known_is_not_told(rt: HostRuntime) {
-    let text = text_of(rt.alloc(), &measured(None)).expect(&rt, "memory");
+    let origins = [one_origin(rt.alloc()).expect(&rt, "memory")];
+    let text = text_of(rt.alloc(), &measured(None), &origins).expect(&rt, "memory");
     let text = str::from_utf8(text.as_slice()).expect(&rt, "UTF-8");
-    let wanted = format!(in rt.alloc(); "{REQUESTS}{CONNECTIONS}{CACHE_AND_LOG}").expect(
+    let wanted = format!(in rt.alloc(); "{REQUESTS}{CONNECTIONS}{CACHE}{FETCHES}{LOG}").expect(
         &rt, "memory",
     );
     assert_eq!(rt; text, wanted.as_str());

@@ -6,19 +6,25 @@ ghost use Rattle.edge_metrics.specs.Text as spec;
 use crate::cache_text::push_cache;
 use crate::connection_text::push_connections;
 use crate::durations::Durations;
+use crate::fetch_text::{push_fetches, push_without_origin};
 use crate::lines::{push_head, push_number, push_sample};
 use crate::measured::Measured;
+use crate::origin_counts::OriginCounts;
 use crate::process_text::{push_lost_lines, push_resident};
 use crate::statuses::Statuses;
 use std::alloc::{AllocError, Global};
 
-/// The text of what was measured.
+/// The text of what was measured, with the fetches from these origins.
 ///
 /// The only refusal is out of memory.
 ///
 /// Source: Prometheus, "Exposition formats", "Text-based format", version 0.0.4; the names are our profile.
-pub fn text_of(alloc: Global, measured: &Measured) -> Result<Vec<u8>, AllocError>
-    ensures { IfOk result (λ text. text.items ≡ spec.text measured.now) }
+pub fn text_of(
+    alloc: Global,
+    measured: &Measured,
+    origins: &[OriginCounts],
+) -> Result<Vec<u8>, AllocError>
+    ensures { IfOk result (λ text. text.items ≡ spec.text measured.now origins.now) }
 {
     let mut text = Vec::new(alloc);
     push_requests(&mut text, &measured.requests.statuses)?;
@@ -26,6 +32,8 @@ pub fn text_of(alloc: Global, measured: &Measured) -> Result<Vec<u8>, AllocError
     push_durations(&mut text, &measured.requests.durations)?;
     push_connections(&mut text, &measured.connections)?;
     push_cache(&mut text, &measured.cache)?;
+    push_fetches(&mut text, origins)?;
+    push_without_origin(&mut text, measured.without_origin)?;
     push_lost_lines(&mut text, measured.lost_lines)?;
     push_resident(&mut text, measured.resident)?;
     Ok(text)

@@ -1,2 +1,3 @@
 pub mod Operator
 pub mod Purged
+pub mod Stopped

@@ -7,9 +7,10 @@ use Rattle.http_header.specs.FieldValue.{FieldValue, plain_value}
 use Rattle.http_header.specs.HeaderMap.{Entry, Entries}
 use Rattle.operator_http.specs.declared.asked.Asked.{Asked}
 use Rattle.operator_http.specs.declared.asked.Asked.TheVariants as asked
-use Rattle.operator_http.specs.declared.purge.Purge.{Purge}
 use Rattle.operator_http.specs.declared.told.Told.{Told}
 use Rattle.operator_http.specs.declared.told.Told.TheVariants as told
+use Rattle.operator_http.specs.Purged.{purged_by}
+use Rattle.operator_http.specs.Stopped.{grace_by}
 
 -- what is asked for by a method that reads (RFC 9110, sections 9.3.1 and 9.3.2), and by POST (section 9.3.3)
 abbrev pub if_read : List ℕ → Asked → Asked
@@ -21,22 +22,25 @@ if_posted method wanted = if bytes_eq method (codes "POST") then wanted else ask
 -- what a method and a path ask for
 abbrev pub asked_by : List ℕ → List ℕ → Asked
 asked_by method path =
-    if bytes_eq path (codes "/health") then if_read method asked.Health
+    if bytes_eq path (codes "/") then if_read method asked.Page
+    else (if bytes_eq path (codes "/health") then if_read method asked.Health
     else (if bytes_eq path (codes "/metrics") then if_read method asked.Metrics
     else (if bytes_eq path (codes "/stop") then if_posted method asked.Stop
     else (if bytes_eq path (codes "/purge") then if_posted method asked.Purge
-    else asked.OtherPath)))
+    else asked.OtherPath))))
 
--- what is told to a request for this, where its query wants these answers to go
-abbrev pub Fits : Asked → Option Purge → Told → Type 0
-Fits wanted purge told.Health = wanted ≡ asked.Health
-Fits wanted purge (told.Metrics metrics) = wanted ≡ asked.Metrics
-Fits wanted purge told.Stopping = wanted ≡ asked.Stop
-Fits wanted purge (told.Purged count) = (wanted ≡ asked.Purge) × (is_some purge ≡ true)
-Fits wanted purge told.NoPurge = (wanted ≡ asked.Purge) × (purge ≡ None)
-Fits wanted purge told.OtherPath = wanted ≡ asked.OtherPath
-Fits wanted purge told.NotRead = wanted ≡ asked.NotRead
-Fits wanted purge told.NotPosted = wanted ≡ asked.NotPosted
+-- what is told to a request for this, with this query
+abbrev pub Fits : Asked → List ℕ → Told → Type 0
+Fits wanted query (told.Page page) = wanted ≡ asked.Page
+Fits wanted query told.Health = wanted ≡ asked.Health
+Fits wanted query (told.Metrics metrics) = wanted ≡ asked.Metrics
+Fits wanted query told.Stopping = (wanted ≡ asked.Stop) × (is_some (grace_by query) ≡ true)
+Fits wanted query told.NoGrace = (wanted ≡ asked.Stop) × (grace_by query ≡ None)
+Fits wanted query (told.Purged count) = (wanted ≡ asked.Purge) × (is_some (purged_by query) ≡ true)
+Fits wanted query told.NoPurge = (wanted ≡ asked.Purge) × (purged_by query ≡ None)
+Fits wanted query told.OtherPath = wanted ≡ asked.OtherPath
+Fits wanted query told.NotRead = wanted ≡ asked.NotRead
+Fits wanted query told.NotPosted = wanted ≡ asked.NotPosted
 
 -- the type of the body
 abbrev pub typed : FieldValue → Entry FieldValue
@@ -44,6 +48,10 @@ typed value = (codes "content-type", value ∷ [])
 
 abbrev pub plain : Entry FieldValue
 plain = typed (plain_value (codes "text/plain"))
+
+-- the type of a page (RFC 2854, section 2)
+abbrev pub of_page : Entry FieldValue
+of_page = typed (plain_value (codes "text/html; charset=utf-8"))
 
 -- the type of metrics (Prometheus, "Exposition formats", "Basic info")
 abbrev pub of_metrics : Entry FieldValue
@@ -69,15 +77,17 @@ purged count = codes "purged " ++ decimal count ++ codes "\n"
 
 -- the response says this
 abbrev pub Says : Told → Response (Full (List ℕ)) → Type 0
+Says (told.Page page) response = Sends 200 (of_page ∷ []) page response
 Says told.Health response = Sends 200 (plain ∷ []) (codes "ok\n") response
 Says (told.Metrics metrics) response = Sends 200 (of_metrics ∷ []) metrics response
 Says told.Stopping response = Sends 200 (plain ∷ []) (codes "stopping\n") response
 Says (told.Purged count) response = Sends 200 (plain ∷ []) (purged count) response
+Says told.NoGrace response = Sends 400 (plain ∷ []) (codes "grace=SECONDS is wanted\n") response
 Says told.NoPurge response = Sends 400 (plain ∷ []) (codes "url= or prefix= is wanted\n") response
 Says told.OtherPath response = Sends 404 (plain ∷ []) (codes "not found\n") response
 Says told.NotRead response = Sends 405 (plain ∷ allow (plain_value (codes "GET, HEAD")) ∷ []) (codes "method not allowed\n") response
 Says told.NotPosted response = Sends 405 (plain ∷ allow (plain_value (codes "POST")) ∷ []) (codes "method not allowed\n") response
 
 -- the response says what fits
-abbrev pub Answers : Asked → Option Purge → Response (Full (List ℕ)) → Type 0
-Answers wanted purge response = (said : Told) × Fits wanted purge said × Says said response
+abbrev pub Answers : Asked → List ℕ → Response (Full (List ℕ)) → Type 0
+Answers wanted query response = (said : Told) × Fits wanted query said × Says said response

@@ -6,11 +6,13 @@ ghost use Rattle.operator_http.specs.Operator as spec;
 /// What a request asks of a server, by its method and its path.
 #[derive(Clone, Copy, Debug, Drop, PartialEq, Eq)]
 pub enum Asked {
+    /// A page that shows what it does.
+    Page,
     /// Whether the server answers at all.
     Health,
     /// What it has counted.
     Metrics,
-    /// That the server stops: it accepts nobody more, and ends what is under way.
+    /// That the server stops: it accepts nobody more, and ends what is under way. How long that may take, the query says.
     Stop,
     /// That answers which the server keeps go: which ones, its query says.
     Purge,
@@ -22,14 +24,16 @@ pub enum Asked {
     NotPosted,
 }
 
-/// What a request with this method and this path asks for: `/health` and `/metrics` are read by GET and HEAD, POST to
-/// `/stop` stops the server, and POST to `/purge` lets go of answers.
+/// What a request with this method and this path asks for: `/`, `/health` and `/metrics` are read by GET and HEAD, POST
+/// to `/stop` stops the server, and POST to `/purge` lets go of answers.
 ///
 /// Source: RFC 9110, "Methods"; the paths are our profile.
 pub fn asked_by(method: &[u8], path: &[u8]) -> Asked
     ensures { result ≡ spec.asked_by method.now path.now }
 {
-    if path == b"/health".as_slice() {
+    if path == b"/".as_slice() {
+        if_read(method, Asked::Page)
+    } else if path == b"/health".as_slice() {
         if_read(method, Asked::Health)
     } else if path == b"/metrics".as_slice() {
         if_read(method, Asked::Metrics)

@@ -1,21 +1,25 @@
-//! An address of its own at which the operator of a server asks how it is, lets go of what it keeps, and stops it.
+//! An address of its own at which the operator of a server sees how it is, lets go of what it keeps, and stops it.
 //!
 //! Source: RFC 9110, "HTTP Semantics", and RFC 9112, "HTTP/1.1"; the paths and texts are our profile.
 #![tactic(auto)]
 
 mod asked;
 mod clock;
+mod grace;
 mod listener;
 mod operated;
 mod purge;
 mod response;
 mod service;
+mod stop;
 mod stream;
 mod told;
 
 pub use asked::{Asked, asked_by};
-pub use listener::{OperatorListener, StopRequest};
+pub use grace::{Grace, grace_of};
+pub use listener::OperatorListener;
 pub use operated::Operated;
 pub use purge::{Purge, purge_of};
 pub use response::response_of;
+pub use stop::StopRequest;
 pub use told::Told;

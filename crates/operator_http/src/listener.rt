@@ -3,6 +3,7 @@
 use crate::clock::DateClock;
 use crate::operated::Operated;
 use crate::service::OperatorService;
+use crate::stop::{StopRequest, StopState};
 use crate::stream::OperatorStream;
 use futures::executor::block_on;
 use hyper::server::conn::http1::Builder;
@@ -22,19 +23,6 @@ const LIMIT_SECONDS: u64 = 5;
 // For how many milliseconds nobody is accepted after an accept has failed.
 const PAUSE_MILLIS: u64 = 100;
 
-/// Tells whether the operator has asked a server to stop.
-#[derive(Drop)]
-pub struct StopRequest {
-    is_made: Arc<AtomicBool>,
-}
-
-impl StopRequest {
-    /// Whether the operator has asked for it.
-    pub fn is_made(&self) -> bool {
-        self.is_made.load(Ordering::SeqCst)
-    }
-}
-
 /// Where the operator of a server is answered: one connection after another, each for one request and for five seconds at
 /// most, by a thread of its own. So it answers while all threads of the server are at work.
 ///
@@ -45,31 +33,32 @@ pub struct OperatorListener {
     // A second handle to the listener's socket.
     same: TcpStream,
     is_closed: AtomicBool,
-    is_to_stop: Arc<AtomicBool>,
+    stop: Arc<StopState>,
     // The hash keys of the maps of fields.
     keys: RandomState,
 }
 
 impl OperatorListener {
-    /// One over a socket that listens. Refused if the system refuses, or there is no memory.
+    /// One over a socket that listens. Refused if the system refuses, the clock can't be read, or there is no memory.
     pub fn new<R>(rt: &R, listener: TcpListener) -> io::Result<OperatorListener>
     where
-        R: Net + RandomSource + AllocGlobal,
+        R: Net + Clock + RandomSource + AllocGlobal,
     {
         let same = TcpStream::from(OwnedFd::from(listener.try_clone()?));
         Ok(OperatorListener {
             listener,
             same,
             is_closed: AtomicBool::new(false),
-            is_to_stop: Arc::new(rt.alloc(), AtomicBool::new(false))?,
+            stop: Arc::new(rt.alloc(), StopState::new(rt)?)?,
             keys: RandomState::new(rt)?,
         })
     }
 
-    /// What tells whether the operator has asked the server to stop. `None` where there is no memory for it.
+    /// What tells whether the operator has asked the server to stop, and until when. `None` where there is no memory for
+    /// it.
     pub fn stop_request(&self) -> Option<StopRequest> {
         Some(StopRequest {
-            is_made: self.is_to_stop.clone().ok()?,
+            state: self.stop.clone().ok()?,
         })
     }
 
@@ -110,7 +99,7 @@ impl OperatorListener {
         let service = OperatorService {
             rt: rt.clone()?,
             operated: operated.clone()?,
-            is_to_stop: self.is_to_stop.clone()?,
+            stop: self.stop.clone()?,
         };
         let clock = DateClock::new(rt.clone()?);
         let mut http = Builder::new(rt.alloc(), self.keys);

@@ -6,6 +6,9 @@ use std::alloc::AllocError;
 
 /// A server that has an operator.
 pub trait Operated<R> {
+    /// A page in HTML that shows what it does.
+    fn page(&self, rt: &R) -> Result<Vec<u8>, AllocError>;
+
     /// What it has counted, in the text format of Prometheus.
     fn metrics(&self, rt: &R) -> Result<Vec<u8>, AllocError>;
 

@@ -12,9 +12,9 @@ use http_body_util::Full;
 use itoa::Buffer;
 use std::alloc::{AllocError, Global};
 
-/// Makes the response that tells an operator this: 200 with some words, or with metrics; 400 for a purge of nobody knows
-/// what; 404 for another path, and 405 for another method, with those that the path has. Of the response to HEAD the HTTP
-/// library leaves the body out.
+/// Makes the response that tells an operator this: 200 with some words, with metrics or with a page; 400 for a purge of
+/// nobody knows what, and for a stop with a query that is no grace; 404 for another path, and 405 for another method, with
+/// those that the path has. Of the response to HEAD the HTTP library leaves the body out.
 ///
 /// The only refusal of the call itself is out of memory.
 ///
@@ -23,15 +23,13 @@ pub fn response_of(alloc: Global, told: Told) -> Result<Response<Full<Bytes>>, A
     ensures { IfOk result (spec.Says told) }
 {
     match told {
+        Told::Page(page) => shown(alloc, page),
         Told::Metrics(metrics) => measured(alloc, metrics),
         Told::Health => plain(alloc, StatusCode::OK, "ok\n"),
         Told::Stopping => plain(alloc, StatusCode::OK, "stopping\n"),
         Told::Purged(count) => purged(alloc, count),
-        Told::NoPurge => plain(
-            alloc,
-            StatusCode::BAD_REQUEST,
-            "url= or prefix= is wanted\n",
-        ),
+        Told::NoGrace => wanting(alloc, "grace=SECONDS is wanted\n"),
+        Told::NoPurge => wanting(alloc, "url= or prefix= is wanted\n"),
         Told::OtherPath => plain(alloc, StatusCode::NOT_FOUND, "not found\n"),
         Told::NotRead => allowing(alloc, HeaderValue::from_static("GET, HEAD")),
         Told::NotPosted => allowing(alloc, HeaderValue::from_static("POST")),
@@ -50,6 +48,13 @@ fn plain(
     Ok(Response::from_parts(head, Full::from(text)))
 }
 
+// The refusal of a query, with what is wanted in its place.
+fn wanting(alloc: Global, text: &'static str) -> Result<Response<Full<Bytes>>, AllocError>
+    ensures { IfOk result (spec.Sends 400 (spec.plain ∷ []) text.now) }
+{
+    plain(alloc, StatusCode::BAD_REQUEST, text)
+}
+
 // How many answers went.
 fn purged(alloc: Global, count: usize) -> Result<Response<Full<Bytes>>, AllocError>
     ensures { IfOk result (spec.Sends 200 (spec.plain ∷ []) (spec.purged count)) }
@@ -64,6 +69,15 @@ fn purged(alloc: Global, count: usize) -> Result<Response<Full<Bytes>>, AllocErr
         HeaderValue::from_static("text/plain"),
     )?;
     Ok(Response::from_parts(head, Full::from(Bytes::from_vec(text)?)))
+}
+
+// The page.
+fn shown(alloc: Global, page: Bytes) -> Result<Response<Full<Bytes>>, AllocError>
+    ensures { IfOk result (spec.Sends 200 (spec.of_page ∷ []) page) }
+{
+    let kind = HeaderValue::from_static("text/html; charset=utf-8");
+    let head = head_of(alloc, StatusCode::OK, kind)?;
+    Ok(Response::from_parts(head, Full::from(page)))
 }
 
 // The metrics.

@@ -4,13 +4,15 @@ ghost use Rattle.std.specs.Prelude.{◌≡◌, IfOk, IfSome};
 ghost use Rattle.http.specs.Request as http;
 ghost use Rattle.http_uri.specs.Uri.{uri_path, uri_query};
 ghost use Rattle.operator_http.specs.Operator as spec;
-ghost use Rattle.operator_http.specs.Purged.{purged_by, query_or_empty};
+ghost use Rattle.operator_http.specs.Purged.{query_or_empty};
 ghost use Rattle.operator_http.specs.declared.asked.Asked.TheVariants as asked_for;
 
 use crate::asked::{Asked, asked_by};
+use crate::grace::grace_of;
 use crate::operated::Operated;
 use crate::purge::purge_of;
 use crate::response::response_of;
+use crate::stop::StopState;
 use crate::told::Told;
 use bytes::Bytes;
 use futures::future;
@@ -20,21 +22,21 @@ use http_body_util::Full;
 use hyper::body::Incoming;
 use hyper::service::Service;
 use std::alloc::{AllocError, AllocGlobal};
-use std::sync::atomic::{AtomicBool, Ordering};
 use std::sync::{Arc, Wait};
+use std::time::Clock;
 
 /// Does what an operator asks of this server, and notes that it is to stop.
 #[derive(Drop)]
 pub(crate) struct OperatorService<R, M> {
     pub rt: R,
     pub operated: Arc<M>,
-    pub is_to_stop: Arc<AtomicBool>,
+    pub stop: Arc<StopState>,
 }
 
-impl<R: Wait + AllocGlobal, M: Operated<R>> OperatorService<R, M> {
+impl<R: Wait + Clock + AllocGlobal, M: Operated<R>> OperatorService<R, M> {
     // Does what is asked for, and makes the response.
     fn answer(&self, asked: Asked, query: &[u8]) -> Result<Response<Full<Bytes>>, AllocError>
-        ensures { IfOk result (spec.Answers asked (purged_by query.now)) }
+        ensures { IfOk result (spec.Answers asked query.now) }
     {
         let told = self.done(asked, query)?;
         response_of(self.rt.alloc(), told)
@@ -42,18 +44,19 @@ impl<R: Wait + AllocGlobal, M: Operated<R>> OperatorService<R, M> {
 
     // Does what is asked for, and says what is told.
     fn done(&self, asked: Asked, query: &[u8]) -> Result<Told, AllocError>
-        ensures { IfOk result (spec.Fits asked (purged_by query.now)) }
+        ensures { IfOk result (spec.Fits asked query.now) }
     {
         match asked {
+            Asked::Page => {
+                let page = self.operated.page(&self.rt)?;
+                Ok(Told::Page(Bytes::from_vec(page)?))
+            }
             Asked::Health => Ok(Told::Health),
             Asked::Metrics => {
                 let metrics = self.operated.metrics(&self.rt)?;
                 Ok(Told::Metrics(Bytes::from_vec(metrics)?))
             }
-            Asked::Stop => {
-                self.is_to_stop.store(true, Ordering::SeqCst);
-                Ok(Told::Stopping)
-            }
+            Asked::Stop => Ok(self.stopped(query)),
             Asked::Purge => self.purged(query),
             Asked::OtherPath => Ok(Told::OtherPath),
             Asked::NotRead => Ok(Told::NotRead),
@@ -61,9 +64,22 @@ impl<R: Wait + AllocGlobal, M: Operated<R>> OperatorService<R, M> {
         }
     }
 
+    // Notes that the server is to stop, and until when by a query.
+    fn stopped(&self, query: &[u8]) -> Told
+        ensures { spec.Fits asked_for.Stop query.now result }
+    {
+        match grace_of(query) {
+            Some(grace) => {
+                self.stop.ask(&self.rt, grace);
+                Told::Stopping
+            }
+            None => Told::NoGrace,
+        }
+    }
+
     // Lets go of the answers that a query wants to go.
     fn purged(&self, query: &[u8]) -> Result<Told, AllocError>
-        ensures { IfOk result (spec.Fits asked_for.Purge (purged_by query.now)) }
+        ensures { IfOk result (spec.Fits asked_for.Purge query.now) }
     {
         match purge_of(self.rt.alloc(), query) {
             Ok(Some(purge)) => match self.operated.purge(&self.rt, &purge) {
@@ -89,7 +105,7 @@ fn query_in(target: &Uri) -> &[u8]
 impl<I, R, M> Service<Request<Incoming<I>>> for OperatorService<R, M>
 where
     I: Drop,
-    R: Wait + AllocGlobal + Drop,
+    R: Wait + Clock + AllocGlobal + Drop,
     M: Operated<R> + Drop,
 {
     type Response = Response<Full<Bytes>>;
@@ -99,7 +115,7 @@ where
     type Future = Ready<Result<Response<Full<Bytes>>, AllocError>>;
 
     ghost calls = { λ service request future. IfSome future.0 (λ given. IfOk given
-        (spec.Answers (spec.asked_by (http.head_of request).method (uri_path (http.head_of request).uri)) (purged_by (query_or_empty (uri_query (http.head_of request).uri))))) };
+        (spec.Answers (spec.asked_by (http.head_of request).method (uri_path (http.head_of request).uri)) (query_or_empty (uri_query (http.head_of request).uri)))) };
 
     // Nobody reads a body.
     fn call(&self, request: Request<Incoming<I>>) -> Self::Future {

@@ -5,12 +5,16 @@ use bytes::Bytes;
 /// What a server says to what its operator asks.
 #[derive(Drop)]
 pub enum Told {
+    /// A page that shows what it does.
+    Page(Bytes),
     /// That it answers.
     Health,
     /// What it has counted.
     Metrics(Bytes),
     /// That it stops.
     Stopping,
+    /// That the query of a stop doesn't say how long it may take.
+    NoGrace,
     /// That so many answers went.
     Purged(usize),
     /// That the query of a purge doesn't say which answers are to go.
