@@ -7,6 +7,7 @@ import socket
 import subprocess
 import sys
 import threading
+import time
 
 HERE = os.path.dirname(os.path.realpath(__file__))
 sys.path.insert(0, os.path.join(HERE, "..", "..", "examples", "site"))
@@ -17,6 +18,8 @@ BUILDS = os.path.join(HERE, "..", "..", "esi_edge")
 PROGRAM = os.path.join(HERE, "..", "..", "crates", "edge_main", "out", "edge_main")
 # How long a client of these tests waits for anything: it only bounds a run that has failed.
 PATIENCE = 20
+# After how many seconds at most a server has written the lines of its log.
+TICK = 0.3
 TEMPLATE = 'content="ESI/1.0"'
 
 
@@ -183,6 +186,7 @@ class Edge:
                 words, executable="/proc/self/fd/%d" % program.fileno(), pass_fds=[program.fileno()], preexec_fn=limited,
                 env={**os.environ, **(added or {})}, stdin=subprocess.PIPE if piped else subprocess.DEVNULL, stdout=subprocess.PIPE, stderr=subprocess.PIPE
             )
+        self.is_logged = any(word.startswith("--log") for word in options)
         line = self.process.stdout.readline()
         found = re.fullmatch(rb"listening on 127\.0\.0\.1:([1-9][0-9]*)\n", line)
         if not found:
@@ -200,6 +204,9 @@ class Edge:
         if self.process.stdout.closed:
             return self.said
         if self.process.poll() is None:
+            if self.is_logged:
+                # Lines may wait for the server's next tick.
+                time.sleep(TICK)
             self.process.kill()
         self.process.wait()
         if self.process.stdin:
@@ -240,6 +247,15 @@ def exchange(edge, sent):
     """Sends bytes over one connection, and gives all that comes back."""
     with client(edge, sent) as connection:
         return rest(connection)
+
+
+def asks_until_the_end(edge, sent, came):
+    """Sends bytes over one connection after another, until nobody accepts any longer, and adds to a list what comes back of each."""
+    try:
+        while True:
+            came.append(exchange(edge, sent))
+    except OSError:
+        pass
 
 
 def rest(connection):

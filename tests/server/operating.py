@@ -1,12 +1,13 @@
 """What the operator of a server asks it at an address of its own: whether it is well, what it has counted, to let go of answers that it
 keeps, and to stop."""
+import html.parser
 import os
 import re
 import socket
 import threading
 import time
 
-from harness import ASKED, PATIENCE, PLAIN, TEMPLATE, Edge, Origin, Response, Wires, before, client, ended, exchange, get, rest, same, sized, told
+from harness import ASKED, PATIENCE, PLAIN, TEMPLATE, Edge, Origin, Response, Wires, asks_until_the_end, before, client, ended, exchange, get, rest, same, sized, told, wire
 from logs import ask_on
 
 ADMIN = ("--admin", "127.0.0.1:0")
@@ -53,8 +54,8 @@ def what_else_is_asked_is_refused():
     """HEAD is answered without the body; another path 404, another method 405 with those that there are."""
     rows = (
         ("HEAD", "/health", 200, None, b""), ("HEAD", "/metrics", 200, None, b""), ("GET", "/health?deep=1", 200, None, b"ok\n"),
-        ("GET", "/", 404, None, b"not found\n"), ("GET", "/healthy", 404, None, b"not found\n"), ("POST", "/Stop", 404, None, b"not found\n"),
-        ("POST", "/health", 405, "GET, HEAD", b"method not allowed\n"), ("PUT", "/metrics", 405, "GET, HEAD", b"method not allowed\n"),
+        ("GET", "/index.html", 404, None, b"not found\n"), ("GET", "/healthy", 404, None, b"not found\n"), ("POST", "/Stop", 404, None, b"not found\n"),
+        ("POST", "/health", 405, "GET, HEAD", b"method not allowed\n"), ("POST", "/", 405, "GET, HEAD", b"method not allowed\n"), ("HEAD", "/", 200, None, b""), ("PUT", "/metrics", 405, "GET, HEAD", b"method not allowed\n"),
         ("GET", "/stop", 405, "POST", b"method not allowed\n"), ("HEAD", "/stop", 405, "POST", b""),
         ("GET", "/purge?prefix=http://", 405, "POST", b"method not allowed\n"), ("DELETE", "/purge", 405, "POST", b"method not allowed\n"),
         ("POST", "/purge/", 404, None, b"not found\n"),
@@ -95,7 +96,7 @@ def read(text):
         kinds[metric] = kind
         names = (metric,) if kind != "histogram" else (metric + "_bucket", metric + "_sum", metric + "_count")
         while lines and not lines[0].startswith("#"):
-            name, labels, value = re.fullmatch(r'([a-z_]+)((?:\{[a-z]+="[^"\\]+"\})?) ([0-9]+(?:e-6)?)', lines.pop(0)).groups()
+            name, labels, value = re.fullmatch(r'([a-z_]+)((?:\{[a-z]+="[^"\\]+"(?:,[a-z]+="[^"\\]+")*\})?) ([0-9]+(?:e-6)?)', lines.pop(0)).groups()
             same("a name of " + metric, True, name in names)
             same("once", False, name + labels in samples)
             samples[name + labels] = float(value)
@@ -104,7 +105,9 @@ def read(text):
 
 KINDS = {
     "esi_edge_requests_total": "counter", "esi_edge_sent_bytes_total": "counter", "esi_edge_request_seconds": "histogram", "esi_edge_connections": "gauge",
-    "esi_edge_connections_accepted_total": "counter", "esi_edge_accepts_failed_total": "counter", "esi_edge_cache_answers": "gauge",
+    "esi_edge_connections_parked": "gauge", "esi_edge_connections_serving": "gauge", "esi_edge_connections_accepted_total": "counter",
+    "esi_edge_accepts_failed_total": "counter", "esi_edge_cache_answers": "gauge", "esi_edge_cache_bytes": "gauge", "esi_edge_cache_bridges_total": "counter",
+    "esi_edge_fetches_total": "counter", "esi_edge_fetches_without_origin_total": "counter",
     "esi_edge_cache_lookups_total": "counter", "esi_edge_log_lines_lost_total": "counter", "process_resident_memory_bytes": "gauge",
 }
 
@@ -147,6 +150,94 @@ def what_was_answered_is_counted():
             same("look-ups", wanted, of(samples, "esi_edge_cache_lookups_total"))
             same("connections", (0, 22, 0), tuple(samples["esi_edge_" + it] for it in ("connections", "connections_accepted_total", "accepts_failed_total")))
             same("answers kept, lines lost", (2, 0), (samples["esi_edge_cache_answers"], samples["esi_edge_log_lines_lost_total"]))
+            same("bytes kept", sum(len(body) for body, *_ in CACHED.values()), samples["esi_edge_cache_bytes"])
+            same("fetches", {'{origin="*",outcome="answered"}': 2}, fetches(samples))
+
+
+def fetches(samples):
+    """How many fetches ended how, by origin, but for those of which there are none."""
+    return {labels: count for labels, count in of(samples, "esi_edge_fetches_total").items() if count}
+
+
+def metrics(desk):
+    """The samples that the desk tells now."""
+    return read(desk.ask("/metrics").body.decode())[0]
+
+
+def fetches_are_counted_by_origin_and_end():
+    """Each counts once, under the authority of the origin that it was made to, by how it ended; one that nobody could be asked for counts
+    apart."""
+    texts = {
+        "/ok": sized("HTTP/1.1 200 OK", "12345678"), "/gone": sized("HTTP/1.1 404 Not Found", "gone"), "/cut": b"HTTP/1.1 200 OK\r\ncontent-length: 9\r\n\r\nab",
+        "/closed": b"", "/text": b"nothing of HTTP\r\n\r\n", "/long": sized("HTTP/1.1 200 OK", "x" * 262145), "/odd": sized("HTTP/1.1 600 Odd", "odd"),
+        "/coded": sized("HTTP/1.1 200 OK|content-encoding: gzip", "coded"), "/late": lambda _: time.sleep(1.5),
+    }
+    for words in ((), ("--workers", "1", "--fetches", "8"), ("--origin-fetches", "4")):
+        with Wires(texts) as origin, Edge("--origin", "a.test=" + origin.at, "--origin", "c.test=127.0.0.1:1", "--timeout", "500", *ADMIN, *words) as edge:
+            desk = Desk(edge)
+            for target in texts:
+                get(edge, target)
+            get(edge, "/ok", host="c.test")
+            get(edge, "/ok", host="d.test")
+            samples = metrics(desk)
+            ends = (("answered", 2), ("timeout", 1), ("cut", 3), ("too_long", 1), ("coded", 1), ("status", 1))
+            wanted = {'{origin="a.test",outcome="%s"}' % end: count for end, count in ends}
+            same("fetches with %s" % (words,), {**wanted, '{origin="c.test",outcome="connect"}': 1}, fetches(samples))
+            same("without an origin", 1, samples["esi_edge_fetches_without_origin_total"])
+
+
+def fetches_that_are_not_made_are_counted():
+    """One that is one too many for its origin, and one to an origin that rests."""
+    gate = threading.Event()
+    texts = {"/p": lambda _: gate.wait(PATIENCE) and sized("HTTP/1.1 200 OK", "late")}
+    with Wires(texts) as origin, Edge("--origin", "a.test=" + origin.at, *ADMIN, "--origin-fetches", "1") as edge:
+        desk = Desk(edge)
+        first = client(edge, ASKED)
+        time.sleep(0.3)
+        get(edge, "/other")
+        gate.set()
+        rest(first)
+        first.close()
+        wanted = {'{origin="a.test",outcome="answered"}': 1, '{origin="a.test",outcome="too_many"}': 1}
+        same("one too many", wanted, fetches(metrics(desk)))
+    with Edge("--origin", "a.test=127.0.0.1:1", *ADMIN, "--origin-rest", "60") as edge:
+        desk = Desk(edge)
+        for at in range(8):
+            get(edge, "/%d" % at)
+        wanted = {'{origin="a.test",outcome="connect"}': 5, '{origin="a.test",outcome="at_rest"}': 3}
+        same("at rest", wanted, fetches(metrics(desk)))
+
+
+def bridges_are_counted():
+    """A stored answer that is given in place of one that failed, and one that is given since a page is late."""
+    answers = [sized("HTTP/1.1 200 OK|surrogate-control: max-age=1+600", "12345678")]
+    texts = {"/p": lambda _: answers.pop() if answers else sized("HTTP/1.1 500 No", "no")}
+    with Wires(texts) as origin, before(origin, *ADMIN) as edge:
+        desk = Desk(edge)
+        same("at first", b"12345678", get(edge, "/p").body)
+        time.sleep(2)
+        same("bridged", [b"12345678"] * 3, [get(edge, "/p").body for _ in range(3)])
+        same("bridges", 3, metrics(desk)["esi_edge_cache_bridges_total"])
+
+
+def connections_are_counted_by_who_holds_them():
+    """Those whose clients are waited for are parked; those whose pages are made are served."""
+    gate = threading.Event()
+    texts = {"/p": lambda _: gate.wait(PATIENCE) and sized("HTTP/1.1 200 OK", "late"), "/x": sized("HTTP/1.1 200 OK", "12345678")}
+    with Wires(texts) as origin, before(origin, *ADMIN, "--keep-alive", "20", "--threads", "8", "--connections", "16") as edge:
+        desk = Desk(edge)
+        idle = [client(edge, wire("GET /x HTTP/1.1|host: a.test||")) for _ in range(3)]
+        asking = [client(edge, ASKED) for _ in range(2)]
+        time.sleep(0.5)
+        names = ("connections", "connections_parked", "connections_serving")
+        same("open, parked, serving", (5, 3, 2), tuple(metrics(desk)["esi_edge_" + it] for it in names))
+        gate.set()
+        time.sleep(0.5)
+        same("all wait", (5, 5, 0), tuple(metrics(desk)["esi_edge_" + it] for it in names))
+        for one in idle + asking:
+            one.close()
+        time.sleep(0.5)
+        same("all have ended", (0, 0, 0), tuple(metrics(desk)["esi_edge_" + it] for it in names))
 
 
 def a_fetch_for_many_is_counted_once():
@@ -169,7 +260,7 @@ def a_fetch_for_many_is_counted_once():
 
 
 def lost(desk):
-    return read(desk.ask("/metrics").body.decode())[0]["esi_edge_log_lines_lost_total"]
+    return metrics(desk)["esi_edge_log_lines_lost_total"]
 
 
 def lines_that_are_lost_are_counted():
@@ -292,17 +383,9 @@ def a_stop_loses_no_answer():
     """While clients ask without a pause, the operator stops the server: it is told so, each connection that is accepted gets its
     whole answer or is ended before a byte of it, and the status is 0."""
     ends = []
-
-    def ask_on():
-        try:
-            while True:
-                ends.append(exchange(edge, ASKED))
-        except OSError:
-            pass
-
     with Origin(PLAIN) as origin, before(origin, *ADMIN, "--client-timeout", "30000") as edge:
         desk = Desk(edge)
-        clients = [threading.Thread(target=ask_on) for _ in range(16)]
+        clients = [threading.Thread(target=asks_until_the_end, args=(edge, ASKED, ends)) for _ in range(16)]
         for one in clients:
             one.start()
         time.sleep(0.5)
@@ -330,6 +413,97 @@ def what_is_under_way_ends_after_a_stop():
         asking.close()
 
 
+def a_stop_is_bounded_in_time():
+    """With `grace=1` clients who are waited for are cut a second later, and the status is 0; without it they have their own time. What is
+    no number of seconds doesn't stop the server."""
+    with Origin(PLAIN) as origin, before(origin, *ADMIN, "--keep-alive", "20", "--client-timeout", "30000") as edge:
+        desk = Desk(edge)
+        for query in ("grace", "grace=", "grace=x", "grace=-1", "grace=1&x=2", "Grace=1", "when=1", "grace=4294967296", "=1", "1"):
+            came = desk.ask("/stop?" + query, "POST")
+            same(query, (400, "text/plain"), (came.status, came.fields["content-type"]))
+        same("it still serves", b"[12345678]", get(edge, "/p", fields="connection: close\r\n").body)
+        silent, half = client(edge), client(edge, b"GET /p HTTP/1.1\r\nhost:")
+        time.sleep(0.3)
+        began = time.monotonic()
+        same("its answer", 200, desk.ask("/stop", "POST").status)
+        time.sleep(1)
+        same("it waits", None, edge.process.poll())
+        came = desk.ask("/stop?grace=1", "POST")
+        same("its second answer", (200, b"stopping\n"), (came.status, came.body))
+        same("exit status", 0, edge.ends())
+        same("after a second", True, 1.9 < time.monotonic() - began < 4)
+        same("what the clients got", [b"", b""], [rest(silent), rest(half)])
+        silent.close()
+        half.close()
+
+
+def a_stop_cuts_whoever_does_not_read():
+    """A client that reads nothing of a long response is cut once its grace is over; one that reads has its whole response."""
+    texts = {"/p": sized("HTTP/1.1 200 OK", "x" * 262144)}
+    with Wires(texts) as origin, before(origin, *ADMIN, "--client-timeout", "30000") as edge:
+        desk = Desk(edge)
+        unread = [client(edge, ASKED) for _ in range(40)]
+        time.sleep(0.5)
+        same("a page", 262144, len(told(edge)[1]))
+        same("its answer", 200, desk.ask("/stop?grace=0", "POST").status)
+        began = time.monotonic()
+        same("exit status", 0, edge.ends())
+        same("at once", True, time.monotonic() - began < 3)
+        for one in unread:
+            one.close()
+
+
+class Drawn(html.parser.HTMLParser):
+    """A page in HTML, read strictly: the tags that stand open, and what each bar chart says."""
+
+    ALONE = ("meta", "rect", "line")
+
+    def __init__(self, text):
+        super().__init__()
+        self.open, self.charts, self.names = [], [], set()
+        self.feed(text)
+        self.close()
+
+    def handle_starttag(self, tag, attributes):
+        self.names |= {name for name, _ in attributes}
+        same("%s isn't drawn" % tag, False, tag in ("script", "link", "img", "iframe", "object"))
+        if tag == "svg":
+            self.charts.append([])
+        if tag == "rect":
+            self.charts[-1].append({name: value for name, value in attributes})
+        elif tag not in self.ALONE:
+            self.open.append(tag)
+
+    def handle_startendtag(self, tag, attributes):
+        self.handle_starttag(tag, attributes)
+        if tag not in self.ALONE:
+            self.open.pop()
+
+    def handle_endtag(self, tag):
+        if tag not in self.ALONE:
+            same("what ends", self.open.pop(), tag)
+
+
+def the_last_ten_minutes_are_drawn():
+    """A page of three charts, without anything from outside; each bar is that of ten seconds."""
+    with Origin(CACHED) as origin, before(origin, *ADMIN) as edge:
+        desk = Desk(edge)
+        came = desk.ask("/")
+        same("its type", (200, "text/html; charset=utf-8"), (came.status, came.fields["content-type"]))
+        drawn = Drawn(came.body.decode())
+        same("charts without bars", ([], 3, 0), (drawn.open, len(drawn.charts), sum(map(len, drawn.charts))))
+        for _ in range(20):
+            get(edge, "/p")
+        for _ in range(120):
+            drawn = Drawn(desk.ask("/").body.decode())
+            if all(drawn.charts):
+                break
+            time.sleep(0.1)
+        same("a bar in each chart", [1, 1, 1], [len(bars) for bars in drawn.charts])
+        same("as high as may be", {"100"}, {bar["height"] for bars in drawn.charts for bar in bars})
+        same("nothing of another place", set(), drawn.names & {"src", "href", "onload", "action"})
+
+
 def a_used_operators_address_is_told():
     """An address of --admin that somebody listens on: status 5, and a line that says so."""
     with Origin() as origin:
@@ -343,6 +517,10 @@ TESTS = (
     nobody_holds_the_operator_up,
     what_was_answered_is_counted,
     a_fetch_for_many_is_counted_once,
+    fetches_are_counted_by_origin_and_end,
+    fetches_that_are_not_made_are_counted,
+    bridges_are_counted,
+    connections_are_counted_by_who_holds_them,
     lines_that_are_lost_are_counted,
     a_url_is_purged,
     a_prefix_is_purged,
@@ -350,5 +528,8 @@ TESTS = (
     a_purge_disturbs_no_page_in_flight,
     a_stop_loses_no_answer,
     what_is_under_way_ends_after_a_stop,
+    a_stop_is_bounded_in_time,
+    a_stop_cuts_whoever_does_not_read,
+    the_last_ten_minutes_are_drawn,
     a_used_operators_address_is_told,
 )

@@ -2,7 +2,7 @@
 import threading
 import time
 
-from harness import ASKED, PATIENCE, PLAIN, Origin, Wires, Wrong, before, client, exchange, get, rest, same, sized
+from harness import ASKED, PATIENCE, PLAIN, Origin, Wires, Wrong, asks_until_the_end, before, client, get, rest, same, sized
 from keeping import of_one
 
 STOPS = ("--stop-with-input", "--client-timeout", "30000")
@@ -58,16 +58,8 @@ def no_answer_is_lost_by_a_stop():
     """While clients ask without a pause, the server stops: each connection that is accepted gets its whole answer, or is
     ended before a byte of it."""
     ends = []
-
-    def ask_on():
-        try:
-            while True:
-                ends.append(exchange(edge, ASKED))
-        except OSError:
-            pass
-
     with Origin(PLAIN) as origin, before(origin, *STOPS, piped=True) as edge:
-        clients = [threading.Thread(target=ask_on) for _ in range(16)]
+        clients = [threading.Thread(target=asks_until_the_end, args=(edge, ASKED, ends)) for _ in range(16)]
         for one in clients:
             one.start()
         time.sleep(0.5)

@@ -8,6 +8,8 @@ use std::sync::atomic::{AtomicU64, Ordering};
 pub(crate) struct Connections {
     accepted: AtomicU64,
     ended: AtomicU64,
+    parked: AtomicU64,
+    unparked: AtomicU64,
     failed: AtomicU64,
 }
 
@@ -17,6 +19,8 @@ impl Connections {
         Connections {
             accepted: AtomicU64::new(0),
             ended: AtomicU64::new(0),
+            parked: AtomicU64::new(0),
+            unparked: AtomicU64::new(0),
             failed: AtomicU64::new(0),
         }
     }
@@ -29,16 +33,29 @@ impl Connections {
         self.ended.fetch_add(1, Ordering::SeqCst);
     }
 
+    pub(crate) fn parked(&self) {
+        self.parked.fetch_add(1, Ordering::SeqCst);
+    }
+
+    pub(crate) fn unparked(&self) {
+        self.unparked.fetch_add(1, Ordering::SeqCst);
+    }
+
     pub(crate) fn accept_failed(&self) {
         self.failed.fetch_add(1, Ordering::SeqCst);
     }
 
-    /// What was counted until now. Those that ended are read first, so that none is taken for ended that wasn't accepted.
+    /// What was counted until now. What ends is read before what begins, so that nothing is taken for ended that hasn't begun.
     pub(crate) fn counts(&self) -> ConnectionCounts {
+        let unparked = self.unparked.load(Ordering::SeqCst);
+        let parked = self.parked.load(Ordering::SeqCst).saturating_sub(unparked);
         let ended = self.ended.load(Ordering::SeqCst);
         let accepted = self.accepted.load(Ordering::SeqCst);
+        let open = accepted.saturating_sub(ended);
         ConnectionCounts {
-            open: accepted.saturating_sub(ended),
+            open,
+            parked,
+            serving: open.saturating_sub(parked),
             accepted,
             failed_accepts: self.failed.load(Ordering::SeqCst),
         }

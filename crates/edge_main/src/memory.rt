@@ -15,19 +15,15 @@ const MOST_BYTES: usize = 160;
 /// further one may be open.
 #[derive(Drop)]
 pub(crate) struct Memory {
-    // Where it is asked for, and the system tells it.
+    // Where the system tells it.
     statm: Option<File>,
 }
 
 impl Memory {
-    /// That of this process, if it is asked for.
-    pub(crate) fn of<R: Files<File = File>>(rt: &R, is_asked: bool) -> Memory {
-        if !is_asked {
-            return Memory { statm: None };
-        }
-        match File::open(rt, STATM) {
-            Ok(file) => Memory { statm: Some(file) },
-            Err(_) => Memory { statm: None },
+    /// That of this process.
+    pub(crate) fn of<R: Files<File = File>>(rt: &R) -> Memory {
+        Memory {
+            statm: File::open(rt, STATM).ok(),
         }
     }
 

@@ -7,6 +7,7 @@ use operator_http::{OperatorListener, StopRequest};
 use std::alloc::AllocGlobal;
 use std::net::{Net, SocketAddr, TcpListener, TcpStream};
 use std::random::RandomSource;
+use std::time::Clock;
 
 /// What stops a server: the end of standard input, or its operator, each where it is asked for.
 #[derive(Drop)]
@@ -34,13 +35,20 @@ impl Stop {
     }
 }
 
-impl<R> StopSign<R> for Stop {
+impl<R: Clock> StopSign<R> for Stop {
     fn is_given(&self, rt: &R) -> bool {
         let is_requested = match &self.operator {
             Some(operator) => operator.is_made(),
             None => false,
         };
         is_requested || self.input.is_given(rt)
+    }
+
+    fn cuts(&self, rt: &R) -> bool {
+        match &self.operator {
+            Some(operator) => operator.cuts(rt),
+            None => false,
+        }
     }
 }
 
@@ -68,7 +76,8 @@ impl Operator {
     /// One that is answered at this address, port 0 for a free one.
     pub(crate) fn at<R>(rt: &R, address: SocketAddr) -> Result<Operator, Status>
     where
-        R: AllocGlobal + RandomSource + Net<Stream = TcpStream, Listener = TcpListener>,
+        R: AllocGlobal + Clock + RandomSource,
+        R: Net<Stream = TcpStream, Listener = TcpListener>,
     {
         let (listener, address) = bound(rt, address)?;
         Ok(Operator {

@@ -1,119 +1,52 @@
-//! What becomes of the report of each request that was answered.
+//! What the threads that serve report, and what a server does for its operator.
 
 use crate::connections::Connections;
-use crate::memory::Memory;
+use crate::measures::Measures;
 use crate::requests_log::AccessLog;
-use edge_metrics::{CacheCounts, Counts, Measured, text_of};
-use edge_types::NoMemory;
+use crate::serving::Kept;
+use edge_metrics::{CacheCounts, Counts, Measured, OriginCounts, text_of};
+use edge_types::{NoMemory, PageUrl};
+use fetch_outcomes::FetchFault;
 use fetch_workers::CacheTally;
 use hyper_edge::{Journal, RequestRecord};
+use hyper_source::{FetchNotes, OriginTally};
+use operator_http::{Operated, Purge};
 use std::alloc::{AllocError, AllocGlobal, Global};
 use std::io::Eprint;
-use std::sync::{Mutex, Wait};
+use std::sync::{Arc, Wait};
 use std::time::Clock;
 
-// In how many sets requests are counted.
-const SETS: usize = 16;
-
-/// What the threads that serve have counted, in several sets, each behind a lock of its own: whoever counts takes one that is
-/// free, so as long as no more threads count at once than there are sets, none waits.
-#[derive(Drop)]
-pub(crate) struct SharedCounts {
-    sets: Vec<Mutex<Counts>>,
-}
-
-impl SharedCounts {
-    /// Of no request. Refused if there is no memory.
-    pub(crate) fn new(alloc: Global) -> Result<SharedCounts, NoMemory> {
-        let mut sets = Vec::new(alloc);
-        for _ in 0..SETS {
-            sets.push(Mutex::new(Counts::new()))?;
-        }
-        Ok(SharedCounts { sets })
-    }
-
-    // Counts a request.
-    fn count(&self, rt: &impl Wait, request: &RequestRecord) {
-        for set in &self.sets {
-            if let Some(mut counts) = set.try_lock() {
-                counts.count(request.status, request.body, request.micros);
-                return;
-            }
-        }
-        if let Some(set) = self.sets.first() {
-            set.lock(rt)
-                .count(request.status, request.body, request.micros);
-        }
-    }
-
-    // What was counted in all sets.
-    fn sum(&self, rt: &impl Wait) -> Counts {
-        let mut sum = Counts::new();
-        for set in &self.sets {
-            sum = sum.plus(&set.lock(rt));
-        }
-        sum
-    }
-}
-
-/// Where each request is reported: in the log, and in what is counted for the operator, where there is one.
+/// Where each request is reported: in the log, and in what is measured for the operator, where there is one; and what the
+/// operator asks for.
 #[derive(Drop)]
 pub(crate) struct Reports {
     pub log: AccessLog,
-    pub counts: Option<SharedCounts>,
     pub connections: Connections,
-    pub memory: Memory,
+    /// How fetches from origins have ended.
+    pub fetches: Arc<FetchNotes>,
+    /// The cache that pages are assembled from.
+    pub cache: Arc<Kept>,
+    /// Where there is an operator.
+    pub measures: Option<Measures>,
 }
 
-impl Reports {
-    /// What was measured until now, in the text format of Prometheus, with this tally of the cache.
-    pub(crate) fn text<R>(&self, rt: &R, tally: CacheTally) -> Result<Vec<u8>, AllocError>
-    where
-        R: Wait + AllocGlobal,
-    {
-        let requests = match &self.counts {
-            Some(counts) => counts.sum(rt),
-            None => Counts::new(),
-        };
-        let measured = Measured {
-            requests,
-            connections: self.connections.counts(),
-            cache: counts_of(tally),
-            lost_lines: self.log.lost_lines(rt),
-            resident: self.memory.resident(),
-        };
-        text_of(rt.alloc(), &measured)
-    }
-}
-
-// A tally of the cache, as the text tells it.
-fn counts_of(tally: CacheTally) -> CacheCounts {
-    let CacheTally {
-        entries,
-        hits,
-        joins,
-        leads,
-        bypasses,
-    } = tally;
-    CacheCounts {
-        entries,
-        hits,
-        joins,
-        leads,
-        bypasses,
-    }
-}
-
-impl<R: AllocGlobal + Clock + Eprint + Wait> Journal<R> for Reports {
+impl<R> Journal<R> for Reports
+where
+    R: AllocGlobal + Clock + Eprint + Wait,
+{
     fn is_kept(&self) -> bool {
-        self.counts.is_some() || self.log.is_kept()
+        self.measures.is_some() || self.log.is_kept()
     }
 
     fn served(&self, rt: &R, record: &RequestRecord) {
-        if let Some(counts) = &self.counts {
-            counts.count(rt, record);
+        if let Some(measures) = &self.measures {
+            measures.count(rt, record);
         }
         self.log.served(rt, record);
+    }
+
+    fn cause_of(&self, rt: &R, url: &PageUrl) -> Option<FetchFault> {
+        self.fetches.fault_of(rt, url)
     }
 
     fn accepted(&self) {
@@ -124,7 +57,89 @@ impl<R: AllocGlobal + Clock + Eprint + Wait> Journal<R> for Reports {
         self.connections.ended();
     }
 
+    fn parked(&self) {
+        self.connections.parked();
+    }
+
+    fn unparked(&self) {
+        self.connections.unparked();
+    }
+
     fn accept_failed(&self) {
         self.connections.accept_failed();
+    }
+
+    fn tick(&self, rt: &R) {
+        self.log.tick(rt);
+        if let Some(measures) = &self.measures {
+            if measures.is_due(rt) {
+                measures.note_stretch(rt, self.cache.tally(rt).hits);
+            }
+        }
+    }
+}
+
+impl<R: Wait + AllocGlobal> Operated<R> for Reports {
+    fn metrics(&self, rt: &R) -> Result<Vec<u8>, AllocError> {
+        let alloc = rt.alloc();
+        let Ok(tallies) = self.fetches.tallies(alloc) else {
+            return Err(AllocError);
+        };
+        let origins = origins_of(alloc, tallies)?;
+        let measured = Measured {
+            requests: self.requests(rt),
+            connections: self.connections.counts(),
+            cache: counts_of(self.cache.tally(rt)),
+            without_origin: self.fetches.without_origin(),
+            lost_lines: self.log.lost_lines(rt),
+            resident: self.measures.as_ref().and_then(|it| it.resident()),
+        };
+        text_of(alloc, &measured, origins.as_slice())
+    }
+
+    fn page(&self, rt: &R) -> Result<Vec<u8>, AllocError> {
+        match &self.measures {
+            Some(measures) => measures.page(rt),
+            None => Ok(Vec::new(rt.alloc())),
+        }
+    }
+
+    fn purge(&self, rt: &R, purge: &Purge) -> Result<usize, NoMemory> {
+        match purge {
+            Purge::Url(url) => Ok(usize::from(self.cache.purge(rt, url))),
+            Purge::Prefix(prefix) => self.cache.purge_prefix(rt, prefix.as_bytes()),
+        }
+    }
+}
+
+impl Reports {
+    // What was counted of requests.
+    fn requests(&self, rt: &impl Wait) -> Counts {
+        match &self.measures {
+            Some(measures) => measures.requests(rt),
+            None => Counts::new(),
+        }
+    }
+}
+
+// The tallies of the fetches from each origin, as the text tells them.
+fn origins_of(alloc: Global, tallies: Vec<OriginTally>) -> Result<Vec<OriginCounts>, AllocError> {
+    let mut origins = Vec::with_capacity(alloc, tallies.len())?;
+    for OriginTally { authority, fetches } in tallies {
+        origins.push(OriginCounts { authority, fetches })?;
+    }
+    Ok(origins)
+}
+
+// A tally of the cache, as the text tells it.
+fn counts_of(tally: CacheTally) -> CacheCounts {
+    CacheCounts {
+        entries: tally.entries,
+        bytes: tally.bytes,
+        hits: tally.hits,
+        joins: tally.joins,
+        leads: tally.leads,
+        bypasses: tally.bypasses,
+        bridges: tally.bridges,
     }
 }

@@ -24,6 +24,8 @@ const PATIENCE_MILLIS: i32 = 1_000;
 /// The log of requests, if there is to be one. Whoever reports a request leaves its line in a queue, and writes what
 /// waits there only where nobody else does, and only while the reader takes it. So a reader that stalls holds no
 /// thread, and costs lines: once the queue is full, further ones are counted in their place.
+///
+/// Where requests come fast their lines are written many at once, and wait for that until the server's next tick at most.
 #[derive(Drop)]
 pub(crate) struct AccessLog {
     format: Option<LogFormat>,
@@ -59,30 +61,43 @@ impl AccessLog {
             return;
         };
         let second = seconds(rt);
-        match line_of(rt.alloc(), format, second, record) {
-            Ok(line) => self.tell(rt, format, second, Ok(line.as_slice()), 0),
-            Err(_) => self.tell(rt, format, second, Err(AllocError), 0),
+        let is_due = match line_of(rt.alloc(), format, second, record) {
+            Ok(line) => self.tell(rt, format, second, Ok(line.as_slice())),
+            Err(_) => self.tell(rt, format, second, Err(AllocError)),
+        };
+        if is_due {
+            self.write(rt, 0);
+        }
+    }
+
+    /// Writes what waits, if nobody does.
+    pub(crate) fn tick<R: Wait + Eprint>(&self, rt: &R) {
+        if self.format.is_some() && self.queue.lock(rt).begin_now() {
+            self.write(rt, 0);
         }
     }
 
     /// Writes what is left at the end of the server, as long as the reader takes some of it within a second.
     pub(crate) fn finish<R: Wait + Clock + Eprint + AllocGlobal>(&self, rt: &R) {
-        if let Some(format) = self.format {
-            // With no line, only what was lost is told.
-            self.tell(rt, format, seconds(rt), Ok(&[]), PATIENCE_MILLIS);
-        }
+        let Some(format) = self.format else {
+            return;
+        };
+        // With no line, only what was lost is told.
+        let _ = self.tell(rt, format, seconds(rt), Ok(&[]));
+        // Nobody else writes any longer.
+        self.write(rt, PATIENCE_MILLIS);
     }
 
-    // Leaves a line, and writes what waits if nobody does. A line for which there is no memory is lost like one for
-    // which there is no room.
-    fn tell<R: Wait + Eprint + AllocGlobal>(
+    // Leaves a line, and says whether the caller is to write what waits. A line for which there is no memory is lost like one
+    // for which there is no room.
+    fn tell<R: Wait + Clock + AllocGlobal>(
         &self,
         rt: &R,
         format: LogFormat,
         second: u64,
         line: Result<&[u8], AllocError>,
-        patience: i32,
-    ) {
+    ) -> bool {
+        let now = millis(rt);
         let mut queue = self.queue.lock(rt);
         let told = match line {
             Ok(line) => queue.tell(rt.alloc(), format, second, line),
@@ -91,14 +106,11 @@ impl AccessLog {
         if told.is_err() {
             queue.lose();
         }
-        let writes = queue.begin();
-        drop(queue);
-        if writes {
-            self.write(rt, patience);
-        }
+        queue.begin(now)
     }
 
-    // Writes what waits, while standard error takes more within so many milliseconds.
+    // Writes what waits, while standard error takes more within so many milliseconds. What comes meanwhile waits for more, so that
+    // it isn't written line by line.
     fn write<R: Wait + Eprint>(&self, rt: &R, patience: i32) {
         let mut chunk = [0; CHUNK];
         for _ in 0..CHUNKS {
@@ -113,6 +125,9 @@ impl AccessLog {
             if let Ok(text) = str::from_utf8(&chunk[..count]) {
                 let _ = eprint!(rt; "{text}");
             }
+            if count < CHUNK {
+                break;
+            }
         }
         self.queue.lock(rt).stop();
     }
@@ -122,6 +137,14 @@ impl AccessLog {
 fn seconds(rt: &impl Clock) -> u64 {
     match rt.since_1970() {
         Ok(time) => time.as_secs(),
+        Err(_) => 0,
+    }
+}
+
+// The millisecond of the machine's monotonic clock; 0 where it can't be read.
+fn millis(rt: &impl Clock) -> u64 {
+    match rt.monotonic() {
+        Ok(time) => u64::try_from(time.as_millis()).unwrap_or(u64::MAX),
         Err(_) => 0,
     }
 }

@@ -2,12 +2,11 @@
 ghost use Rattle.std.specs.Prelude.{◌≤◌};
 
 use crate::connections::Connections;
-use crate::desk::Desk;
 use crate::end_of_input::EndOfInput;
-use crate::memory::Memory;
+use crate::measures::Measures;
 use crate::open_files::{Numbers, Unreached, open_files_limit};
 use crate::operator::{Operator, Stop, bound};
-use crate::reports::{Reports, SharedCounts};
+use crate::reports::Reports;
 use crate::requests_log::AccessLog;
 use crate::server::{Fetches, Server};
 use crate::status::Status;
@@ -16,8 +15,10 @@ use edge_setup::{Addresses, Origin, Place};
 use edge_types::NoMemory;
 use failed_answers::{SharedFailures, SparingSource};
 use fetch_workers::{Assembling, Cache};
-use hyper_edge::{Capacity, EdgeService, Limits, ServeEnd, ServerRuntime, Sockets, serve_accepts};
-use hyper_source::{EdgeName, HyperSource};
+use hyper_edge::{
+    Capacity, EdgeService, Journal, Limits, ServeEnd, ServerRuntime, Sockets, serve_accepts,
+};
+use hyper_source::{EdgeName, FetchNotes, HyperSource};
 use operator_http::Operated;
 use std::alloc::{AllocGlobal, Global};
 use std::fs::File;
@@ -57,31 +58,18 @@ where
         log,
         forwarded,
     } = server;
-    let most_waiting = fetches.bounds.and_then(|bounds| bounds.most_in_flight);
-    let url_rest = fetches.url_rest;
-    let mut source = source_of(rt, origins, fetches)?;
-    if let Some(name) = &name {
-        source = named(rt, source, name.as_slice())?;
-    }
-    let spared = spared(rt, source, url_rest)?;
-    let cache = cache_of(rt, spared, most_waiting, capacity)?;
-    let mut service = service_of(rt, owner_of(&cache)?, pages)?.limited_to(page);
-    if let Some(name) = name {
-        service = service.named(name);
-    }
-    if let Some(field) = forwarded {
-        // The setup has a name of a field, so only memory may be missing.
-        let Ok(told) = service.forwarded_by(field.as_slice()) else {
-            return Err(Status::NoMemory);
-        };
-        service = told;
-    }
-    if answers_head {
-        service = service.answering_head();
-    }
-    if aborts_on_close {
-        service = service.aborting_on_close();
-    }
+    let source = named(rt, source_of(rt, origins, fetches)?, name.as_ref())?;
+    let notes = source.notes()?;
+    let cache = cache_of(rt, source, fetches, capacity)?;
+    let manner = Manner {
+        pages,
+        page,
+        name,
+        forwarded,
+        answers_head,
+        aborts_on_close,
+    };
+    let service = service_of(rt, owner_of(&cache)?, manner)?;
     let front = Front {
         addresses,
         clients,
@@ -90,7 +78,7 @@ where
         at_once,
         accept,
     };
-    served(rt, &service, cache, front)
+    served(rt, &service, notes, cache, front)
 }
 
 // How clients are served, and the operator is answered.
@@ -108,6 +96,7 @@ struct Front {
 fn served<R>(
     rt: &R,
     service: &EdgeService<Kept, R>,
+    notes: Arc<FetchNotes>,
     cache: Arc<Kept>,
     front: Front,
 ) -> Result<ServeEnd, Status>
@@ -123,79 +112,77 @@ where
     let stop = Stop::of(input, operator.as_ref())?;
     let (sockets, address) = listening(rt, front.addresses.listen, front.clients, stop)?;
     println!(rt; "listening on {address}")?;
-    let reports = reports_of(rt, front.log, operator.is_some())?;
+    let reports = Reports {
+        log: AccessLog::new(rt.alloc(), front.log),
+        connections: Connections::new(),
+        fetches: notes,
+        cache,
+        measures: measures_of(rt, operator.is_some())?,
+    };
+    let reports = shared(rt, reports)?;
     let end = match &operator {
         Some(operator) => {
             println!(rt; "answering the operator on {}", operator.address)?;
-            let desk = Desk::over(rt.alloc(), &reports, cache)?;
-            serve_beside(rt, operator, &desk, &sockets, service, &reports, &front)?
+            serve_beside(rt, operator, &sockets, service, &reports, &front)?
         }
-        None => serve_all(rt, &sockets, service, &reports, &front),
+        None => serve_all(rt, &sockets, service, &*reports, &front),
     };
     reports.log.finish(rt);
     Ok(end)
 }
 
-// Where requests are reported: in a log of this format, and in counts for the operator, where there is one.
-fn reports_of<R>(
-    rt: &R,
-    log: Option<LogFormat>,
-    has_operator: bool,
-) -> Result<Arc<Reports>, NoMemory>
+// What is measured for the operator, where there is one.
+fn measures_of<R>(rt: &R, has_operator: bool) -> Result<Option<Measures>, NoMemory>
 where
-    R: AllocGlobal + Files<File = File>,
+    R: AllocGlobal + Clock + Files<File = File>,
 {
-    let alloc = rt.alloc();
-    let counts = if has_operator {
-        Some(SharedCounts::new(alloc)?)
-    } else {
-        None
-    };
-    let reports = Reports {
-        log: AccessLog::new(alloc, log),
-        counts,
-        connections: Connections::new(),
-        memory: Memory::of(rt, has_operator),
-    };
-    Ok(Arc::new(alloc, reports)?)
+    if !has_operator {
+        return Ok(None);
+    }
+    Ok(Some(Measures::new(rt)?))
+}
+
+// Reports that threads share.
+fn shared(rt: &impl AllocGlobal, reports: Reports) -> Result<Arc<Reports>, NoMemory> {
+    Ok(Arc::new(rt.alloc(), reports)?)
 }
 
 // Serves until the server has ended.
-fn serve_all<R>(
+fn serve_all<R, J>(
     rt: &R,
     sockets: &Sockets<Stop>,
     service: &EdgeService<Kept, R>,
-    reports: &Reports,
+    reports: &J,
     front: &Front,
 ) -> ServeEnd
 where
     R: ServerRuntime + Eprint + Send + Sync,
     R: Net<Stream = TcpStream, Listener = TcpListener>,
+    J: Journal<R> + Sync,
 {
     serve_accepts(rt, sockets, service, reports, front.at_once, front.accept)
 }
 
-// The same, while a thread of its own answers the operator from this desk. Refused if that can't be started.
+// The same, while a thread of its own answers the operator. Refused if that can't be started.
 fn serve_beside<R, D>(
     rt: &R,
     operator: &Operator,
-    desk: &Arc<D>,
     sockets: &Sockets<Stop>,
     service: &EdgeService<Kept, R>,
-    reports: &Reports,
+    reports: &Arc<D>,
     front: &Front,
 ) -> Result<ServeEnd, Status>
 where
     R: ServerRuntime + Eprint + Send + Sync,
     R: Net<Stream = TcpStream, Listener = TcpListener>,
-    D: Operated<R> + Send + Sync + Drop,
+    D: Operated<R> + Journal<R> + Send + Sync + Drop,
 {
     thread::scope(thread::scope_env(), rt, |scope| {
-        let answers = scope.spawn(move || operator.listener.serve(rt, desk));
+        let answers = scope.spawn(move || operator.listener.serve(rt, reports));
         if answers.is_err() {
             return Err(Status::NoMemory);
         }
-        let end = serve_all(rt, sockets, service, reports, front);
+        let end = serve_all(rt, sockets, service, &**reports, front);
         operator.listener.close();
         Ok(end)
     })
@@ -294,35 +281,35 @@ where
 }
 
 // The same, for an edge with a name.
-fn named(rt: &impl AllocGlobal, source: HyperSource, name: &[u8]) -> Result<HyperSource, Status> {
-    match EdgeName::of(rt.alloc(), name)? {
+fn named(
+    rt: &impl AllocGlobal,
+    source: HyperSource,
+    name: Option<&Vec<u8>>,
+) -> Result<HyperSource, Status> {
+    let Some(name) = name else {
+        return Ok(source);
+    };
+    match EdgeName::of(rt.alloc(), name.as_slice())? {
         Some(name) => Ok(source.named(name)),
         None => Ok(source),
     }
 }
 
-// The same, where URLs that failed rest for this many seconds.
-fn spared(
-    rt: &impl AllocGlobal,
-    source: HyperSource,
-    url_rest: u32,
-) -> Result<SparingSource<HyperSource, MonotonicSeconds>, Status> {
-    let failures = SharedFailures::new(rt.alloc(), url_rest)?;
-    Ok(SparingSource::new(source, MonotonicSeconds, failures))
-}
-
-// What is stored, over this source.
+// What is stored, over this source, of which URLs that failed rest.
 fn cache_of(
     rt: &impl AllocGlobal,
-    source: SparingSource<HyperSource, MonotonicSeconds>,
-    most_waiting: Option<u32>,
+    source: HyperSource,
+    fetches: Fetches,
     capacity: usize,
 ) -> Result<Arc<Kept>, Status>
     requires some { 1 ≤ capacity }
     requires few { capacity ≤ 1024 }
 {
     let alloc = rt.alloc();
-    let kept = Cache::new(alloc, source, MonotonicSeconds, capacity)?.bounded(most_waiting);
+    let most_waiting = fetches.bounds.and_then(|bounds| bounds.most_in_flight);
+    let failures = SharedFailures::new(alloc, fetches.url_rest)?;
+    let spared = SparingSource::new(source, MonotonicSeconds, failures);
+    let kept = Cache::new(alloc, spared, MonotonicSeconds, capacity)?.bounded(most_waiting);
     match Arc::new(alloc, kept) {
         Ok(shared) => Ok(shared),
         Err(_) => Err(Status::NoMemory),
@@ -337,19 +324,51 @@ fn owner_of(cache: &Arc<Kept>) -> Result<Arc<Kept>, Status> {
     }
 }
 
-// What answers requests.
-fn service_of<R>(
-    rt: &R,
-    cache: Arc<Kept>,
+// How requests are answered.
+#[derive(Drop)]
+struct Manner {
     pages: Assembling,
-) -> Result<EdgeService<Kept, R>, Status>
+    page: Option<Duration>,
+    name: Option<Vec<u8>>,
+    forwarded: Option<Vec<u8>>,
+    answers_head: bool,
+    aborts_on_close: bool,
+}
+
+// What answers requests in this manner.
+fn service_of<R>(rt: &R, cache: Arc<Kept>, manner: Manner) -> Result<EdgeService<Kept, R>, Status>
 where
     R: RandomSource + AllocGlobal + Clone + Drop,
 {
     let Ok(own) = rt.clone() else {
         return Err(Status::NoMemory);
     };
-    Ok(EdgeService::new(own, rt.alloc(), cache, pages)?)
+    let Manner {
+        pages,
+        page,
+        name,
+        forwarded,
+        answers_head,
+        aborts_on_close,
+    } = manner;
+    let mut service = EdgeService::new(own, rt.alloc(), cache, pages)?.limited_to(page);
+    if let Some(name) = name {
+        service = service.named(name);
+    }
+    if let Some(field) = forwarded {
+        // The setup has a name of a field, so only memory may be missing.
+        let Ok(told) = service.forwarded_by(field.as_slice()) else {
+            return Err(Status::NoMemory);
+        };
+        service = told;
+    }
+    if answers_head {
+        service = service.answering_head();
+    }
+    if aborts_on_close {
+        service = service.aborting_on_close();
+    }
+    Ok(service)
 }
 
 /// The machine's monotonic clock, in whole seconds: nobody sets it, as they may set that of the day. 0 where
