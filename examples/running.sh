@@ -71,7 +71,7 @@ free_ports() {
 configured() {
     local written changes=()
     for written in "${!port_of[@]}"; do
-        changes+=(-e "s/127\.0\.0\.1:$written\b/127.0.0.1:${port_of[$written]}/")
+        changes+=(-e "s/\(127\.0\.0\.1:\| port \)$written\b/\1${port_of[$written]}/")
     done
     sed "${changes[@]}" -e "s,/srv/site,$examples/origins/pages," -e "s,/etc/ssl/[a-z]*/,$room/," "$1"
 }
