@@ -4,7 +4,7 @@ ghost use Rattle.std.specs.Prelude.{◌≡◌};
 
 use crate::shared_failures::SharedFailures;
 use edge_types::{Answer, NoMemory, PageUrl};
-use fetch_workers::{Clock, ConcurrentSource, Found, OnBehalf, Source};
+use fetch_workers::{Clock, ConcurrentSource, Found, Given, OnBehalf, Source};
 use std::alloc::Global;
 use std::sync::{Arc, Wait};
 
@@ -37,13 +37,13 @@ impl<R: Wait, S: Source<R>, C: Clock<R>> Source<R> for SparingSource<S, C> {
 
     ghost names_url = { λ _ _ _ named. named };
 
-    fn fetch(&self, rt: &R, alloc: Global, url: &PageUrl) -> Result<Arc<Answer>, NoMemory> {
+    fn fetch(&self, rt: &R, alloc: Global, url: &PageUrl) -> Result<Given, NoMemory> {
         if let Some(answer) = self.failures.failing(rt, &self.clock, url)? {
-            return Ok(answer);
+            return Ok(Given::fetched(answer));
         }
-        let answer = self.source.fetch(rt, alloc, url)?;
-        self.failures.note(rt, &self.clock, &answer);
-        Ok(answer)
+        let given = self.source.fetch(rt, alloc, url)?;
+        self.failures.note(rt, &self.clock, &given.answer);
+        Ok(given)
     }
 
     fn ready(&self, rt: &R, alloc: Global, url: &PageUrl) -> Found {
@@ -102,13 +102,18 @@ impl<R: Wait, S: ConcurrentSource<R>, C: Clock<R>> ConcurrentSource<R> for Spari
         }
     }
 
-    fn next(&self, rt: &R, alloc: Global, in_flight: &mut SparedFetches<S::InFlight>) -> Found {
+    fn next(
+        &self,
+        rt: &R,
+        alloc: Global,
+        in_flight: &mut SparedFetches<S::InFlight>,
+    ) -> Result<Option<Given>, NoMemory> {
         if let Some(answer) = in_flight.here.pop() {
-            return Ok(Some(answer));
+            return Ok(Some(Given::fetched(answer)));
         }
         let came = self.source.next(rt, alloc, &mut in_flight.fetches)?;
-        if let Some(answer) = &came {
-            self.failures.note(rt, &self.clock, answer);
+        if let Some(given) = &came {
+            self.failures.note(rt, &self.clock, &given.answer);
         }
         Ok(came)
     }

@@ -2,15 +2,15 @@
 
 use allocation_tools::printing::{answers, bytes, calls, out_of_memory, word};
 use allocation_tools::values::{answer, processed, stored, url};
-use edge_types::{Answer, NoMemory, PageUrl, Table};
-use fetch_workers::{Cache, Clock as Seconds, OnBehalf, Source, TableSource};
+use edge_types::{NoMemory, PageUrl, Table};
+use fetch_workers::{Cache, Clock as Seconds, Given, OnBehalf, Source, TableSource};
 use hyper_edge::ServerRuntime;
 use hyper_source::{EdgeName, HyperSource, Origin};
 use std::alloc::{AllocGlobal, Global};
 use std::io::Print;
 use std::net::{Net, SocketAddr, TcpStream};
+use std::sync::Wait;
 use std::sync::atomic::{AtomicBool, Ordering};
-use std::sync::{Arc, Wait};
 use std::time::Duration;
 
 // How many answers a shard of a cache may keep.
@@ -43,7 +43,7 @@ impl<R> Source<R> for Forgetful {
 
     ghost names_url = { λ forgetful url answer given. given };
 
-    fn fetch(&self, rt: &R, alloc: Global, url: &PageUrl) -> Result<Arc<Answer>, NoMemory> {
+    fn fetch(&self, rt: &R, alloc: Global, url: &PageUrl) -> Result<Given, NoMemory> {
         if self.is_asked.swap(true, Ordering::SeqCst) {
             self.table.fetch(rt, alloc, url)
         } else {
@@ -90,10 +90,10 @@ where
     print_fetched(rt, &fetched)
 }
 
-fn print_fetched(rt: &impl Print, fetched: &Result<Arc<Answer>, NoMemory>) -> Option<()> {
+fn print_fetched(rt: &impl Print, fetched: &Result<Given, NoMemory>) -> Option<()> {
     match fetched {
-        Ok(answer) if !answer.succeeded() => word(rt, "failed"),
-        Ok(answer) => bytes(rt, answer.body()),
+        Ok(given) if !given.answer.succeeded() => word(rt, "failed"),
+        Ok(given) => bytes(rt, given.answer.body()),
         Err(NoMemory) => out_of_memory(rt),
     }
 }

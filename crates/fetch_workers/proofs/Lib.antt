@@ -1,4 +1,5 @@
 pub mod Replies
 pub mod Filled
-pub mod Given
+pub mod Posted
 pub mod Crossings
+mod Ways

@@ -1,4 +1,5 @@
 pub mod Given
+pub mod Ways
 pub mod Faults
 pub mod Rests
 pub mod Laws

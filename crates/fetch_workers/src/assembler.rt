@@ -12,11 +12,13 @@ ghost use Rattle.fetch_workers.specs.declared.log.Own.{Own};
 ghost use Rattle.fetch_workers.specs.Faults.{fault_of_page};
 ghost use Rattle.fetch_workers.specs.Given.{AllOwn};
 ghost use Rattle.fetch_workers.specs.Rests.{AreFetches, AreWorkers, IsAssembled, RestsOn};
+ghost use Rattle.fetch_workers.specs.Ways.{AreWaysOf, counts_of};
 
 use crate::concurrent_source::ConcurrentSource;
 use crate::crew::run_workers;
 use crate::fault::AssembleFault;
 use crate::gate::{Gate, OpenGate};
+use crate::given::WayCounts;
 use crate::log::{Own, answers_of, is_log_of};
 use crate::one_by_one::OneByOne;
 use crate::shared_desk::SharedDesk;
@@ -66,6 +68,8 @@ pub struct Assembled {
     pub outcome: Arc<Outcome>,
     /// The answers that were posted, in order of posting: a legal log.
     pub log: Vec<Arc<Answer>>,
+    /// By which ways they came, one for each answer.
+    pub ways: WayCounts,
 }
 
 /// Assembles a page with at most `workers` threads, the calling one among them. The others are started
@@ -91,8 +95,9 @@ where
     requires ahead { ahead ≤ MAX_AHEAD }
     requires workers { AreWorkers workers }
     requires levels { AreLevels levels }
-    ensures { IfOk result (λ page.
+    ensures page { IfOk result (λ page.
         IsAssembled (S.gives source.now) request levels url (map arc_value page.log.items) (shown (arc_value page.outcome))) }
+    ensures ways { IfOk result (λ page. AreWaysOf (map arc_value page.log.items) page.ways) }
 {
     assemble_gated(
         rt, alloc, source, &OpenGate, url, request, ahead, workers, levels,
@@ -120,8 +125,9 @@ where
     requires ahead { ahead ≤ MAX_AHEAD }
     requires workers { AreWorkers workers }
     requires levels { AreLevels levels }
-    ensures { IfOk result (λ page.
+    ensures page { IfOk result (λ page.
         IsAssembled (S.gives source.now) request levels url (map arc_value page.log.items) (shown (arc_value page.outcome))) }
+    ensures ways { IfOk result (λ page. AreWaysOf (map arc_value page.log.items) page.ways) }
 {
     let how = Assembling::new(ahead, workers, levels);
     how.assemble(rt, alloc, &OneByOne { source }, gate, url, request)
@@ -204,8 +210,9 @@ impl Assembling {
         R: Wait + Threads + Sync,
         S: ConcurrentSource<R> + Sync,
         G: Gate<R> + Sync,
-        ensures { IfOk result (λ page.
+        ensures page { IfOk result (λ page.
             IsAssembled (S.gives source.now) request self.levels url (map arc_value page.log.items) (shown (arc_value page.outcome))) }
+        ensures ways { IfOk result (λ page. AreWaysOf (map arc_value page.log.items) page.ways) }
     {
         let page = self.accept(alloc, &url, &request)?;
         let shared = SharedDesk::new(alloc, page, self.threads());
@@ -283,8 +290,9 @@ fn put_together<R, S: Source<R>>(
     levels: u8,
 ) -> Result<Assembled, AssembleFault>
     requires { AllOwn (S.gives _source.now) own.items }
-    ensures { IfOk result (λ page.
+    ensures page { IfOk result (λ page.
         IsAssembled (S.gives _source.now) request.now levels url.now (map arc_value page.log.items) (shown (arc_value page.outcome))) }
+    ensures ways { IfOk result (λ page. AreWaysOf (map arc_value page.log.items) page.ways) }
 {
     own.sort_unstable_by_key(|o| o.place);
     compared(alloc, page, own, url, request, levels)
@@ -303,14 +311,15 @@ fn compared(
     ensures own { IfOk result (λ page. map arc_value page.log.items ≡ map (λ (o : Own). o.answer) own.items) }
     ensures legal { IfOk result (λ page. IsLegal request.now url.now (map arc_value page.log.items)) }
     ensures outcome { IfOk result (λ page. RestsOn request.now levels url.now (map arc_value page.log.items) (shown (arc_value page.outcome))) }
+    ensures ways { IfOk result (λ page. page.ways ≡ counts_of (map (λ (o : Own). o.way) own.items)) }
 {
     let outcome = told(&mut page)?;
     if !is_asked_for(&page, url, request, levels) || !is_log_of(&page, own.as_slice()) {
         return Err(AssembleFault::Torn);
     }
     legal(&page);
-    let log = answers_of(alloc, own)?;
-    Ok(Assembled { outcome, log })
+    let (log, ways) = answers_of(alloc, own)?;
+    Ok(Assembled { outcome, log, ways })
 }
 
 // The outcome of a page that is done; of any other, why it has none.

@@ -8,6 +8,7 @@ ghost use Rattle.fetch_workers.specs.Shards.{shard_of};
 use crate::cache_flights::{CacheFlights, Joined, Led};
 use crate::clock::Clock;
 use crate::concurrent_source::ConcurrentSource;
+use crate::given::{Given, Way};
 use crate::kept_plans::KeptPlans;
 use crate::on_behalf::OnBehalf;
 use crate::shared_shard::SharedShard;
@@ -114,17 +115,17 @@ impl<S, C> Cache<S, C> {
         shard: &SharedShard,
         flight: Flight,
         ready: Arc<Answer>,
-    ) -> Result<Arc<Answer>, NoMemory>
+    ) -> Result<Given, NoMemory>
     where
         S: Source<R>,
         C: Clock<R>,
         requires { (arc_value ready).url ≡ flight.url }
-        ensures { IfOk result (λ answer. (arc_value answer).url ≡ flight.url) }
+        ensures { IfOk result (λ given. (arc_value given.answer).url ≡ flight.url) }
     {
         match self.source.fetch(rt, alloc, flight.url()) {
-            Ok(answer) => Ok(self.land(rt, alloc, shard, flight, answer)),
+            Ok(given) => Ok(self.land(rt, alloc, shard, flight, given.into_answer())),
             Err(NoMemory) => {
-                shard.land(rt, flight, ready, self.clock.now(rt));
+                let _ = shard.land(rt, flight, ready, self.clock.now(rt));
                 Err(NoMemory)
             }
         }
@@ -138,11 +139,11 @@ impl<S, C> Cache<S, C> {
         shard: &SharedShard,
         flight: Flight,
         answer: Arc<Answer>,
-    ) -> Arc<Answer>
+    ) -> Given
     where
         C: Clock<R>,
         requires { (arc_value answer).url ≡ flight.url }
-        ensures { (arc_value result).url ≡ flight.url }
+        ensures { (arc_value result.answer).url ≡ flight.url }
     {
         let now = self.clock.now(rt);
         self.plans.prepare(rt, alloc, &answer);
@@ -157,15 +158,15 @@ impl<S, C> Cache<S, C> {
         shard: &SharedShard,
         url: &PageUrl,
         number: u64,
-    ) -> Result<Arc<Answer>, NoMemory>
+    ) -> Result<Given, NoMemory>
     where
         S: Source<R>,
-        ensures named { IfOk result (λ answer. (arc_value answer).url ≡ url.now) }
-        ensures for_all { IfOk result (λ answer.
-            IsForAll url.now (arc_value answer) ⊎ S.gives self.now.source url.now (arc_value answer)) }
+        ensures named { IfOk result (λ given. (arc_value given.answer).url ≡ url.now) }
+        ensures for_all { IfOk result (λ given.
+            IsForAll url.now (arc_value given.answer) ⊎ S.gives self.now.source url.now (arc_value given.answer)) }
     {
         match shard.picked_up(rt, number) {
-            Some(answer) if is_for_all(&answer, url) => Ok(answer),
+            Some(answer) if is_for_all(&answer, url) => Ok(Given::new(answer, Way::Joined)),
             _ => self.source.fetch(rt, alloc, url),
         }
     }
@@ -173,20 +174,15 @@ impl<S, C> Cache<S, C> {
 
 impl<S, C> Cache<S, C> {
     // What is given at once for a URL while as many as may wait for its flight.
-    fn crowded_out<R: Wait>(
-        &self,
-        rt: &R,
-        alloc: Global,
-        url: &PageUrl,
-    ) -> Result<Arc<Answer>, NoMemory>
+    fn crowded_out<R: Wait>(&self, rt: &R, alloc: Global, url: &PageUrl) -> Result<Given, NoMemory>
     where
         C: Clock<R>,
-        ensures { IfOk result (λ answer. (arc_value answer).url ≡ url.now) }
+        ensures { IfOk result (λ given. (arc_value given.answer).url ≡ url.now) }
     {
         let shard = &self.shards[shard_of(url)];
         match shard.bridging(rt, url, self.clock.now(rt))? {
-            Some(answer) => Ok(answer),
-            None => Ok(Arc::new(alloc, Answer::failed(url.share()?))?),
+            Some(answer) => Ok(Given::new(answer, Way::Bridged)),
+            None => Ok(Given::fetched(Arc::new(alloc, Answer::failed(url.share()?))?)),
         }
     }
 
@@ -219,7 +215,7 @@ impl<S, C> Cache<S, C> {
     }
 
     // Lands a flight with the failed answer of its leader.
-    fn land_ready<R: Wait>(&self, rt: &R, led: Led) -> Arc<Answer>
+    fn land_ready<R: Wait>(&self, rt: &R, led: Led) -> Given
     where
         C: Clock<R>,
     {
@@ -234,18 +230,18 @@ impl<S, C> Cache<S, C> {
         rt: &R,
         alloc: Global,
         in_flight: &mut CacheFlights<S::InFlight>,
-        answer: Arc<Answer>,
-    ) -> Arc<Answer>
+        given: Given,
+    ) -> Given
     where
         S: ConcurrentSource<R>,
         C: Clock<R>,
     {
-        let Some(led) = in_flight.take_led(answer.url()) else {
-            return answer;
+        let Some(led) = in_flight.take_led(given.answer.url()) else {
+            return given;
         };
         let (flight, _) = led.into_parts();
-        let shard = &self.shards[shard_of(answer.url())];
-        self.land(rt, alloc, shard, flight, answer)
+        let shard = &self.shards[shard_of(given.answer.url())];
+        self.land(rt, alloc, shard, flight, given.into_answer())
     }
 
     // The answer of one of the flights that others lead, if it has landed; each time another one is looked at. One that
@@ -255,20 +251,23 @@ impl<S, C> Cache<S, C> {
         rt: &R,
         alloc: Global,
         in_flight: &mut CacheFlights<S::InFlight>,
-    ) -> Found
+    ) -> Result<Option<Given>, NoMemory>
     where
         S: ConcurrentSource<R>,
-        ensures { IfOk result (λ found. IfSome found (λ answer. IsForAll (arc_value answer).url (arc_value answer))) }
+        ensures { IfOk result (λ found. IfSome found (λ given.
+            IsForAll (arc_value given.answer).url (arc_value given.answer))) }
     {
-        let Some(joined) = in_flight.joined.pop_front() else {
+        let Some(flight) = in_flight.joined.pop_front() else {
             return Ok(None);
         };
-        match self.shards[shard_of(&joined.url)].pick(rt, joined.number) {
-            Picked::Here(answer) if is_for_all(&answer, &joined.url) => return Ok(Some(answer)),
-            Picked::Flying => in_flight.joined.push_back(joined)?,
+        match self.shards[shard_of(&flight.url)].pick(rt, flight.number) {
+            Picked::Here(answer) if is_for_all(&answer, &flight.url) => {
+                return Ok(Some(Given::new(answer, Way::Joined)));
+            }
+            Picked::Flying => in_flight.joined.push_back(flight)?,
             Picked::Here(_) | Picked::Unknown => {
                 self.source
-                    .begin(rt, alloc, &mut in_flight.fetches, &joined.url)?;
+                    .begin(rt, alloc, &mut in_flight.fetches, &flight.url)?;
             }
         }
         Ok(None)
@@ -328,17 +327,17 @@ impl<S, C> Cache<S, C> {
         S: ConcurrentSource<R>,
         C: Clock<R>,
     {
-        let Ok(Some(answer)) = self.source.next(rt, alloc, &mut in_flight.fetches) else {
+        let Ok(Some(given)) = self.source.next(rt, alloc, &mut in_flight.fetches) else {
             let _ = self.land_ready(rt, led);
             return None;
         };
-        if answer.url() == led.flight.url() {
+        if given.answer.url() == led.flight.url() {
             let (flight, _) = led.into_parts();
-            let shard = &self.shards[shard_of(answer.url())];
-            let _ = self.land(rt, alloc, shard, flight, answer);
+            let shard = &self.shards[shard_of(given.answer.url())];
+            let _ = self.land(rt, alloc, shard, flight, given.into_answer());
             return None;
         }
-        let _ = self.landed(rt, alloc, in_flight, answer);
+        let _ = self.landed(rt, alloc, in_flight, given);
         Some(led)
     }
 }
@@ -392,7 +391,7 @@ impl<R: Wait, S: ConcurrentSource<R>, C: Clock<R>> ConcurrentSource<R> for Cache
         let shard = &self.shards[shard_of(url)];
         match shard.begin(rt, url, self.clock.now(rt), self.most_waiting) {
             None => Ok(in_flight.here.push(self.crowded_out(rt, alloc, url)?)?),
-            Some(Begun::Hit(answer)) => Ok(in_flight.here.push(answer)?),
+            Some(Begun::Hit(answer)) => { Ok(in_flight.here.push(Given::new(answer, Way::Kept))?) }
             Some(Begun::Join(number)) => {
                 Ok(in_flight.joined.push_back(Joined { url: own, number })?)
             }
@@ -403,15 +402,20 @@ impl<R: Wait, S: ConcurrentSource<R>, C: Clock<R>> ConcurrentSource<R> for Cache
         }
     }
 
-    fn next(&self, rt: &R, alloc: Global, in_flight: &mut CacheFlights<S::InFlight>) -> Found {
-        if let Some(answer) = in_flight.here.pop() {
-            return Ok(Some(answer));
+    fn next(
+        &self,
+        rt: &R,
+        alloc: Global,
+        in_flight: &mut CacheFlights<S::InFlight>,
+    ) -> Result<Option<Given>, NoMemory> {
+        if let Some(given) = in_flight.here.pop() {
+            return Ok(Some(given));
         }
-        if let Some(answer) = self.joined_landed(rt, alloc, in_flight)? {
-            return Ok(Some(answer));
+        if let Some(given) = self.joined_landed(rt, alloc, in_flight)? {
+            return Ok(Some(given));
         }
-        if let Some(answer) = self.source.next(rt, alloc, &mut in_flight.fetches)? {
-            return Ok(Some(self.landed(rt, alloc, in_flight, answer)));
+        if let Some(given) = self.source.next(rt, alloc, &mut in_flight.fetches)? {
+            return Ok(Some(self.landed(rt, alloc, in_flight, given)));
         }
         // A flight whose fetch the source has lost.
         if let Some(led) = in_flight.pop_led() {
@@ -422,8 +426,8 @@ impl<R: Wait, S: ConcurrentSource<R>, C: Clock<R>> ConcurrentSource<R> for Cache
             return Ok(None);
         };
         let shard = &self.shards[shard_of(&joined.url)];
-        let answer = self.join(rt, alloc, shard, &joined.url, joined.number)?;
-        Ok(Some(answer))
+        let given = self.join(rt, alloc, shard, &joined.url, joined.number)?;
+        Ok(Some(given))
     }
 
     fn give_up(&self, rt: &R, alloc: Global, in_flight: CacheFlights<S::InFlight>) {
@@ -441,11 +445,11 @@ impl<R: Wait, S: Source<R>, C: Clock<R>> Source<R> for Cache<S, C> {
 
     ghost names_url = { λ cache url answer named. named };
 
-    fn fetch(&self, rt: &R, alloc: Global, url: &PageUrl) -> Result<Arc<Answer>, NoMemory> {
+    fn fetch(&self, rt: &R, alloc: Global, url: &PageUrl) -> Result<Given, NoMemory> {
         let shard = &self.shards[shard_of(url)];
         match shard.begin(rt, url, self.clock.now(rt), self.most_waiting) {
             None => self.crowded_out(rt, alloc, url),
-            Some(Begun::Hit(answer)) => Ok(answer),
+            Some(Begun::Hit(answer)) => Ok(Given::new(answer, Way::Kept)),
             Some(Begun::Join(number)) => self.join(rt, alloc, shard, url, number),
             Some(Begun::Lead(flight, ready)) => self.lead(rt, alloc, shard, flight, ready),
             Some(Begun::Bypass) => self.source.fetch(rt, alloc, url),

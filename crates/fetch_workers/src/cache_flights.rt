@@ -3,6 +3,7 @@
 ghost use Rattle.std.specs.Prelude.{◌≡◌, [], IfNone, IfSome, IsTrue};
 ghost use Rattle.std.specs.Arc.{arc_value};
 
+use crate::given::Given;
 use edge_types::{Answer, NoMemory, PageUrl};
 use fragment_cache::Flight;
 use std::alloc::Global;
@@ -18,7 +19,7 @@ pub struct CacheFlights<F> {
     /// Flights that other threads lead.
     pub(crate) joined: VecDeque<Joined>,
     /// Answers that were there at once.
-    pub(crate) here: Vec<Arc<Answer>>,
+    pub(crate) here: Vec<Given>,
 }
 
 /// A flight that the thread leads, and the failed answer with which it lands if there is no other.

@@ -3,7 +3,8 @@
 ghost use Rattle.std.specs.Prelude.{IfOk, IfSome};
 ghost use Rattle.std.specs.Arc.{arc_value};
 
-use crate::source::{Found, Source};
+use crate::given::Given;
+use crate::source::Source;
 use edge_types::{NoMemory, PageUrl};
 use std::alloc::Global;
 
@@ -30,8 +31,14 @@ pub trait ConcurrentSource<R>: Source<R> {
 
     /// Waits until a fetch has ended, and gives its answer; `None` if nothing is in flight. What can't be fetched
     /// is a failed answer; `NoMemory` if an allocation fails, after which one fetch less may be in flight.
-    fn next(&self, rt: &R, alloc: Global, in_flight: &mut Self::InFlight) -> Found
-        ensures { IfOk result (λ found. IfSome found (λ answer. Self.gives self.now (arc_value answer).url (arc_value answer))) };
+    fn next(
+        &self,
+        rt: &R,
+        alloc: Global,
+        in_flight: &mut Self::InFlight,
+    ) -> Result<Option<Given>, NoMemory>
+        ensures { IfOk result (λ found. IfSome found (λ given.
+            Self.gives self.now (arc_value given.answer).url (arc_value given.answer))) };
 
     /// Gives up what is in flight. A fetch for which somebody else waits too is made to its end.
     fn give_up(&self, rt: &R, alloc: Global, in_flight: Self::InFlight);

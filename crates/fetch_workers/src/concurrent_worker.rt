@@ -98,14 +98,14 @@ impl<'a, R: Wait, S: ConcurrentSource<R>, G: Gate<R>, D: Shared<R>> Worker<'a, R
         ensures { OnOk result (AllOwn (S.gives self.now.source.now) mine.new.items) }
     {
         let next = self.source.next(self.rt, self.alloc, &mut flights.fetches)?;
-        let Some(answer) = next else {
+        let Some(given) = next else {
             return match flights.tickets.pop() {
                 Some(held) => self.fetch_one(held.into_ticket(), mine),
                 None => Err(AssembleFault::Torn),
             };
         };
-        match take_ticket(&mut flights.tickets, answer.url()) {
-            Some(ticket) => self.post(ticket, answer, mine),
+        match take_ticket(&mut flights.tickets, given.answer.url()) {
+            Some(ticket) => self.post(ticket, given, mine),
             // Nobody has asked for it.
             None => Ok(()),
         }

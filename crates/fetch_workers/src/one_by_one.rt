@@ -3,6 +3,7 @@
 ghost use Rattle.std.specs.Prelude.{◌≡◌};
 
 use crate::concurrent_source::ConcurrentSource;
+use crate::given::Given;
 use crate::source::{Found, Source};
 use edge_types::{Answer, NoMemory, PageUrl};
 use plan_compiler::Prepared;
@@ -23,7 +24,7 @@ impl<'a, R, S: Source<R>> Source<R> for OneByOne<'a, S> {
 
     ghost names_url = { λ it url answer given. S.names_url it.source.now url answer given };
 
-    fn fetch(&self, rt: &R, alloc: Global, url: &PageUrl) -> Result<Arc<Answer>, NoMemory> {
+    fn fetch(&self, rt: &R, alloc: Global, url: &PageUrl) -> Result<Given, NoMemory> {
         self.source.fetch(rt, alloc, url)
     }
 
@@ -58,7 +59,12 @@ impl<'a, R, S: Source<R>> ConcurrentSource<R> for OneByOne<'a, S> {
         Ok(())
     }
 
-    fn next(&self, rt: &R, alloc: Global, in_flight: &mut VecDeque<PageUrl>) -> Found {
+    fn next(
+        &self,
+        rt: &R,
+        alloc: Global,
+        in_flight: &mut VecDeque<PageUrl>,
+    ) -> Result<Option<Given>, NoMemory> {
         match in_flight.pop_front() {
             Some(url) => Ok(Some(self.fetch(rt, alloc, &url)?)),
             None => Ok(None),

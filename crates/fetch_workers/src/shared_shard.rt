@@ -8,6 +8,7 @@ ghost use Rattle.fragment_cache.specs.Shown.{begun_answer};
 ghost use Rattle.fragment_cache.specs.Sound.{IsSound, NamesUrl};
 
 use crate::cache_flights::Led;
+use crate::given::{Given, Way};
 use crate::source::Found;
 use crate::tally::CacheTally;
 use edge_types::{Answer, NoMemory, PageUrl};
@@ -34,20 +35,22 @@ struct Shelf {
 
 impl Shelf {
     // Lands a flight, and makes the pick-ups of those who have left it.
-    fn land(&mut self, flight: Flight, answer: Arc<Answer>, now: u64) -> Arc<Answer>
+    fn land(&mut self, flight: Flight, answer: Arc<Answer>, now: u64) -> Given
         requires { (arc_value answer).url ≡ flight.url }
-        ensures { (arc_value result).url ≡ flight.url }
+        ensures { (arc_value result.answer).url ≡ flight.url }
     {
         let number = flight.number();
         let fails = is_failing(&answer);
-        let landed = self.shard.land(flight, answer, now);
-        if fails && !is_failing(&landed) {
+        let answer = self.shard.land(flight, answer, now);
+        let mut way = Way::Fetched;
+        if fails && !is_failing(&answer) {
             self.asked.note_bridge();
+            way = Way::Bridged;
         }
         for _ in 0..self.left.remove(&number).unwrap_or(0) {
             let _ = self.shard.pick(number);
         }
-        landed
+        Given::new(answer, way)
     }
 
     // Begins for a URL, which is counted.
@@ -187,9 +190,9 @@ impl SharedShard {
         flight: Flight,
         answer: Arc<Answer>,
         now: u64,
-    ) -> Arc<Answer>
+    ) -> Given
         requires { (arc_value answer).url ≡ flight.url }
-        ensures { (arc_value result).url ≡ flight.url }
+        ensures { (arc_value result.answer).url ≡ flight.url }
     {
         let landed = self.lock(rt).land(flight, answer, now);
         self.landed.notify_all();

@@ -4,6 +4,7 @@ ghost use Rattle.std.specs.Prelude.{◌≡◌, ℕ, List, IfOk, IfSome};
 ghost use Rattle.std.specs.Arc.{arc_value};
 ghost use Rattle.edge_types.specs.Answered.{Answered};
 
+use crate::given::Given;
 use edge_types::{Answer, NoMemory, PageUrl};
 use plan_compiler::Prepared;
 use std::alloc::Global;
@@ -21,8 +22,8 @@ pub trait Source<R> {
 
     /// Asks for the answer of a URL, and waits for it. What can't be fetched is a failed answer;
     /// `NoMemory` if an allocation fails.
-    fn fetch(&self, rt: &R, alloc: Global, url: &PageUrl) -> Result<Arc<Answer>, NoMemory>
-        ensures { IfOk result (λ answer. gives self.now url.now (arc_value answer)) };
+    fn fetch(&self, rt: &R, alloc: Global, url: &PageUrl) -> Result<Given, NoMemory>
+        ensures { IfOk result (λ given. gives self.now url.now (arc_value given.answer)) };
 
     /// The answer of a URL, if it is there without waiting; by default a source has none. Whoever gets it
     /// doesn't fetch, so a page's gate isn't called.

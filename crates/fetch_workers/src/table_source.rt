@@ -3,9 +3,10 @@
 ghost use Rattle.std.specs.Prelude.{◌≡◌};
 
 use crate::concurrent_source::ConcurrentSource;
+use crate::given::Given;
 use crate::on_behalf::OnBehalf;
 use crate::one_by_one::OneByOne;
-use crate::source::{Found, Source};
+use crate::source::Source;
 use edge_types::{Answer, NoMemory, PageUrl, Table};
 use std::alloc::Global;
 use std::collections::VecDeque;
@@ -45,10 +46,10 @@ impl<R> Source<R> for TableSource {
 
     ghost names_url = { λ table url answer given. ap (λ a. a.url) given };
 
-    fn fetch(&self, _rt: &R, alloc: Global, url: &PageUrl) -> Result<Arc<Answer>, NoMemory> {
+    fn fetch(&self, _rt: &R, alloc: Global, url: &PageUrl) -> Result<Given, NoMemory> {
         match self.table.get(url) {
-            Some(answer) => Ok(Arc::try_clone(answer)?),
-            None => Ok(Arc::new(alloc, Answer::failed(url.share()?))?),
+            Some(answer) => Ok(Given::fetched(Arc::try_clone(answer)?)),
+            None => Ok(Given::fetched(Arc::new(alloc, Answer::failed(url.share()?))?)),
         }
     }
 }
@@ -70,7 +71,12 @@ impl<R> ConcurrentSource<R> for TableSource {
         OneByOne { source: self }.begin(rt, alloc, in_flight, url)
     }
 
-    fn next(&self, rt: &R, alloc: Global, in_flight: &mut VecDeque<PageUrl>) -> Found {
+    fn next(
+        &self,
+        rt: &R,
+        alloc: Global,
+        in_flight: &mut VecDeque<PageUrl>,
+    ) -> Result<Option<Given>, NoMemory> {
         OneByOne { source: self }.next(rt, alloc, in_flight)
     }
 

@@ -8,6 +8,7 @@ ghost use Rattle.fetch_workers.specs.Given.{AllOwn};
 use crate::desk::Turn;
 use crate::fault::AssembleFault;
 use crate::gate::Gate;
+use crate::given::{Given, Way};
 use crate::log::Own;
 use crate::shared_desk::Shared;
 use crate::source::Source;
@@ -66,16 +67,21 @@ impl<'a, R: Wait, S: Source<R>, G: Gate<R>, D: Shared<R>> Worker<'a, R, S, G, D>
     pub(crate) fn post(
         &self,
         ticket: Ticket,
-        answer: Arc<Answer>,
+        given: Given,
         mine: &mut Vec<Own>,
     ) -> Result<(), AssembleFault>
         requires mine { AllOwn (S.gives self.now.source.now) mine.old.items }
-        requires answer { S.gives self.now.source.now ticket.url (arc_value answer) }
+        requires answer { S.gives self.now.source.now ticket.url (arc_value given.answer) }
         ensures { OnOk result (AllOwn (S.gives self.now.source.now) mine.new.items) }
     {
+        let Given { answer, way } = given;
         let (receipt, own) = self.receipt_of(ticket, answer)?;
         let place = self.shared.post(self.rt, receipt)?;
-        match mine.push(Own { place, answer: own }) {
+        match mine.push(Own {
+            place,
+            answer: own,
+            way,
+        }) {
             Ok(()) => Ok(()),
             Err(_) => Err(AssembleFault::NoMemory),
         }
@@ -87,7 +93,7 @@ impl<'a, R: Wait, S: Source<R>, G: Gate<R>, D: Shared<R>> Worker<'a, R, S, G, D>
         ensures { OnOk result (AllOwn (S.gives self.now.source.now) mine.new.items) }
     {
         match self.source.ready(self.rt, self.alloc, ticket.url()) {
-            Ok(Some(answer)) => self.post(ticket, answer, mine),
+            Ok(Some(answer)) => self.post(ticket, Given::new(answer, Way::Kept), mine),
             Ok(None) => {
                 self.shared.set_aside(self.rt, ticket)?;
                 Ok(())
@@ -110,7 +116,7 @@ impl<'a, R: Wait, S: Source<R>, G: Gate<R>, D: Shared<R>> Worker<'a, R, S, G, D>
         }
         self.gate.before_fetch(self.rt, ticket.url());
         match self.source.fetch(self.rt, self.alloc, ticket.url()) {
-            Ok(answer) => self.post(ticket, answer, mine),
+            Ok(given) => self.post(ticket, given, mine),
             Err(NoMemory) => {
                 ticket.give_up();
                 Err(AssembleFault::NoMemory)

@@ -8,7 +8,7 @@ ghost use Rattle.hyper_edge.specs.PageTime.{GivesInTime, names_url};
 
 use crate::departure::ClientWatch;
 use edge_types::{Answer, NoMemory, PageUrl};
-use fetch_workers::{ConcurrentSource, Source};
+use fetch_workers::{ConcurrentSource, Given, Source, Way};
 use plan_compiler::Prepared;
 use std::alloc::Global;
 use std::sync::Arc;
@@ -55,15 +55,15 @@ impl<'a, S> WithinTime<'a, S> {
     }
 
     // What is given for a URL that is asked for too late: what would bridge its failing origin, else a failed answer.
-    fn too_late<R>(&self, rt: &R, alloc: Global, url: &PageUrl) -> Result<Arc<Answer>, NoMemory>
+    fn too_late<R>(&self, rt: &R, alloc: Global, url: &PageUrl) -> Result<Given, NoMemory>
     where
         S: Source<R>,
-        ensures given { IfOk result (λ answer. GivesInTime (S.gives self.now.source.now) url.now (arc_value answer)) }
-        ensures named { IfOk result (λ answer. (arc_value answer).url ≡ url.now) }
+        ensures given { IfOk result (λ given. GivesInTime (S.gives self.now.source.now) url.now (arc_value given.answer)) }
+        ensures named { IfOk result (λ given. (arc_value given.answer).url ≡ url.now) }
     {
         match self.source.bridging(rt, alloc, url)? {
-            Some(answer) => Ok(answer),
-            None => Ok(Arc::new(alloc, Answer::failed(url.share()?))?),
+            Some(answer) => Ok(Given::new(answer, Way::Bridged)),
+            None => Ok(Given::fetched(Arc::new(alloc, Answer::failed(url.share()?))?)),
         }
     }
 }
@@ -79,7 +79,7 @@ impl<'a, R: Clock, S: Source<R>> Source<R> for WithinTime<'a, S> {
 
     ghost names_url = { λ it. names_url (S.gives it.source.now) (S.names_url it.source.now) };
 
-    fn fetch(&self, rt: &R, alloc: Global, url: &PageUrl) -> Result<Arc<Answer>, NoMemory> {
+    fn fetch(&self, rt: &R, alloc: Global, url: &PageUrl) -> Result<Given, NoMemory> {
         if self.is_over(rt) {
             return self.too_late(rt, alloc, url);
         }
@@ -133,7 +133,7 @@ impl<'a, R: Clock, S: ConcurrentSource<R>> ConcurrentSource<R> for WithinTime<'a
         rt: &R,
         alloc: Global,
         in_flight: &mut FlightsInTime<S::InFlight>,
-    ) -> Result<Option<Arc<Answer>>, NoMemory> {
+    ) -> Result<Option<Given>, NoMemory> {
         match in_flight.late.pop() {
             Some(url) => Ok(Some(self.too_late(rt, alloc, &url)?)),
             None => self.source.next(rt, alloc, &mut in_flight.fetches),

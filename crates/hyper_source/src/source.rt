@@ -21,7 +21,7 @@ use crate::request::request_of;
 use crate::round_trip::{Response, round_trip};
 use edge_types::{Answer, NoMemory, PageUrl};
 use fetch_outcomes::FetchFault;
-use fetch_workers::{OnBehalf, Source};
+use fetch_workers::{Given, OnBehalf, Source};
 use origin_health::Bounds;
 use std::alloc::{AllocGlobal, Global};
 use std::hash::RandomState;
@@ -270,10 +270,11 @@ where
 
     ghost names_url = { λ _ _ _ named. named };
 
-    fn fetch(&self, rt: &R, alloc: Global, url: &PageUrl) -> Result<Arc<Answer>, NoMemory> {
+    fn fetch(&self, rt: &R, alloc: Global, url: &PageUrl) -> Result<Given, NoMemory> {
         let origin = self.origin_of(url);
         let came = self.asked(rt, alloc, url, origin);
-        self.noted(rt, alloc, url, origin, came)
+        let answer = self.noted(rt, alloc, url, origin, came)?;
+        Ok(Given::fetched(answer))
     }
 }
 

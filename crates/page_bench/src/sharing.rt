@@ -3,11 +3,11 @@
 
 use bench_tools::inputs::{answer, or_input_error, or_io_error, url};
 use bench_tools::timing::{Least, nanoseconds_each, ratio};
-use edge_types::{Answer, Control, NoMemory, PageUrl, SharedBytes, Table};
-use fetch_workers::{Cache, Clock as Seconds, Source, TableSource};
+use edge_types::{Control, NoMemory, PageUrl, SharedBytes, Table};
+use fetch_workers::{Cache, Clock as Seconds, Given, Source, TableSource};
 use std::alloc::Global;
 use std::rt::Clock;
-use std::sync::{Arc, Wait};
+use std::sync::Wait;
 use std::thread::Threads;
 use std::time::Duration;
 use std::{io, thread};
@@ -42,7 +42,7 @@ impl<R: Clock> Source<R> for Far {
 
     ghost names_url = { λ far url answer given. given };
 
-    fn fetch(&self, rt: &R, alloc: Global, url: &PageUrl) -> Result<Arc<Answer>, NoMemory> {
+    fn fetch(&self, rt: &R, alloc: Global, url: &PageUrl) -> Result<Given, NoMemory> {
         thread::sleep(rt, Duration::from_millis(self.milliseconds));
         self.table.fetch(rt, alloc, url)
     }

@@ -5,7 +5,7 @@ use crate::site::{Site, includes, page_url, ran, table};
 use bench_tools::inputs::or_input_error;
 use bench_tools::timing::{Least, ratio};
 use edge_types::{Answer, NoMemory, PageUrl, Request, Table};
-use fetch_workers::{MAX_WORKERS, Source, TableSource, assemble};
+use fetch_workers::{Given, MAX_WORKERS, Source, TableSource, assemble};
 use plan_runner::MAX_AHEAD;
 use std::alloc::Global;
 use std::rt::Clock;
@@ -35,12 +35,12 @@ impl<R> Source<R> for Ready {
 
     ghost names_url = { λ ready url answer given. given };
 
-    fn fetch(&self, rt: &R, alloc: Global, url: &PageUrl) -> Result<Arc<Answer>, NoMemory> {
+    fn fetch(&self, rt: &R, alloc: Global, url: &PageUrl) -> Result<Given, NoMemory> {
         self.table.fetch(rt, alloc, url)
     }
 
     fn ready(&self, rt: &R, alloc: Global, url: &PageUrl) -> Result<Option<Arc<Answer>>, NoMemory> {
-        Ok(Some(self.table.fetch(rt, alloc, url)?))
+        Ok(Some(self.table.fetch(rt, alloc, url)?.into_answer()))
     }
 }
 
@@ -58,14 +58,14 @@ impl<R: Clock> Source<R> for Slow {
 
     ghost names_url = { λ slow url answer given. given };
 
-    fn fetch(&self, rt: &R, alloc: Global, url: &PageUrl) -> Result<Arc<Answer>, NoMemory> {
+    fn fetch(&self, rt: &R, alloc: Global, url: &PageUrl) -> Result<Given, NoMemory> {
         thread::sleep(rt, Duration::from_millis(FETCH));
         self.table.fetch(rt, alloc, url)
     }
 
     fn ready(&self, rt: &R, alloc: Global, url: &PageUrl) -> Result<Option<Arc<Answer>>, NoMemory> {
         if *url == self.page {
-            Ok(Some(self.table.fetch(rt, alloc, url)?))
+            Ok(Some(self.table.fetch(rt, alloc, url)?.into_answer()))
         } else {
             Ok(None)
         }

@@ -2,7 +2,7 @@
 // the body. A control is `plain`, or `esi` if the body is processed; a number in its place, or behind `esi`, is
 // the max-age, and a second one after a `+` the extension.
 use edge_types::{Answer, Control, NoMemory, Octets, Outcome, PageUrl, SharedBytes, Table};
-use fetch_workers::{Source, TableSource};
+use fetch_workers::{Given, Source, TableSource};
 use std::alloc::Global;
 use std::process::Abort;
 use std::str;
@@ -84,13 +84,14 @@ impl<R> Source<R> for Origin<'_> {
 
     ghost names_url = { λ origin url answer given. given };
 
-    fn fetch(&self, rt: &R, alloc: Global, url: &PageUrl) -> Result<Arc<Answer>, NoMemory> {
+    fn fetch(&self, rt: &R, alloc: Global, url: &PageUrl) -> Result<Given, NoMemory> {
         let number = self.fetches.fetch_add(1, Ordering::SeqCst);
         if number.checked_rem(self.round) == Some(self.refused) {
             return Err(NoMemory);
         }
         if number >= self.ends {
-            return Ok(Arc::new(alloc, Answer::failed(url.share()?))?);
+            let failed = Answer::failed(url.share()?);
+            return Ok(Given::fetched(Arc::new(alloc, failed)?));
         }
         self.table.fetch(rt, alloc, url)
     }

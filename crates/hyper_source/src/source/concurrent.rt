@@ -15,7 +15,7 @@ use crate::source::HyperSource;
 use crate::stream_signals::StreamSignals;
 use edge_types::{Answer, NoMemory, PageUrl};
 use fetch_outcomes::FetchFault;
-use fetch_workers::ConcurrentSource;
+use fetch_workers::{ConcurrentSource, Given};
 use origin_health::Leave;
 use std::alloc::{AllocGlobal, Global};
 use std::net::{Net, SocketAddr, TcpStream};
@@ -244,10 +244,10 @@ where
         rt: &R,
         alloc: Global,
         in_flight: &mut FetchesInFlight,
-    ) -> Result<Option<Arc<Answer>>, NoMemory> {
+    ) -> Result<Option<Given>, NoMemory> {
         for _ in rt.forever() {
             if let Some(answer) = in_flight.answers.pop_front() {
-                return Ok(Some(answer));
+                return Ok(Some(Given::fetched(answer)));
             }
             if let Some(url) = in_flight.released() {
                 self.begin(rt, alloc, in_flight, &url)?;
@@ -263,8 +263,8 @@ where
                     None
                 }
             };
-            if came.is_some() {
-                return Ok(came);
+            if let Some(answer) = came {
+                return Ok(Some(Given::fetched(answer)));
             }
         }
         unreachable!()

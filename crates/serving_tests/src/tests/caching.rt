@@ -2,12 +2,12 @@
 
 use super::{Origin, push_outcome, source_of, url};
 use edge_types::{Answer, NoMemory, PageUrl, Request};
-use fetch_workers::{Cache, Clock, OnBehalf, Source, TableSource, assemble};
+use fetch_workers::{Cache, Clock, Given, OnBehalf, Source, TableSource, assemble};
 use std::alloc::Global;
 use std::fmt::Write;
 use std::process::Abort;
+use std::sync::Wait;
 use std::sync::atomic::{AtomicU64, Ordering};
-use std::sync::{Arc, Wait};
 use std::test::Fail;
 use std::thread;
 use std::thread::Threads;
@@ -28,7 +28,7 @@ fn ask<R: Abort, S: Source<R>>(rt: &R, alloc: Global, source: &S, path: &str) ->
         return b'?';
     };
     match source.fetch(rt, alloc, &url) {
-        Ok(answer) => first_byte(&answer),
+        Ok(given) => first_byte(&given.answer),
         Err(NoMemory) => b'?',
     }
 }
@@ -262,7 +262,7 @@ impl<R> Source<R> for Twofold<'_> {
 
     ghost names_url = { λ it url answer given. given };
 
-    fn fetch(&self, rt: &R, alloc: Global, url: &PageUrl) -> Result<Arc<Answer>, NoMemory> {
+    fn fetch(&self, rt: &R, alloc: Global, url: &PageUrl) -> Result<Given, NoMemory> {
         self.table.fetch(rt, alloc, url)
     }
 }

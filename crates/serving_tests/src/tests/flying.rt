@@ -1,14 +1,14 @@
 //! Pages whose thread has several fetches in flight.
 
 use super::{push_outcome, source_of, url};
-use edge_types::{Answer, NoMemory, PageUrl, Request};
+use edge_types::{NoMemory, PageUrl, Request};
 use fetch_workers::{
-    Assembling, Cache, Clock, ConcurrentSource, OneByOne, OpenGate, Source, TableSource,
+    Assembling, Cache, Clock, ConcurrentSource, Given, OneByOne, OpenGate, Source, TableSource,
 };
 use std::alloc::{AllocGlobal, Global};
 use std::process::Abort;
+use std::sync::Wait;
 use std::sync::atomic::{AtomicU64, Ordering};
-use std::sync::{Arc, Wait};
 use std::test::Fail;
 use std::thread::Threads;
 
@@ -62,7 +62,7 @@ impl<R> Source<R> for Flying<'_> {
 
     ghost names_url = { λ it url answer given. given };
 
-    fn fetch(&self, rt: &R, alloc: Global, url: &PageUrl) -> Result<Arc<Answer>, NoMemory> {
+    fn fetch(&self, rt: &R, alloc: Global, url: &PageUrl) -> Result<Given, NoMemory> {
         self.table.fetch(rt, alloc, url)
     }
 }
@@ -93,7 +93,7 @@ impl<R> ConcurrentSource<R> for Flying<'_> {
         rt: &R,
         alloc: Global,
         in_flight: &mut Vec<PageUrl>,
-    ) -> Result<Option<Arc<Answer>>, NoMemory> {
+    ) -> Result<Option<Given>, NoMemory> {
         let last = in_flight.len().saturating_sub(1);
         let place = match self.order {
             Order::FirstBegun => 0,

@@ -1,9 +1,8 @@
 //! Where fetches of one page meet.
 
-use edge_types::{Answer, NoMemory, PageUrl};
-use fetch_workers::{Gate, Source, TableSource};
+use edge_types::{NoMemory, PageUrl};
+use fetch_workers::{Gate, Given, Source, TableSource};
 use std::alloc::Global;
-use std::sync::Arc;
 use std::sync::atomic::{AtomicU64, Ordering};
 use std::thread;
 use std::time::{Clock, Duration};
@@ -70,7 +69,7 @@ impl<R: Clock> Source<R> for Held<'_> {
 
     ghost names_url = { λ held url answer given. given };
 
-    fn fetch(&self, rt: &R, alloc: Global, url: &PageUrl) -> Result<Arc<Answer>, NoMemory> {
+    fn fetch(&self, rt: &R, alloc: Global, url: &PageUrl) -> Result<Given, NoMemory> {
         self.meeting.before_fetch(rt, url);
         self.table.fetch(rt, alloc, url)
     }
