@@ -6,12 +6,12 @@ import re
 import threading
 import time
 
-from harness import PAGE, PLAIN, TEMPLATE, UNASSEMBLED, Edge, Origin, Wires, before, client, exchange, same, sized, told, wire
+from harness import PAGE, PLAIN, TEMPLATE, UNASSEMBLED, Edge, Origin, Wires, all_at_once, before, client, exchange, same, sized, told, wire
 
 # Apache HTTP Server, "Log Files", "Combined Log Format": no quote and no control character within quotes.
 COMBINED = re.compile(r'(\S+) - - \[(\d\d/[A-Z][a-z]{2}/\d{4}:\d\d:\d\d:\d\d \+0000)\] "([!#-~ ]*)" (\d+) (\d+) "([!#-~ ]+)" "([!#-~ ]+)"')
 PLAIN_LINE = re.compile(r"\d{10,} \S+ \S+ \d+ \d+ \d+ \d+")
-MEMBERS = ["time", "client", "method", "url", "status", "bytes", "microseconds", "answers"]
+MEMBERS = ["time", "client", "method", "url", "status", "bytes", "microseconds", "answers", "hits", "joined", "bridged", "failed"]
 KEPT = ("--keep-alive", "20")
 
 
@@ -113,6 +113,43 @@ def logs_tell_why_a_fragment_failed():
     same("faults", ["IncludeFailed %s%s" % (url, why) for url, (_, why) in zip(urls, rows)], [of_json(line)["fault"] for line in lines])
 
 
+def logs_tell_by_which_ways_answers_came():
+    """A page of five answers, each of which comes in another way once what bridges is no longer fresh, with one fetch at a
+    time and with several; the second of two pages that need one fragment at one time joins the fetch of the first."""
+    kept = "HTTP/1.1 200 OK|surrogate-control: max-age=%s"
+    bridges = [sized(kept % "1+600", "B")]
+    texts = {"/k": sized(kept % "600", "K"), "/x": sized("HTTP/1.1 200 OK", "X"), "/b": lambda _: bridges.pop() if bridges else b""}
+    texts["/p"] = wire(PAGE) + b"".join(b"<esi:include src='/%s' onerror='continue'/>" % name for name in (b"k", b"x", b"b", b"f"))
+    for words in ((), ("--fetches", "8")):
+        bridges[:] = [sized(kept % "1+600", "B")]
+        with Wires(texts) as origin, before(origin, *words, "--log-format", "json", "--accept", "2") as edge:
+            same("a page", (200, b"KXB"), told(edge))
+            time.sleep(1.1)
+            same("the same", (200, b"KXB"), told(edge))
+            same("exit status", 0, edge.ends())
+            lines = [of_json(line) for line in edge.end().decode("ascii").splitlines()]
+        same("ways with %s" % (words,), [(5, 0, 0, 0, 1), (5, 1, 0, 1, 1)], [tuple(line[name] for name in MEMBERS[-5:]) for line in lines])
+    texts = {"/s": lambda _: time.sleep(0.5) or sized("HTTP/1.1 200 OK", "S")}
+    texts.update({path: wire(PAGE + "<esi:include src='/s'/>") for path in ("/p", "/q")})
+    for words in ((), ("--fetches", "8")):
+        with Wires(texts) as origin, before(origin, *words, "--threads", "2", "--log-format", "json", "--accept", "2") as edge:
+            same("two pages", [(200, b"S")] * 2, all_at_once([lambda path=path: told(edge, path) for path in ("/p", "/q")]))
+            same("exit status", 0, edge.ends())
+            lines = [of_json(line) for line in edge.end().decode("ascii").splitlines()]
+        same("joins with %s" % (words,), [(2, 0), (2, 1)], sorted((line["answers"], line["joined"]) for line in lines))
+
+
+def heads_that_are_refused_are_told():
+    """What the HTTP library refuses by itself has a line in each format, behind that of the request before it."""
+    asked = (wire("GET /p HTTP/1.1|host: a.test||"), b"garbage\r\n\r\n", wire("GET /p HTTP/1.1|host: a.test|x: " + "x" * 500000))
+    with Origin(PLAIN) as origin:
+        plain, combined, as_json = [lines_of(origin, ("--log-format", name), asked)[:-1] for name in ("line", "combined", "json")]
+    same("lines", ["N GET http://a.test/p 200 10 2 N", "N - - 400 0 0 N", "N - - 431 0 0 N"], [re.sub(r"^\d+|\d+$", "N", line) for line in plain])
+    same("combined", [("127.0.0.1", "- - HTTP/1.1", status, 0, "-", "-") for status in (400, 431)], [(at, *others) for at, _, *others in map(of_combined, combined[1:])])
+    told_as = [(it["client"], it["method"], it["url"], it["status"], it["answers"], it["fault"]) for it in map(of_json, as_json[1:])]
+    same("objects", [("127.0.0.1", "", "", status, 0, "Unreadable") for status in (400, 431)], told_as)
+
+
 def line_is_the_format_without_a_name():
     """--log and --log-format line say the same, but for the times, and for the order of requests that end at the same moment; another word is refused (see the tests of the program)."""
     asked = (wire("GET /p HTTP/1.1|host: a.test||"), wire("GET / HTTP/1.0||"))
@@ -187,6 +224,8 @@ TESTS = (
     logs_are_read_as_combined,
     logs_are_read_as_json,
     logs_tell_why_a_fragment_failed,
+    logs_tell_by_which_ways_answers_came,
+    heads_that_are_refused_are_told,
     line_is_the_format_without_a_name,
     clients_behind_a_proxy_are_told,
     a_reader_that_stands_still_holds_nobody,

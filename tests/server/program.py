@@ -21,7 +21,7 @@ def the_edge_ends_after_its_connections():
 
 def requests_are_told():
     """With --log a line for each request: seconds, method, URL, status, bytes, answers, microseconds. A
-    fragment that is asked for often is one answer, and what is no request has no line."""
+    fragment that is asked for often is one answer, and what is no request has nothing that was asked."""
     paths = dict(PLAIN, **{"/often": (b"A" + b"<esi:include src='/x'/>" * 20 + b"B", "text/html", TEMPLATE)})
     with Origin(paths) as origin, before(origin, "--log", "--accept", "6") as edge:
         get(edge, "/p?a=1")
@@ -37,6 +37,7 @@ def requests_are_told():
             r"\d{10,} GET http://a\.test/none 404 23 1 \d+",
             r"\d{10,} GET http://a\.test/often 200 162 2 \d+",
             r"\d{10,} PUT \S+ 405 20 0 \d+",
+            r"\d{10,} - - 400 0 0 \d+",
             r"\d{10,} GET / 400 27 0 \d+",
         )
         same("lines", len(wanted), len(lines))

@@ -51,7 +51,7 @@ quoted text = codes "\"" ++ log_escaped (or_dash text) ++ codes "\""
 
 -- the request line, between quotes
 abbrev pub request_line : RequestRecord → List ℕ
-request_line request = codes "\"" ++ log_escaped request.method.items ++ codes " " ++ log_escaped request.target.items ++ codes " " ++ version_text request.version ++ codes "\" "
+request_line request = codes "\"" ++ log_escaped (or_dash request.method.items) ++ codes " " ++ log_escaped (or_dash request.target.items) ++ codes " " ++ version_text request.version ++ codes "\" "
 
 -- who asked, and when
 unfoldable pub log_head : List ℕ → Option IpAddr → List ℕ
@@ -105,8 +105,14 @@ answer_members request =
     number_member (codes "status") request.status ++ number_member (codes "bytes") request.body ++ number_member (codes "microseconds") request.micros
     ++ number_member (codes "answers") request.answers
 
+-- by which ways the page's answers came
+unfoldable pub way_members : RequestRecord → List ℕ
+way_members request =
+    number_member (codes "hits") request.hits ++ number_member (codes "joined") request.joined ++ number_member (codes "bridged") request.bridged
+    ++ number_member (codes "failed") request.failed
+
 abbrev pub json_line : List ℕ → RequestRecord → List ℕ
-json_line date request = time_member date ++ asked_members request ++ answer_members request ++ fault_member request.fault ++ codes "}\n"
+json_line date request = time_member date ++ asked_members request ++ answer_members request ++ way_members request ++ fault_member request.fault ++ codes "}\n"
 
 -- ---- the line of a request, and the one that says how many were lost
 

@@ -144,9 +144,9 @@ fn push_request_line(line: &mut Vec<u8>, request: &RequestRecord) -> Result<(), 
     ensures { OnOk result (line.new.items ≡ line.old.items ++ spec.request_line request.now) }
 {
     line.extend_from_slice(b"\"")?;
-    push_escaped(line, IN_LOG, request.method.as_slice())?;
+    push_escaped(line, IN_LOG, or_dash(request.method.as_slice()))?;
     line.extend_from_slice(b" ")?;
-    push_escaped(line, IN_LOG, request.target.as_slice())?;
+    push_escaped(line, IN_LOG, or_dash(request.target.as_slice()))?;
     line.extend_from_slice(b" ")?;
     line.extend_from_slice(version_text(request.version))?;
     line.extend_from_slice(b"\" ")
@@ -203,6 +203,7 @@ fn push_json_line(
     push_time_member(line, date)?;
     push_asked_members(alloc, line, request)?;
     push_answer_members(line, request)?;
+    push_way_members(line, request)?;
     push_fault_member(line, request.fault.as_ref())?;
     line.extend_from_slice(b"}\n")
 }
@@ -238,6 +239,16 @@ fn push_answer_members(line: &mut Vec<u8>, request: &RequestRecord) -> Result<()
     push_number_member(line, b"bytes", request.body)?;
     push_number_member(line, b"microseconds", request.micros)?;
     push_number_member(line, b"answers", request.answers)
+}
+
+#[tactic(auto, unfolding(crate::specs::Lines::way_members))]
+fn push_way_members(line: &mut Vec<u8>, request: &RequestRecord) -> Result<(), AllocError>
+    ensures { OnOk result (line.new.items ≡ line.old.items ++ spec.way_members request.now) }
+{
+    push_number_member(line, b"hits", request.hits)?;
+    push_number_member(line, b"joined", request.joined)?;
+    push_number_member(line, b"bridged", request.bridged)?;
+    push_number_member(line, b"failed", request.failed)
 }
 
 #[tactic(auto, unfolding(crate::specs::Lines::fault_member))]

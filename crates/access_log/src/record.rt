@@ -93,6 +93,14 @@ pub struct RequestRecord {
     pub body: u64,
     /// The answers that the page asked the source for, its own among them; 0 for a refusal.
     pub answers: u64,
+    /// Those of them that were kept.
+    pub hits: u64,
+    /// Those that came by a fetch which another page had begun.
+    pub joined: u64,
+    /// Those that were kept, and stood in for one that failed or would have come too late.
+    pub bridged: u64,
+    /// Those that didn't come.
+    pub failed: u64,
     /// The microseconds from the request's head until its response has been written, or its connection has ended.
     pub micros: u64,
     /// The field `referer`; empty if absent.

@@ -1,6 +1,7 @@
 //! A connection that the HTTP library serves, and how far it gets.
 
-ghost use Rattle.std.specs.Prelude.{IsSomeAnd};
+ghost use Rattle.std.specs.Prelude.{◌≡◌, IsSomeAnd};
+ghost use Rattle.hyper_edge.specs.Refusals.{status_of_refusal};
 
 use crate::date::DateClock;
 use crate::executor::Executor;
@@ -45,6 +46,27 @@ pub(crate) enum Stop {
     Paused(Pause),
 }
 
+/// How far a connection got.
+#[derive(Drop)]
+pub(crate) enum Went<F: Future> {
+    /// It stopped, and may be gone on with.
+    Stopped(Connection<F>, Stop),
+    /// It has ended; with the status by which the HTTP library refused what is no head, if it did.
+    Ended(Option<u16>),
+}
+
+// The status of the response to what isn't a head of a request: one that is too large, or no HTTP. The HTTP library doesn't
+// tell whether it was 414 that it sent for one that is too large.
+fn status_of_refusal(ended: &hyper::Result<()>) -> Option<u16>
+    ensures { result ≡ status_of_refusal ended.now }
+{
+    match ended {
+        Err(error) if error.is_parse_too_large() => Some(431),
+        Err(error) if error.is_parse() => Some(400),
+        _ => None,
+    }
+}
+
 /// A connection that may be gone on with.
 #[derive(Drop)]
 pub(crate) struct Connection<F: Future> {
@@ -80,16 +102,15 @@ impl<F: Future<Output = hyper::Result<()>>> Connection<F> {
         self.signals.as_ref()?.socket()
     }
 
-    /// Goes on until the connection stops, and says why; `None` once it has ended, or where the executor has no room.
-    pub(crate) fn go_on(
-        self,
-        rt: &impl Wait,
-        executor: &mut Executor,
-    ) -> Option<(Connection<F>, Stop)> {
+    /// Goes on until the connection stops, or has ended, as where the executor has no room.
+    pub(crate) fn go_on(self, rt: &impl Wait, executor: &mut Executor) -> Went<F> {
         let stretch = Stretch {
             connection: Some(self),
         };
-        executor.pool.run_until(rt, stretch).ok()?
+        match executor.pool.run_until(rt, stretch) {
+            Ok(went) => went,
+            Err(_) => Went::Ended(None),
+        }
     }
 
     // Why the connection doesn't go on after a poll, if it doesn't. A pause counts for this poll alone.
@@ -116,13 +137,13 @@ struct Stretch<F: Future> {
 }
 
 impl<F: Future<Output = hyper::Result<()>>> Future for Stretch<F> {
-    type Output = Option<(Connection<F>, Stop)>;
+    type Output = Went<F>;
 
     ghost needs = { λ s n. IsSomeAnd s.connection (λ c. F.needs c.future.future n) };
 
-    fn poll(&mut self, cx: &mut Context<'_>) -> Poll<Option<(Connection<F>, Stop)>> {
+    fn poll(&mut self, cx: &mut Context<'_>) -> Poll<Went<F>> {
         let Some(connection) = self.connection.take() else {
-            return Poll::Ready(None);
+            return Poll::Ready(Went::Ended(None));
         };
         let Connection {
             future,
@@ -130,8 +151,8 @@ impl<F: Future<Output = hyper::Result<()>>> Future for Stretch<F> {
             signals,
         } = connection;
         let mut future = future.into_inner();
-        if let Poll::Ready(_) = future.poll(cx) {
-            return Poll::Ready(None);
+        if let Poll::Ready(ended) = future.poll(cx) {
+            return Poll::Ready(Went::Ended(status_of_refusal(&ended)));
         }
         let connection = Connection {
             future: Pollable::new(future),
@@ -139,7 +160,7 @@ impl<F: Future<Output = hyper::Result<()>>> Future for Stretch<F> {
             signals,
         };
         match connection.stop() {
-            Some(stop) => Poll::Ready(Some((connection, stop))),
+            Some(stop) => Poll::Ready(Went::Stopped(connection, stop)),
             None => {
                 self.connection = Some(connection);
                 Poll::Pending

@@ -1,16 +1,17 @@
 //! What a server reports about the requests that it answered.
 
-ghost use Rattle.std.specs.Prelude.{◌≡◌, ◌/◌, ◌-◌, ◌^◌, min, length, slice_get, option_map, IfSome};
+ghost use Rattle.std.specs.Prelude.{◌≡◌, ◌/◌, ◌-◌, ◌^◌, [], min, length, slice_get, option_map, Some, IfSome};
 ghost use Rattle.std.specs.Arc.{arc_value};
 ghost use Rattle.std.specs.Duration.{as_nanos};
 ghost use Rattle.edge_types.specs.Pieces.{joined};
+ghost use Rattle.access_log.specs.declared.record.Reason.TheVariants.{Unreadable};
 ghost use Rattle.http.specs.Request as http;
 ghost use Rattle.page_http.specs.Sent.{sent};
 ghost use Rattle.hyper_edge.specs.Records.{IsCopyOrEmpty};
 
 use crate::faults::fault_of;
 use crate::responding::Responded;
-use access_log::{RequestRecord, Version};
+use access_log::{Fault, Reason, RequestRecord, Version};
 use edge_types::PageUrl;
 use fetch_outcomes::FetchFault;
 use http::Request;
@@ -118,6 +119,10 @@ fn record_of<R, J: Journal<R>, B>(
     ensures status { result.status ≡ (sent responded.now.response).status }
     ensures body { result.body ≡ length (joined (sent responded.now.response).frames) }
     ensures answers { result.answers ≡ length responded.now.log.items }
+    ensures hits { result.hits ≡ responded.now.ways.kept }
+    ensures joined { result.joined ≡ responded.now.ways.joined }
+    ensures bridged { result.bridged ≡ responded.now.ways.bridged }
+    ensures failed { result.failed ≡ responded.now.ways.failed }
     ensures fault { option_map (λ fault. fault.reason) result.fault ≡ responded.now.reason }
 {
     RequestRecord {
@@ -129,10 +134,48 @@ fn record_of<R, J: Journal<R>, B>(
         status: responded.response.status().as_u16(),
         body: responded.response.body().size_hint().exact().unwrap_or(0),
         answers: responded.log.len() as u64,
+        hits: responded.ways.kept,
+        joined: responded.ways.joined,
+        bridged: responded.ways.bridged,
+        failed: responded.ways.failed,
         micros: 0,
         referer: field_of(alloc, request, REFERER),
         agent: field_of(alloc, request, USER_AGENT),
         fault: fault_of(rt, journal, alloc, responded),
+    }
+}
+
+/// The record of a head that the HTTP library refused by itself with this status. Nothing is known of it but whose it is.
+pub(crate) fn refused_head(alloc: Global, client: Option<IpAddr>, status: u16) -> RequestRecord
+    ensures client { result.client ≡ client }
+    ensures status { result.status ≡ status }
+    ensures method { result.method.items ≡ [] }
+    ensures url { result.url.items ≡ [] }
+    ensures answers { result.answers ≡ 0 }
+    ensures fault { option_map (λ fault. fault.reason) result.fault ≡ Some Unreadable }
+{
+    RequestRecord {
+        client,
+        method: Vec::new(alloc),
+        target: Vec::new(alloc),
+        version: Version::Http11,
+        url: Vec::new(alloc),
+        status,
+        body: 0,
+        answers: 0,
+        hits: 0,
+        joined: 0,
+        bridged: 0,
+        failed: 0,
+        micros: 0,
+        referer: Vec::new(alloc),
+        agent: Vec::new(alloc),
+        fault: Some(Fault {
+            reason: Reason::Unreadable,
+            url: Vec::new(alloc),
+            place: None,
+            cause: None,
+        }),
     }
 }
 

@@ -7,7 +7,9 @@ ghost use Rattle.hyper_edge.specs.Responses as spec;
 use crate::faults::{reason_of, status_of};
 use access_log::Reason;
 use edge_types::{Answer, NoMemory, PageUrl, Request};
-use fetch_workers::{AssembleFault, Assembling, ConcurrentSource, OneByOne, OpenGate, Source};
+use fetch_workers::{
+    AssembleFault, Assembling, ConcurrentSource, OneByOne, OpenGate, Source, WayCounts,
+};
 use http::Response;
 use page_http::{EdgeBody, Field, HeadFault, answer_head, refusal_of, response_of};
 use std::alloc::Global;
@@ -57,12 +59,13 @@ pub(crate) struct RequestHead<'a> {
     pub(crate) fields: &'a [Field<'a>],
 }
 
-/// A response, the answers that it rests on, a page's own first, none for a refusal; and why it isn't a page as it should
-/// be, if it isn't.
+/// A response, the answers that it rests on, a page's own first, none for a refusal, and by which ways they came; and why
+/// it isn't a page as it should be, if it isn't.
 #[derive(Drop)]
 pub(crate) struct Responded {
     pub(crate) response: Response<EdgeBody>,
     pub(crate) log: Vec<Arc<Answer>>,
+    pub(crate) ways: WayCounts,
     pub(crate) reason: Option<Reason>,
 }
 
@@ -137,6 +140,7 @@ where
             Ok(Some(Responded {
                 response,
                 log: page.log,
+                ways: page.ways,
                 reason,
             }))
         }
@@ -154,6 +158,7 @@ pub(crate) fn refused(alloc: Global, status: u16, reason: Reason) -> Result<Resp
     Ok(Responded {
         response: refusal_of(alloc, status)?,
         log: Vec::new(alloc),
+        ways: WayCounts::new(),
         reason: Some(reason),
     })
 }

@@ -2,10 +2,10 @@
 
 ghost use Rattle.hyper_edge.specs.Opening.{GivesPollable};
 
-use crate::connection::{Connection, Stop, http_of};
+use crate::connection::{Connection, Stop, Went, http_of};
 use crate::executor::Executor;
 use crate::handover::{Answered, Asked, Handover, HandsOver};
-use crate::journal::{Journal, NoJournal, Unreported};
+use crate::journal::{Journal, NoJournal, Unreported, refused_head};
 use crate::service::EdgeService;
 use crate::signals::{Pause, Signals};
 use fetch_workers::{ConcurrentSource, OnBehalf};
@@ -124,11 +124,17 @@ where
             mut unreported,
         } = session;
         for _ in self.rt.forever() {
-            let Some((stopped, stop)) = connection.go_on(self.rt, executor) else {
-                self.report(&mut unreported);
-                return None;
+            let stop = match connection.go_on(self.rt, executor) {
+                Went::Stopped(stopped, stop) => {
+                    connection = stopped;
+                    stop
+                }
+                Went::Ended(refusal) => {
+                    self.report(&mut unreported);
+                    self.report_refusal(client, refusal);
+                    return None;
+                }
             };
-            connection = stopped;
             match stop {
                 Stop::Asked(asked) => {
                     let socket = connection.socket();
@@ -198,6 +204,16 @@ where
             closes(&mut response)?;
         }
         Ok(response)
+    }
+
+    // Reports that this client was refused by the HTTP library, if it was.
+    fn report_refusal(&self, client: Option<IpAddr>, refusal: Option<u16>) {
+        if let Some(status) = refusal {
+            if self.journal.is_kept() {
+                let record = refused_head(self.service.alloc(), client, status);
+                self.journal.served(self.rt, &record);
+            }
+        }
     }
 
     // Reports what is to be reported, now that the responses have been written or the connection has ended.
