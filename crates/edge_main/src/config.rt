@@ -104,7 +104,12 @@ fn refused_in(rt: &impl Eprint, file: &str, number: usize, option: Named) -> Sta
     let refusal = option.refusal();
     let reason = refusal.strip_prefix("error: ").unwrap_or(refusal);
     // If standard error can't be written, only the status says it.
-    let _ = eprintln!(rt; "error: {file}:{number}: {reason}");
+    let _ = match option {
+        Named::Origin(_) => eprintln!(rt;
+            "error: {file}:{number}: {reason}; a row of [origins] is an origin, options stand above"
+        ),
+        _ => eprintln!(rt; "error: {file}:{number}: {reason}"),
+    };
     Status::Usage
 }
 

@@ -60,7 +60,7 @@ fn with_addresses<'a>(alloc: Global, command: Command<'a>) -> Result<Command<'a>
         alloc,
         "admin",
         "ADDR",
-        "Where to answer the operator, as 127.0.0.1:9090: GET /health, GET /metrics and POST /stop",
+        "Where to answer the operator, as 127.0.0.1:9090: GET /, /health, /metrics; POST /purge, /stop",
     );
     let command = with_option(command, listen)?;
     let command = with_option(command, origin)?;
