@@ -3,3 +3,4 @@ pub mod Filled
 pub mod Posted
 pub mod Crossings
 mod Ways
+pub mod FailedLegs

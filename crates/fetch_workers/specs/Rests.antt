@@ -1,12 +1,14 @@
 -- What the outcome of an assembled page rests on.
-use Rattle.std.specs.Prelude.{◌≡◌, ◌≤◌, ℕ, List}
+use Rattle.std.specs.Prelude.{◌≡◌, ◌≤◌, ℕ, List, Option, IfSome}
 use Rattle.edge_types.specs.declared.request.Request.{Request}
 use Rattle.edge_types.specs.Answered.{Answered}
-use Rattle.edge_types.specs.Outcome.{Shown}
+use Rattle.edge_types.specs.declared.outcome.PageFault.TheVariants.{IncludeFailed}
+use Rattle.edge_types.specs.Outcome.{Shown, Fault}
 use Rattle.edge_types.specs.Table.{Agrees}
 use Rattle.esi_meaning.specs.Ahead.{IsLegal}
 use Rattle.esi_meaning.specs.Meaning.{outcome}
 use Rattle.esi_meaning.specs.State.{Done, state}
+use Rattle.plan_machine.specs.LastLeg.{failed_answer}
 use Rattle.fetch_workers.specs.Given.{AllGiven}
 use Rattle.fetch_workers.specs.declared.assembler.TheConstants.{MAX_FETCHES, MAX_WORKERS}
 
@@ -26,6 +28,11 @@ pub record RestsOn (request : Request) (levels : ℕ) (url : List ℕ) (log : Li
   pub alone : state request log levels url ≡ Done result
   -- over every table that agrees with them, whatever else it has
   pub over_every_table : (table : List Answered) → Agrees log table → outcome request table levels url ≡ result
+
+-- where an include failed the page, this is the answer of the leg at which it failed
+pub record IsFailedLeg (request : Request) (levels : ℕ) (url : List ℕ) (log : List Answered) (result : Shown) (leg : Option Answered) : Type 0 where
+  pub failed : result ≡ Fault IncludeFailed → leg ≡ failed_answer request log levels url
+  pub others : IfSome leg (λ _. result ≡ Fault IncludeFailed)
 
 -- a page that was assembled of a source's answers: what it logged, and its outcome
 pub record IsAssembled (gives : List ℕ → Answered → Type 0) (request : Request) (levels : ℕ) (url : List ℕ) (log : List Answered) (result : Shown) : Type 0 where

@@ -1,17 +1,17 @@
 //! Pages that are assembled by several threads.
 
-ghost use Rattle.std.specs.Prelude.{◌≡◌, ◌<◌, ◌≤◌, map, IfOk, IfErr, IsTrue};
+ghost use Rattle.std.specs.Prelude.{◌≡◌, ◌<◌, ◌≤◌, map, option_map, IfOk, IfErr, IsTrue};
 ghost use Rattle.std.specs.Arc.{arc_value};
-ghost use Rattle.edge_types.specs.Outcome.{shown};
+ghost use Rattle.edge_types.specs.Outcome.{Shown, shown};
 ghost use Rattle.esi_meaning.specs.Ahead.{IsLegal};
 ghost use Rattle.esi_meaning.specs.Meaning.{AreLevels};
 ghost use Rattle.answer_board.specs.Board.{log_of};
 ghost use Rattle.plan_runner.specs.declared.page.TheConstants.{MAX_AHEAD};
-ghost use Rattle.plan_runner.specs.Page.{accepted};
+ghost use Rattle.plan_runner.specs.Page.{Finished, accepted};
 ghost use Rattle.fetch_workers.specs.declared.log.Own.{Own};
 ghost use Rattle.fetch_workers.specs.Faults.{fault_of_page};
 ghost use Rattle.fetch_workers.specs.Given.{AllOwn};
-ghost use Rattle.fetch_workers.specs.Rests.{AreFetches, AreWorkers, IsAssembled, RestsOn};
+ghost use Rattle.fetch_workers.specs.Rests.{AreFetches, AreWorkers, IsAssembled, IsFailedLeg, RestsOn};
 ghost use Rattle.fetch_workers.specs.Ways.{AreWaysOf, counts_of};
 
 use crate::concurrent_source::ConcurrentSource;
@@ -70,6 +70,9 @@ pub struct Assembled {
     pub log: Vec<Arc<Answer>>,
     /// By which ways they came, one for each answer.
     pub ways: WayCounts,
+    /// Where an include failed the page, the answer of the leg at which it failed, if that leg asked for one: see
+    /// `Page::failed_leg`.
+    pub failed_leg: Option<Arc<Answer>>,
 }
 
 /// Assembles a page with at most `workers` threads, the calling one among them. The others are started
@@ -98,6 +101,7 @@ where
     ensures page { IfOk result (λ page.
         IsAssembled (S.gives source.now) request levels url (map arc_value page.log.items) (shown (arc_value page.outcome))) }
     ensures ways { IfOk result (λ page. AreWaysOf (map arc_value page.log.items) page.ways) }
+    ensures failed_leg { IfOk result (λ page. IsFailedLeg request levels url (map arc_value page.log.items) (shown (arc_value page.outcome)) (option_map arc_value page.failed_leg)) }
 {
     assemble_gated(
         rt, alloc, source, &OpenGate, url, request, ahead, workers, levels,
@@ -128,6 +132,7 @@ where
     ensures page { IfOk result (λ page.
         IsAssembled (S.gives source.now) request levels url (map arc_value page.log.items) (shown (arc_value page.outcome))) }
     ensures ways { IfOk result (λ page. AreWaysOf (map arc_value page.log.items) page.ways) }
+    ensures failed_leg { IfOk result (λ page. IsFailedLeg request levels url (map arc_value page.log.items) (shown (arc_value page.outcome)) (option_map arc_value page.failed_leg)) }
 {
     let how = Assembling::new(ahead, workers, levels);
     how.assemble(rt, alloc, &OneByOne { source }, gate, url, request)
@@ -213,6 +218,7 @@ impl Assembling {
         ensures page { IfOk result (λ page.
             IsAssembled (S.gives source.now) request self.levels url (map arc_value page.log.items) (shown (arc_value page.outcome))) }
         ensures ways { IfOk result (λ page. AreWaysOf (map arc_value page.log.items) page.ways) }
+        ensures failed_leg { IfOk result (λ page. IsFailedLeg request self.levels url (map arc_value page.log.items) (shown (arc_value page.outcome)) (option_map arc_value page.failed_leg)) }
     {
         let page = self.accept(alloc, &url, &request)?;
         let shared = SharedDesk::new(alloc, page, self.threads());
@@ -293,6 +299,7 @@ fn put_together<R, S: Source<R>>(
     ensures page { IfOk result (λ page.
         IsAssembled (S.gives _source.now) request.now levels url.now (map arc_value page.log.items) (shown (arc_value page.outcome))) }
     ensures ways { IfOk result (λ page. AreWaysOf (map arc_value page.log.items) page.ways) }
+    ensures failed_leg { IfOk result (λ page. IsFailedLeg request.now levels url.now (map arc_value page.log.items) (shown (arc_value page.outcome)) (option_map arc_value page.failed_leg)) }
 {
     own.sort_unstable_by_key(|o| o.place);
     compared(alloc, page, own, url, request, levels)
@@ -312,25 +319,44 @@ fn compared(
     ensures legal { IfOk result (λ page. IsLegal request.now url.now (map arc_value page.log.items)) }
     ensures outcome { IfOk result (λ page. RestsOn request.now levels url.now (map arc_value page.log.items) (shown (arc_value page.outcome))) }
     ensures ways { IfOk result (λ page. page.ways ≡ counts_of (map (λ (o : Own). o.way) own.items)) }
+    ensures failed_leg { IfOk result (λ page. IsFailedLeg request.now levels url.now (map arc_value page.log.items) (shown (arc_value page.outcome)) (option_map arc_value page.failed_leg)) }
 {
     let outcome = told(&mut page)?;
     if !is_asked_for(&page, url, request, levels) || !is_log_of(&page, own.as_slice()) {
         return Err(AssembleFault::Torn);
     }
     legal(&page);
+    let failed_leg = failed_leg(&page)?;
     let (log, ways) = answers_of(alloc, own)?;
-    Ok(Assembled { outcome, log, ways })
+    Ok(Assembled {
+        outcome,
+        log,
+        ways,
+        failed_leg,
+    })
 }
 
 // The outcome of a page that is done; of any other, why it has none.
 fn told(page: &mut Page) -> Result<Arc<Outcome>, AssembleFault>
     ensures outcome { IfOk result (λ outcome. RestsOn page.new.request page.new.levels page.new.url (log_of page.new.board) (shown (arc_value outcome))) }
+    ensures standing { IfOk result (λ outcome. page.new.standing ≡ Finished (shown (arc_value outcome))) }
     ensures fault { IfErr result (λ fault. fault ≡ fault_of_page page.new.standing) }
 {
     match page.advance() {
         Ok(State::Done(outcome)) => Ok(outcome),
         Ok(State::Waiting(_)) => Err(AssembleFault::Torn),
         Err(_) => Err(AssembleFault::NoMemory),
+    }
+}
+
+// An owner of the answer of the leg at which the page failed, if an include failed it.
+fn failed_leg(page: &Page) -> Result<Option<Arc<Answer>>, NoMemory>
+    ensures { IfOk result (λ leg. (outcome : Shown) → page.now.standing ≡ Finished outcome
+        → IsFailedLeg page.now.request page.now.levels page.now.url (log_of page.now.board) outcome (option_map arc_value leg)) }
+{
+    match page.failed_leg() {
+        Some(answer) => Ok(Some(Arc::try_clone(answer)?)),
+        None => Ok(None),
     }
 }
 

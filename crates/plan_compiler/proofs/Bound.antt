@@ -6,7 +6,7 @@ use Rattle.esi_vars.specs.Values.{substituted}
 use Rattle.esi_expr.specs.Truth.{holds}
 use Rattle.esi_meaning.specs.Run.{Run, followed}
 use Rattle.esi_meaning.specs.Run as meaning
-use Rattle.plan_compiler.specs.Plan.{Step, Text, Values, Test, Jump, Try, EndTry, Leg, Fail}
+use Rattle.plan_compiler.specs.Plan.{Step, Text, Values, Test, Jump, Try, EndTry, Leg}
 use Rattle.plan_compiler.specs.Machine.{Handler, Next, nearer, outer, failing, resumed, act, flow, flow_within}
 use Rattle.plan_compiler.specs.Laws.{FramesAreShort}
 
@@ -35,7 +35,6 @@ module _ (r : Request) (leg : List Part → Run) where
     same_act (Try skip) hs out = same 0 (record { distance = skip; mark = out } ∷ hs) out
     same_act (EndTry skip) hs out = same skip (outer hs) out
     same_act (Leg source) hs out = same_leg (leg source) hs out
-    same_act Fail hs out = same_failing hs
 
   enough : (stopped : Run) (ss : List Step) (k : ℕ) → length ss ≤ k → (n : ℕ) (hs : List Handler) (out : List ℕ) → flow_within stopped k r leg n ss hs out ≡ flow r leg n ss hs out
   enough stopped [] k h n hs out = refl

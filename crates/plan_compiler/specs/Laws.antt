@@ -13,7 +13,7 @@ use Rattle.plan_compiler.specs.declared.inline.Inline.{Inline}
 use Rattle.plan_compiler.specs.Urls.{entry_for}
 use Rattle.plan_compiler.specs.Ahead.{plan_sources}
 use Rattle.plan_compiler.specs.Machine.{frame_run, flow_within}
-use Rattle.plan_compiler.specs.Plan.{Step, Text, Values, Test, Jump, Try, EndTry, Leg, Fail}
+use Rattle.plan_compiler.specs.Plan.{Step, Text, Values, Test, Jump, Try, EndTry, Leg}
 use Rattle.plan_compiler.specs.Bodies.{IsSingle}
 use Rattle.plan_compiler.specs.Code.{code_of}
 
@@ -38,7 +38,6 @@ skip_of (Jump skip) = skip
 skip_of (Try skip) = skip
 skip_of (EndTry skip) = skip
 skip_of (Leg source) = 0
-skip_of Fail = 0
 
 -- No step of a tree jumps past the end of its plan.
 abbrev pub JumpsStay : Type 0

@@ -5,7 +5,7 @@ use Rattle.esi_vars.specs.declared.part.Part.{Part}
 use Rattle.esi_vars.specs.Values.{substituted}
 use Rattle.esi_expr.specs.Truth.{holds}
 use Rattle.esi_meaning.specs.Run.{Run, gives, followed}
-use Rattle.plan_compiler.specs.Plan.{Step, Text, Values, Test, Jump, Try, EndTry, Leg, Fail}
+use Rattle.plan_compiler.specs.Plan.{Step, Text, Values, Test, Jump, Try, EndTry, Leg}
 
 -- where a failure goes on: this many steps from here, with the output cut back to the mark
 pub record Handler : Type 0 where
@@ -47,7 +47,6 @@ act r leg (Jump skip) next hs out = next skip hs out
 act r leg (Try skip) next hs out = next 0 (record { distance = skip; mark = out } ∷ hs) out
 act r leg (EndTry skip) next hs out = next skip (outer hs) out
 act r leg (Leg source) next hs out = followed (leg source) (resumed next hs out)
-act r leg Fail next hs out = failing next hs
 
 -- the steps that are left, after those to skip: their legs in order, and the whole output at their end
 abbrev pub flow : Request → (List Part → Run) → ℕ → List Step → List Handler → List ℕ → Run

@@ -36,6 +36,4 @@ pub enum Step {
     },
     /// A `src` or an `alt` that is tried.
     Leg(Parts),
-    /// A failure.
-    Fail,
 }

@@ -20,7 +20,7 @@ use Rattle.esi_meaning.specs.Inlines.{inline_for}
 use Rattle.esi_meaning.specs.Meaning.{elements_run, reply_run, named_run, resolved_run, leg_run, page_run, most_legs, urls, text_outcome, run_outcome, outcome, asked}
 use Rattle.esi_meaning.specs.Run.{Leg as RunLeg, Asks, AsksNobody, Run, gives, tries, followed}
 use Rattle.esi_meaning.specs.State.{State, Waiting, Done, is_missing, lacks, state_from, state, waits_at}
-use Rattle.plan_compiler.specs.Plan.{Step, Text, Values, Test, Jump, Try, EndTry, Leg, Fail}
+use Rattle.plan_compiler.specs.Plan.{Step, Text, Values, Test, Jump, Try, EndTry, Leg}
 use Rattle.plan_compiler.specs.Code.{code_of}
 use Rattle.plan_compiler.specs.declared.inline.Inline.{Inline}
 use Rattle.plan_compiler.specs.Urls.{entry_for}
@@ -126,7 +126,6 @@ module _ (r : Request) (log : List Answered) where
     doing_waits (Try skip) m v e = absurd (cc)
     doing_waits (EndTry skip) m v e = absurd (cc)
     doing_waits (Leg s) m v e = leg_if_waits s (nat_lt legs most_legs) refl m v e
-    doing_waits Fail m v e = absurd (cc)
 
     too_many : (leg : Run) → TriesSome leg → most_legs ≤ legs → OneTooMany legs (legged leg)
     too_many leg some full = record { leg = some.leg; rest = legged some.rest; first = ap legged some.is; full = full }
@@ -159,7 +158,6 @@ module _ (r : Request) (log : List Answered) where
     doing_many (Try skip) e = absurd (cc)
     doing_many (EndTry skip) e = absurd (cc)
     doing_many (Leg s) e = leg_if_many s (nat_lt legs most_legs) refl e
-    doing_many Fail e = absurd (cc)
 
   here_waits : (legs : ℕ) (out : List (List ℕ)) (f : Frame) (fs : List Frame) → IsSingle f.tree → f.at < f.end → (o : Option Step) → slice_get (code_of f.tree) f.at ≡ o → (n : ℕ) (w : List ℕ)
       → step_here r log legs out f fs o ≡ Waits n w → AsksNext r log legs (whole_of r log out (f ∷ fs)) n w

@@ -7,7 +7,7 @@ use Rattle.edge_types.specs.Table.{is_of, answer_of}
 use Rattle.esi_vars.specs.declared.part.Part.{Part}
 use Rattle.esi_vars.specs.Values.{substituted}
 use Rattle.esi_meaning.specs.Meaning.{most_legs}
-use Rattle.plan_compiler.specs.Plan.{Step, Text, Values, Test, Jump, Try, EndTry, Leg, Fail}
+use Rattle.plan_compiler.specs.Plan.{Step, Text, Values, Test, Jump, Try, EndTry, Leg}
 use Rattle.plan_compiler.specs.Code.{code_of}
 use Rattle.plan_compiler.specs.declared.inline.Inline.{Inline}
 use Rattle.plan_compiler.specs.Urls.{entry_for}
@@ -57,7 +57,6 @@ module _ (r : Request) (log more : List Answered) where
   doing_stays legs out f fs (Try skip) m e = e
   doing_stays legs out f fs (EndTry skip) m e = e
   doing_stays legs out f fs (Leg s) m e = if_stays (nat_lt legs most_legs) (leg_at r log (legs + 1) out f fs s f.level) (leg_at r (log ++ more) (legs + 1) out f fs s f.level) (leg_stays (legs + 1) out f fs s f.level) m e
-  doing_stays legs out f fs Fail m e = e
 
   here_stays : (legs : ℕ) (out : List (List ℕ)) (f : Frame) (fs : List Frame) (o : Option Step) → Stays (step_here r log legs out f fs o) (step_here r (log ++ more) legs out f fs o)
   here_stays legs out f fs None m e = e

@@ -4,6 +4,7 @@ pub mod Flows
 pub mod Stacks
 pub mod Keeps
 pub mod Stands
+pub mod LastLeg
 pub mod Ends
 pub mod Progress
 pub mod Ending

@@ -13,7 +13,7 @@ use Rattle.esi_expr.specs.Truth.{holds}
 use Rattle.esi_tree.specs.Tree.{Elements}
 use Rattle.esi_tree.specs.Reading.{tree_of}
 use Rattle.esi_meaning.specs.Meaning.{most_legs}
-use Rattle.plan_compiler.specs.Plan.{Step, Text, Values, Test, Jump, Try, EndTry, Leg, Fail}
+use Rattle.plan_compiler.specs.Plan.{Step, Text, Values, Test, Jump, Try, EndTry, Leg}
 use Rattle.plan_compiler.specs.Code.{code_of}
 use Rattle.plan_compiler.specs.declared.inline.Inline.{Inline}
 use Rattle.plan_compiler.specs.Urls.{entry_for}
@@ -110,7 +110,6 @@ module _ (r : Request) (log : List Answered) where
   doing_leaves legs work out f fs h (Try skip) n e = goes_leaves legs work out (handled f f.at (record { to = f.at + skip; mark = length out } ∷ f.handlers) ∷ fs) h n e
   doing_leaves legs work out f fs h (EndTry skip) n e = goes_leaves legs work out (handled f (f.at + skip) (without_first f.handlers) ∷ fs) (omega (arith, h)) n e
   doing_leaves legs work out f fs h (Leg s) n e = leg_leaves legs work out f fs s (nat_lt legs most_legs) refl n e
-  doing_leaves legs work out f fs h Fail n e = unwound_leaves legs work out (f ∷ fs) h n e
 
   here_leaves : (legs : ℕ) (out : List (List ℕ)) (f : Frame) (fs : List Frame) → f.at < f.end → (o : Option Step) (n : Machine) → step_here r log legs out f fs o ≡ Went n → Leaves legs (weight (f ∷ fs)) n
   here_leaves legs out f fs within None n e = absurd (cc)

@@ -8,7 +8,7 @@ use Rattle.edge_types.specs.Table.{answer_of}
 use Rattle.esi_vars.specs.declared.part.Part.{Part}
 use Rattle.esi_vars.specs.Values.{substituted}
 use Rattle.esi_meaning.specs.Meaning.{most_legs}
-use Rattle.plan_compiler.specs.Plan.{Step, Text, Values, Test, Jump, Try, EndTry, Leg, Fail}
+use Rattle.plan_compiler.specs.Plan.{Step, Text, Values, Test, Jump, Try, EndTry, Leg}
 use Rattle.plan_compiler.specs.Code.{code_of}
 use Rattle.plan_compiler.specs.declared.inline.Inline.{Inline}
 use Rattle.plan_compiler.specs.Urls.{entry_for}
@@ -101,7 +101,6 @@ module _ (r : Request) (log : List Answered) where
   doing_rests legs out f fs (Try skip) e = absurd (cc)
   doing_rests legs out f fs (EndTry skip) e = absurd (cc)
   doing_rests legs out f fs (Leg s) e = leg_if_rests legs out f fs s (nat_lt legs most_legs) e
-  doing_rests legs out f fs Fail e = absurd (cc)
 
   here_rests : (legs : ℕ) (out : List (List ℕ)) (f : Frame) (fs : List Frame) (o : Option Step) → step_here r log legs out f fs o ≡ Rests → o ≡ None
   here_rests legs out f fs None e = refl

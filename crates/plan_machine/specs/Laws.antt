@@ -14,6 +14,7 @@ use Rattle.edge_types.specs.declared.outcome.PageFault.TheVariants.{TooManyLegs}
 use Rattle.edge_types.specs.Outcome.{Fault}
 use Rattle.edge_types.specs.Table.{reply_of}
 use Rattle.plan_compiler.specs.Bodies.{IsSingle}
+use Rattle.plan_machine.specs.LastLeg.{last_url, tried_in}
 use Rattle.plan_machine.specs.Progress.{weight, Ready}
 use Rattle.plan_machine.specs.Rests.{text_so_far, still_to_come}
 use Rattle.plan_compiler.specs.Plan.{Step}
@@ -61,6 +62,13 @@ abbrev pub EndsAsStated : Type 0
 EndsAsStated =
     (request : Request) (log : List Answered) (levels : ℕ) (page : List ℕ) (tree : Elements) (status : ℕ) (content_type : List ℕ) → IsPage log page tree status content_type
     → (steps : ℕ) (machine : Machine) → after request log steps (start levels page tree) ≡ Some machine → machine.frames ≡ [] → state request log levels page ≡ Done (text_outcome status content_type (text_so_far machine.failed machine.out))
+
+-- A page that fails does so at the last leg that it tries, which is the one that its last step tried.
+abbrev pub FailsAtTheLastLeg : Type 0
+FailsAtTheLastLeg =
+    (request : Request) (log : List Answered) (levels : ℕ) (page : List ℕ) (tree : Elements) → IsSingle tree
+    → (steps : ℕ) (machine next : Machine) → after request log steps (start levels page tree) ≡ Some machine → step request log machine ≡ Went next → next.failed ≡ true
+    → last_url (page_run request log levels page tree).legs ≡ last_url (tried_in request machine.frames)
 
 -- Each step tries one more leg, of which there are few, or leaves less to do.
 abbrev pub StepsFall : Type 0

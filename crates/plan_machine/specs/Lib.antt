@@ -1,4 +1,5 @@
 pub mod Machine
+pub mod LastLeg
 pub mod Rests
 pub mod Progress
 pub mod Laws

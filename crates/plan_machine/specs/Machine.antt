@@ -12,7 +12,7 @@ use Rattle.esi_expr.specs.Truth.{holds}
 use Rattle.esi_tree.specs.Tree.{Elements}
 use Rattle.esi_tree.specs.Reading.{tree_of}
 use Rattle.esi_meaning.specs.Meaning.{most_legs}
-use Rattle.plan_compiler.specs.Plan.{Step, Text, Values, Test, Jump, Try, EndTry, Leg, Fail}
+use Rattle.plan_compiler.specs.Plan.{Step, Text, Values, Test, Jump, Try, EndTry, Leg}
 use Rattle.plan_compiler.specs.Code.{code_of}
 use Rattle.plan_compiler.specs.declared.inline.Inline.{Inline}
 use Rattle.plan_compiler.specs.Urls.{entry_for}
@@ -117,7 +117,6 @@ module _ (r : Request) (log : List Answered) where
   doing legs out f fs (Try skip) = Went (goes legs out (handled f f.at (record { to = f.at + skip; mark = length out } ∷ f.handlers) ∷ fs))
   doing legs out f fs (EndTry skip) = Went (goes legs out (handled f (f.at + skip) (without_first f.handlers) ∷ fs))
   doing legs out f fs (Leg s) = if nat_lt legs most_legs then leg_at (legs + 1) out f fs s f.level else TooMany
-  doing legs out f fs Fail = Went (unwound legs out (f ∷ fs))
 
   abbrev pub step_here : ℕ → List (List ℕ) → Frame → List Frame → Option Step → Next
   step_here legs out f fs None = Rests

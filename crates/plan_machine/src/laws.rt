@@ -1,6 +1,6 @@
 //! Laws of the machine: each is the contract of a function that does nothing.
 ghost use Rattle.plan_machine.specs.Headline.{WhatIsToldIsTrue, SomethingIsTold};
-ghost use Rattle.plan_machine.specs.Laws.{StepsStay, FlowAfter, ComesToTheSame, WaitsAsStated, TooManyAsStated, EndsAsStated, StepsFall, OneNumberOfSteps};
+ghost use Rattle.plan_machine.specs.Laws.{StepsStay, FlowAfter, ComesToTheSame, WaitsAsStated, TooManyAsStated, EndsAsStated, FailsAtTheLastLeg, StepsFall, OneNumberOfSteps};
 
 /// What a page reports, after whatever number of steps over the logged answers, is true over every
 /// table that agrees with them: the URL that it waits for is missing, and asked; the outcome is the
@@ -35,6 +35,14 @@ pub fn stops_as_stated()
     ensures waits { WaitsAsStated }
     ensures too_many { TooManyAsStated }
     ensures ends { EndsAsStated }
+{}
+
+/// A page that fails does so at the last leg that it tries, which is the one that its last step tried.
+/// Takes no memory.
+///
+/// Our profile.
+pub fn fails_at_the_last_leg()
+    ensures { FailsAtTheLastLeg }
 {}
 
 /// Each step tries one leg more, of which there are few, or leaves less to do. Takes no memory.

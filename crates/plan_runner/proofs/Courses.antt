@@ -163,6 +163,7 @@ module _ (r : Request) (L : ℕ) (u : List ℕ) (b : board.State) where
         page = own.page;
         stands = record { count = 0; there = first_after r (log_of b) (start L u own.tree) ∙ ap Some (sym here); steps = ap (λ (q : Progress). q.steps) is };
         placed = subst (λ (x : code_machine.Machine). ArePlaced b x.frames) (sym machine) (placed (record { answer = a; tree = planned.t; there = sym there; is_processed = form.0; is_tree = planned.read }));
+        going = ap (λ (x : Machine). x.failed) here;
         ready = subst (λ (x : Machine). Ready x.failed x.frames) (sym here) (settled_ready (record { url = u; tree = own.tree; level = L; at = 0; end = length (code_of own.tree); handlers = [] } ∷ []));
       }
 

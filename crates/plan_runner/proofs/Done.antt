@@ -15,7 +15,7 @@ use Rattle.esi_meaning.specs.Meaning.{most_legs}
 use Rattle.esi_meaning.specs.State.{State, Done}
 use Rattle.plan_compiler.specs.declared.inline.Inline.{Inline}
 use Rattle.plan_compiler.specs.Code.{code_of}
-use Rattle.plan_compiler.specs.Plan.{Step, Text, Values, Test, Jump, Try, EndTry, Leg, Fail}
+use Rattle.plan_compiler.specs.Plan.{Step, Text, Values, Test, Jump, Try, EndTry, Leg}
 use Rattle.plan_compiler.specs.Urls.{entry_for}
 use Rattle.plan_machine.specs.Machine.{Frame, Machine, Next, Went, Waits, TooMany, Rests, asking_leg, named_leg, resolved_leg, leg_at, doing, step_here, step_in, step, moved, after, start}
 use Rattle.plan_machine.specs.Told.{told_by, told_at, told_of_tree, told_of_reply, told_of_answer, told}
@@ -71,7 +71,6 @@ module _ (r : Request) (log more : List Answered) where
   doing_ends legs out f fs (Try skip) = went_ends _ _
   doing_ends legs out f fs (EndTry skip) = went_ends _ _
   doing_ends legs out f fs (Leg s) = if_ends (nat_lt legs most_legs) (leg_at r log (legs + 1) out f fs s f.level) (leg_at r (log ++ more) (legs + 1) out f fs s f.level) (leg_makes r log (legs + 1) out f fs s f.level)
-  doing_ends legs out f fs Fail = went_ends _ _
 
   here_ends : (legs : ℕ) (out : List (List ℕ)) (f : Frame) (fs : List Frame) (o : Option Step) → EndStays (step_here r log legs out f fs o) (step_here r (log ++ more) legs out f fs o)
   unfolding EndStays

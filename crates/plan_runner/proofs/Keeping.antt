@@ -17,7 +17,7 @@ use Rattle.answer_board.specs.Sound.{IsBoard}
 use Rattle.answer_board.proofs.Slots.{slice_get-set_same}
 use Rattle.answer_board.proofs.Stays.{answer_at-keeps}
 use Rattle.plan_machine.specs.Laws.{IsPage}
-use Rattle.plan_machine.specs.Machine.{Frame, Machine, after}
+use Rattle.plan_machine.specs.Machine.{Frame, Machine, after, start}
 use Rattle.plan_machine.specs.Progress.{Ready}
 use Rattle.plan_machine.specs.Told.{told}
 use Rattle.plan_machine.proofs.Growth.{found_in_more, after_stays}
@@ -29,6 +29,7 @@ use Rattle.plan_runner.specs.declared.page.Page.TheInside.{Inside}
 use Rattle.plan_runner.specs.Ahead.{Opening, opened_by}
 use Rattle.plan_runner.specs.Board.{StandsBoard, IsWhole}
 use Rattle.plan_runner.specs.Calls.{TakesIn, Posted, with_opening, Awaits}
+use Rattle.plan_runner.specs.LastLeg.{IsLegOf}
 use Rattle.plan_runner.specs.Page as page
 use Rattle.plan_runner.specs.Page.{Page, Standing}
 use Rattle.plan_runner.specs.Kept.{standing_of, seen, IsStage, IsKept}
@@ -37,6 +38,7 @@ use Rattle.plan_runner.specs.Running.{IsTemplate, IsRunning, IsDone}
 use Rattle.plan_runner.specs.Shown.{url_in, tree_in, shown_frame, shown_frames, shown_machine, IsPlaced, ArePlaced}
 use Rattle.plan_runner.proofs.Boards.{claim_urls, fill_urls, whole_same, whole_filled, whole_opens, whole_opened, whole_few, may_come, legal_on}
 use Rattle.plan_runner.proofs.Done.{done_stays}
+use Rattle.plan_runner.proofs.LastLegs.{failed_at_moves}
 
 module _ (b c : State) (more : List Answered) (keeps : KeepsFilled b c) (log : log_of c ≡ log_of b ++ more) where
   placed_moves : (f : code_frame.Frame) → IsPlaced b f → IsPlaced c f
@@ -87,6 +89,7 @@ module _ (b c : State) (more : List Answered) (keeps : KeepsFilled b c) (log : l
     stands = stands_moves r _ p h.placed h.stands;
     placed = all_placed_move p.machine.frames h.placed;
     ready = subst (λ (fs : List Frame). Ready p.machine.failed fs) (frames_stay p.machine.frames h.placed) h.ready;
+    going = h.going;
   }
 
   done_moves : (r : Request) (L : ℕ) (u : List ℕ) (steps : ℕ) (o : Shown) → IsDone r L u b steps o → IsDone r L u c steps o
@@ -96,6 +99,14 @@ module _ (b c : State) (more : List Answered) (keeps : KeepsFilled b c) (log : l
     planned = template_moves u h.count h.planned;
     steps_are = h.steps_are;
   }
+
+  pub leg_moves : (r : Request) (L : ℕ) (u : List ℕ) (last : Option ℕ) (s : Stage) → IsLegOf r b L u last s → IsLegOf r c L u last s
+  leg_moves r L u last stage.Unread h = tt
+  leg_moves r L u last stage.Running h = tt
+  leg_moves r L u last (stage.Done outcome) h = λ e.
+      let f = h e in
+      record { tree = f.tree; status = f.status; content_type = f.content_type; page = page_moves u f.tree f.status f.content_type f.page; failed_at = failed_at_moves b c more keeps log r (start L u f.tree) last f.failed_at }
+  leg_moves r L u last stage.Broken h = tt
 
   pub stage_moves : (r : Request) (L : ℕ) (u : List ℕ) (p : Progress) (s : Stage) → IsStage r L u b p s → IsStage r L u c p s
   stage_moves r L u p stage.Unread h = h
@@ -151,6 +162,7 @@ kept_claimed p c ticket step keeps log sound h = record {
   legal = subst (IsLegal p.request p.url) (sym log) h.legal;
   board_is = board_same p.request p.levels p.url p.ahead p.room p.board c p.stage (claim_urls p.board c ticket step) log h.board_is;
   stage_is = stage_moves p.board c [] keeps (log ∙ sym (append-nil (log_of p.board))) p.request p.levels p.url p.progress p.stage h.stage_is;
+  leg_is = leg_moves p.board c [] keeps (log ∙ sym (append-nil (log_of p.board))) p.request p.levels p.url p.last p.stage h.leg_is;
 }
 
 -- an answer came in
@@ -171,6 +183,7 @@ module _ (p : Inside) (c : State) (x : Receipt) (unbroken : p.stage ≡ stage.Br
     legal = legal_then;
     board_is = board_whole p.request p.levels p.url p.ahead p.room c c p.stage unbroken whole_then;
     stage_is = stage_moves p.board c (x.answer ∷ []) keeps log p.request p.levels p.url p.progress p.stage h.stage_is;
+    leg_is = leg_moves p.board c (x.answer ∷ []) keeps log p.request p.levels p.url p.last p.stage h.leg_is;
   }
 
   -- slots were opened behind it
@@ -190,6 +203,7 @@ module _ (p : Inside) (c : State) (x : Receipt) (unbroken : p.stage ≡ stage.Br
         legal = subst (IsLegal p.request p.url) (sym same) legal_then;
         board_is = board_whole p.request p.levels p.url p.ahead room d d p.stage unbroken whole;
         stage_is = stage_moves p.board d (x.answer ∷ []) all (same ∙ log) p.request p.levels p.url p.progress p.stage h.stage_is;
+        leg_is = leg_moves p.board d (x.answer ∷ []) all (same ∙ log) p.request p.levels p.url p.last p.stage h.leg_is;
       }
 
   -- not all could be opened
@@ -200,6 +214,7 @@ module _ (p : Inside) (c : State) (x : Receipt) (unbroken : p.stage ≡ stage.Br
     legal = subst (IsLegal p.request p.url) (sym same) legal_then;
     board_is = omega (arith, few, whole_few p.request p.levels p.url p.ahead p.room c filled whole_then);
     stage_is = tt;
+    leg_is = tt;
   }
 
 -- it waits for this URL, which has a slot now
@@ -212,18 +227,20 @@ kept_waits p progress d w depth number unbroken h running waits opens keeps log 
   legal = subst (IsLegal p.request p.url) (sym log) h.legal;
   board_is = whole_opens p.request p.levels p.url p.ahead p.room p.board d w depth number h.sound h.legal waits opens (whole_of p unbroken h);
   stage_is = stage_moves p.board d [] keeps (log ∙ sym (append-nil (log_of p.board))) p.request p.levels p.url progress stage.Running running;
+  leg_is = tt;
 }
 
 -- a growth was refused
 pub kept_spoiled : (p : Inside) (c : State) (progress : Progress) (s : Stage) → c ≡ p.board → s ≡ stage.Broken → IsKept p → IsKept (record p { board = c; progress = progress; stage = s })
 kept_spoiled p c progress s same broken h =
     subst (λ (b : State). IsKept (record p { board = b; progress = progress; stage = s })) (sym same)
-    (subst (λ (x : Stage). IsKept (record p { progress = progress; stage = x })) (sym broken) (record { sound = h.sound; levels = h.levels; legal = h.legal; board_is = few_slots p h; stage_is = tt }))
+    (subst (λ (x : Stage). IsKept (record p { progress = progress; stage = x })) (sym broken) (record { sound = h.sound; levels = h.levels; legal = h.legal; board_is = few_slots p h; stage_is = tt; leg_is = tt }))
 
 -- it came to this
-pub kept_came : (p : Inside) (progress : Progress) (s : Stage) → (p.stage ≡ stage.Broken → ⊥) → (s ≡ stage.Broken → ⊥) → IsKept p → IsStage p.request p.levels p.url p.board progress s → IsKept (record p { progress = progress; stage = s })
-kept_came p progress s unbroken other h is =
-    record { sound = h.sound; levels = h.levels; legal = h.legal; board_is = board_whole p.request p.levels p.url p.ahead p.room p.board p.board s other (whole_of p unbroken h); stage_is = is }
+pub kept_came : (p : Inside) (progress : Progress) (s : Stage) (last : Option ℕ) → (p.stage ≡ stage.Broken → ⊥) → (s ≡ stage.Broken → ⊥) → IsKept p → IsStage p.request p.levels p.url p.board progress s → IsLegOf p.request p.board p.levels p.url last s
+    → IsKept (record p { progress = progress; stage = s; last = last })
+kept_came p progress s last unbroken other h is leg =
+    record { sound = h.sound; levels = h.levels; legal = h.legal; board_is = board_whole p.request p.levels p.url p.ahead p.room p.board p.board s other (whole_of p unbroken h); stage_is = is; leg_is = leg }
 
 -- a page that goes on isn't broken
 pub goes_on : (p : Inside) (old : Page) → seen p ≡ old → old.standing ≡ page.Underway → p.stage ≡ stage.Broken → ⊥

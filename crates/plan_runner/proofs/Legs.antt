@@ -1,5 +1,5 @@
 -- A leg, as the code goes about it.
-use Rattle.std.proofs.Common.{◌≡◌, ℕ, ◌-◌, ◌+◌, ◌<◌, ◌≤◌, true, false, nat_lt, lt-ltb, le-ltb, List, [], ◌∷◌, refl, sym, ◌∙◌, ap}
+use Rattle.std.proofs.Common.{◌≡◌, ℕ, ◌-◌, ◌+◌, ◌<◌, ◌≤◌, true, false, nat_lt, lt-ltb, le-ltb, List, [], ◌∷◌, Option, None, refl, sym, ◌∙◌, ap}
 use Rattle.edge_types.specs.declared.request.Request.{Request}
 use Rattle.edge_types.specs.Answered.{Answered}
 use Rattle.esi_meaning.specs.declared.limits.TheConstants.{MAX_LEGS}
@@ -10,15 +10,18 @@ use Rattle.plan_compiler.specs.Plan.{Leg}
 use Rattle.plan_compiler.specs.Urls.{entries_of}
 use Rattle.answer_board.specs.Board.{State, answer_at, log_of}
 use Rattle.plan_machine.specs.declared.handler.Handler.{Handler}
+use Rattle.plan_machine.specs.LastLeg.{leg_as}
 use Rattle.plan_machine.specs.Machine.{Frame, Machine, Next, Went, Waits, TooMany, goes, moved, unwound, leg_at, doing}
 use Rattle.plan_runner.specs.declared.frames.Frame as code_frame
 use Rattle.plan_runner.specs.declared.leg.Setting.{Setting}
 use Rattle.plan_runner.specs.declared.leg.Target as code
 use Rattle.plan_runner.specs.declared.leg.Target.TheVariants.{Nowhere, Inside, Missing, Found}
 use Rattle.plan_runner.specs.declared.machine.Machine as code_machine
+use Rattle.plan_runner.specs.LastLeg.{IsHeldAt, IsLast}
 use Rattle.plan_runner.specs.Reached.{with_frame}
 use Rattle.plan_runner.specs.Shown.{shown_frame, shown_frames, shown_machine}
 use Rattle.plan_runner.specs.Targets.{target_of, acted, found_at, shown_target}
+use Rattle.plan_runner.proofs.LastLegs.{leg_slot, leg_inside_slot}
 use Rattle.plan_runner.proofs.Targets.{leg_acts}
 
 module _ (setting : Setting) (machine : code_machine.Machine) (frame : code_frame.Frame) (s : List Part) where
@@ -83,3 +86,19 @@ module _ (setting : Setting) (machine : code_machine.Machine) (frame : code_fram
         ∙ ap Went (sym (opened
         ∙ ap (λ (n : ℕ). goes (legs + 1) out (shown_frame b (record { slot = frame.slot; at = from; end = to; level = n; handlers = handlers }) ∷ f ∷ fs)) below
         ∙ ap (λ (hs : List Handler). goes (legs + 1) out (shown_frame b (record { slot = frame.slot; at = from; end = to; level = frame.level - 1; handlers = hs }) ∷ f ∷ fs)) none))
+
+    -- the slot that the machine remembers after it
+    leads_here : shown_target b target ≡ target_of r log f.url (entries f.tree) s f.level
+    leads_here = rw (← url, ← named) leads
+
+    abbrev IsLastHere : Option ℕ → Type 0
+    IsLastHere last = IsLast b last (leg_as r f s f.level ∷ [])
+
+    pub last_nowhere : target ≡ Nowhere → IsLastHere None
+    last_nowhere is = leg_slot r b f None None s f.level (ap (shown_target b) (sym is) ∙ leads_here) tt
+
+    pub last_inside : (from to : ℕ) → target ≡ Inside from to → IsLastHere None
+    last_inside from to is = leg_inside_slot r b f from to s f.level (ap (shown_target b) (sym is) ∙ leads_here)
+
+    pub last_found : (number : ℕ) (last : Option ℕ) → target ≡ Found number → IsHeldAt b last (answer_at b.slots number) → IsLastHere last
+    last_found number last is held = leg_slot r b f last (answer_at b.slots number) s f.level (ap (shown_target b) (sym is) ∙ leads_here) held

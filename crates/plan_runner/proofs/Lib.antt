@@ -1,5 +1,6 @@
 pub mod Placing
 pub mod Replies
+pub mod LastLegs
 pub mod Targets
 pub mod Legs
 pub mod Stepping

@@ -12,7 +12,7 @@ use Rattle.plan_runner.specs.declared.events.Event.TheVariants as event
 use Rattle.plan_runner.specs.declared.page.State as told
 use Rattle.plan_runner.specs.Calls.{told_state}
 use Rattle.plan_runner.specs.Events.{Held, IsPost, Happens, Happen, Advances, receipt_of, empty_handed}
-use Rattle.plan_runner.specs.Holding.{IsSameBut}
+use Rattle.plan_runner.specs.Holding.{IsAtEnd, IsSameBut}
 use Rattle.plan_runner.specs.Page.{Page, accepted}
 use Rattle.plan_runner.proofs.Holding.{is_posted}
 
@@ -51,3 +51,7 @@ over_after table u r ahead L before s after result same adv is h =
 
 pub outcome_after : (table : List Answered) (u : List ℕ) (r : Request) (ahead L : ℕ) (p : Page) (o : Shown) → IsSameBut (accepted u r ahead L) p → o ≡ outcome p.request table p.levels p.url → o ≡ outcome r table L u
 outcome_after table u r ahead L p o same is = is ∙ rw (same.request, same.levels, same.url) refl
+
+pub at_end_after : (table : List Answered) (u : List ℕ) (r : Request) (ahead L : ℕ) (before after result : Page) (o : Shown) → IsSameBut (accepted u r ahead L) before → IsAtEnd table before after o → result ≡ after → IsAtEnd table (accepted u r ahead L) result o
+at_end_after table u r ahead L before after result o same end is =
+    subst (λ (p : Page). IsAtEnd table (accepted u r ahead L) p o) (sym is) (record { same = same_on (accepted u r ahead L) before after same end.same; standing = end.standing; agrees = end.agrees })

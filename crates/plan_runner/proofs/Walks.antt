@@ -16,7 +16,7 @@ use Rattle.plan_compiler.specs.declared.plan.Plan.{Plan}
 use Rattle.plan_compiler.specs.Ahead.{NextSources, step_sources, sources_from}
 use Rattle.plan_compiler.specs.Bodies.{entries}
 use Rattle.plan_compiler.specs.Code.{code_of}
-use Rattle.plan_compiler.specs.Plan.{Step, Text, Values, Test, Jump, Try, EndTry, Leg, Fail}
+use Rattle.plan_compiler.specs.Plan.{Step, Text, Values, Test, Jump, Try, EndTry, Leg}
 use Rattle.plan_compiler.specs.Laws.{skip_of}
 use Rattle.plan_compiler.specs.Prepared.{IsPlanOf}
 use Rattle.plan_compiler.specs.Shown.{steps_in}
@@ -70,7 +70,6 @@ step_parts r (Jump skip) next = refl
 step_parts r (Try skip) next = refl
 step_parts r (EndTry skip) next = refl
 step_parts r (Leg source) next = refl
-step_parts r Fail next = refl
 
 skipped : (r : Request) (n : ℕ) (ss : List Step) → sources_from r n ss ≡ sources_from r zero (drop n ss)
 skipped r zero [] = refl
@@ -193,7 +192,6 @@ passes r (Jump skip) = omega arith
 passes r (Try skip) = omega arith
 passes r (EndTry skip) = omega arith
 passes r (Leg source) = omega arith
-passes r Fail = omega arith
 
 pub keeps_on : (a b c : State) → KeepsFilled a b → KeepsFilled b c → KeepsFilled a c
 keeps_on a b c ab bc n s here filled = bc n s (ab n s here filled) filled

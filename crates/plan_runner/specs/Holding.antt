@@ -1,12 +1,13 @@
 -- What holds between the events of a page.
 use Rattle.std.specs.Prelude.{◌≡◌, ℕ, suc, ◌+◌, ◌==◌, Bool, true, false, List, [], ◌∷◌, slice_get, Option, Some, None, IsSome, is_none, count_by, ⊤}
 use Rattle.edge_types.specs.Answered.{Answered}
+use Rattle.edge_types.specs.Outcome.{Shown}
 use Rattle.edge_types.specs.Table.{Agrees}
 use Rattle.esi_meaning.specs.Meaning.{asked}
 use Rattle.answer_board.specs.Board.{Standing, Unclaimed, Claimed, Filled, Slot, Ticket, urls, number_of, is_unclaimed, first_unclaimed, log_of}
 use Rattle.answer_board.specs.Sound.{one_if, unfilled}
 use Rattle.plan_runner.specs.Events.{Held}
-use Rattle.plan_runner.specs.Page.{Page, Underway, Broken}
+use Rattle.plan_runner.specs.Page.{Page, Underway, Finished, Broken}
 
 abbrev pub is_claimed : Standing → Bool
 is_claimed Unclaimed = false
@@ -62,6 +63,12 @@ pub record IsSameBut (old new : Page) : Type 0 where
   pub url : new.url ≡ old.url
   pub request : new.request ≡ old.request
   pub levels : new.levels ≡ old.levels
+
+-- the page has come to its end over this table, with this outcome
+pub record IsAtEnd (table : List Answered) (old new : Page) (outcome : Shown) : Type 0 where
+  pub same : IsSameBut old new
+  pub standing : new.standing ≡ Finished outcome
+  pub agrees : Agrees (log_of new.board) table
 
 abbrev pub ClaimsOne : Bool → Page → Page → Type 0
 ClaimsOne true old new = suc (unclaimed new.board.slots) ≡ unclaimed old.board.slots

@@ -10,6 +10,7 @@ use Rattle.plan_runner.specs.declared.page.Page.TheInside.{Inside}
 use Rattle.plan_runner.specs.declared.page.Stage.{Stage}
 use Rattle.plan_runner.specs.declared.page.Stage.TheVariants.{Unread, Running, Done, Broken}
 use Rattle.plan_runner.specs.Board.{StandsBoard}
+use Rattle.plan_runner.specs.LastLeg.{IsLegOf}
 use Rattle.plan_runner.specs.Page as page
 use Rattle.plan_runner.specs.Page.{Standing}
 use Rattle.plan_runner.specs.Running.{IsRunning, IsDone}
@@ -37,3 +38,4 @@ pub record IsKept (p : Inside) : Type 0 where
   pub legal : IsLegal p.request p.url (log_of p.board)
   pub board_is : StandsBoard p.request p.levels p.url p.ahead p.room p.board p.stage
   pub stage_is : IsStage p.request p.levels p.url p.board p.progress p.stage
+  pub leg_is : IsLegOf p.request p.board p.levels p.url p.last p.stage

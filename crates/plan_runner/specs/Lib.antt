@@ -3,6 +3,7 @@ pub mod Reached
 pub mod Resumed
 pub mod Targets
 pub mod Plain
+pub mod LastLeg
 pub mod Running
 pub mod Ahead
 pub mod Walk

@@ -1,5 +1,5 @@
 -- How far a page is, over the answers that are logged.
-use Rattle.std.specs.Prelude.{◌≡◌, ◌⊎◌, ℕ, ◌+◌, min, List, Some, None}
+use Rattle.std.specs.Prelude.{◌≡◌, ◌⊎◌, ℕ, ◌+◌, min, false, List, Some, None}
 use Rattle.edge_types.specs.declared.request.Request.{Request}
 use Rattle.edge_types.specs.declared.outcome.PageFault.TheVariants.{PageFetch, BadTemplate, IncludeFailed, TooManyLegs}
 use Rattle.edge_types.specs.Answered.{Answered}
@@ -17,6 +17,7 @@ use Rattle.plan_runner.specs.declared.course.Begun.{Begun}
 use Rattle.plan_runner.specs.declared.course.Begun.TheVariants as begun
 use Rattle.plan_runner.specs.declared.course.Came.{Came}
 use Rattle.plan_runner.specs.declared.course.Came.TheVariants as came
+use Rattle.plan_runner.specs.LastLeg.{FailsBy}
 use Rattle.plan_runner.specs.Resumed.{StandsAt}
 use Rattle.plan_runner.specs.Shown.{shown_frames, shown_machine, ArePlaced}
 
@@ -45,6 +46,7 @@ module _ (r : Request) (L : ℕ) (u : List ℕ) (b : State) where
     pub stands : StandsAt r b (start L u tree) p
     pub placed : ArePlaced b p.machine.frames
     pub ready : Ready p.machine.failed (shown_frames b p.machine.frames)
+    pub going : p.machine.failed ≡ false
 
   -- after some number of steps the page reports this outcome, and the count of steps is this number
   pub record IsDone (steps : ℕ) (outcome : Shown) : Type 0 where
@@ -58,7 +60,7 @@ module _ (r : Request) (L : ℕ) (u : List ℕ) (b : State) where
   abbrev pub Begins : Progress → Progress → Begun → Type 0
   Begins old new begun.Missing = (answer_of (log_of b) u ≡ None) × (new ≡ old)
   Begins old new begun.Running = IsRunning new
-  Begins old new (begun.Done outcome) = IsDone 0 (shown outcome) × (new ≡ old)
+  Begins old new (begun.Done outcome) = IsDone 0 (shown outcome) × (new ≡ old) × (shown outcome ≡ Fault IncludeFailed → ⊥)
 
   -- the machine waits here for this URL
   pub record IsWaiting (p : Progress) (level : ℕ) (w : List ℕ) : Type 0 where
@@ -69,4 +71,4 @@ module _ (r : Request) (L : ℕ) (u : List ℕ) (b : State) where
   abbrev pub Comes : Progress → Came → Type 0
   Comes p came.Unread = (answer_of (log_of b) u ≡ None) × (p.steps ≡ 0)
   Comes p (came.Waits level w) = IsWaiting p level w
-  Comes p (came.Done outcome) = IsDone p.steps (shown outcome)
+  Comes p (came.Done outcome) = IsDone p.steps (shown outcome) × FailsBy r b L u p.machine.last (shown outcome)

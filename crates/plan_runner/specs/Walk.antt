@@ -7,7 +7,7 @@ use Rattle.esi_expr.specs.Truth.{holds}
 use Rattle.esi_vars.specs.declared.part.Part.{Part}
 use Rattle.esi_vars.specs.Values.{substituted}
 use Rattle.plan_compiler.specs.declared.inline.Inline.{Inline}
-use Rattle.plan_compiler.specs.Plan.{Step, Text, Values, Test, Jump, Try, EndTry, Leg, Fail}
+use Rattle.plan_compiler.specs.Plan.{Step, Text, Values, Test, Jump, Try, EndTry, Leg}
 use Rattle.plan_compiler.specs.Urls.{entry_of}
 use Rattle.answer_board.specs.Board.{number_of}
 use Rattle.plan_runner.specs.Ahead.{Opening, with_url}
@@ -21,7 +21,6 @@ passed_by r (Jump skip) = skip
 passed_by r (Try skip) = 0
 passed_by r (EndTry skip) = 0
 passed_by r (Leg source) = 0
-passed_by r Fail = 0
 
 -- the source of a step
 abbrev pub sources_at : Step → List (List Part)
@@ -32,7 +31,6 @@ sources_at (Jump skip) = []
 sources_at (Try skip) = []
 sources_at (EndTry skip) = []
 sources_at (Leg source) = source ∷ []
-sources_at Fail = []
 
 abbrev pub unless_entry : List ℕ → Option Inline → Option (List ℕ)
 unless_entry w (Some entry) = None

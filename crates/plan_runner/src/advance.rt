@@ -4,7 +4,9 @@ ghost use Rattle.answer_board.specs.Board.{log_of};
 ghost use Rattle.esi_meaning.specs.Meaning.{most_legs};
 ghost use Rattle.plan_machine.specs.Machine as spec;
 ghost use Rattle.plan_machine.specs.Machine.{step};
+ghost use Rattle.plan_machine.specs.LastLeg.{tried_in};
 ghost use Rattle.plan_machine.specs.Progress.{weight, Falls, Ready};
+ghost use Rattle.plan_runner.specs.LastLeg.{FailsAt, Remembers};
 ghost use Rattle.plan_runner.specs.Reached.{Reaches, Stops};
 ghost use Rattle.plan_runner.specs.Resumed.{StandsAt, Told, IfWent};
 ghost use Rattle.plan_runner.specs.Shown.{shown_machine, shown_frames, ArePlaced};
@@ -28,6 +30,7 @@ pub(crate) fn take_step(machine: &mut Machine, setting: &Setting<'_>) -> Result<
     ensures reached { IfOk result (λ reached. Reaches
         (step setting.now.request.now (log_of setting.now.board.now) (shown_machine setting.now.board.now machine.old))
         (shown_machine setting.now.board.now machine.old) (shown_machine setting.now.board.now machine.new) reached) }
+    ensures last { IfOk result (λ reached. Remembers setting.now.board.now (tried_in setting.now.request.now (shown_frames setting.now.board.now machine.old.frames)) machine.old machine.new reached) }
     ensures placed { OnOk result (ArePlaced setting.now.board.now machine.new.frames) }
 {
     let Some(frame) = machine.frames.pop() else {
@@ -58,6 +61,7 @@ fn take_counted(progress: &mut Progress, setting: &Setting<'_>) -> Result<Reache
     requires placed { ArePlaced setting.now.board.now progress.old.machine.frames }
     requires ready { Ready progress.old.machine.failed (shown_frames setting.now.board.now progress.old.machine.frames) }
     ensures stands { OnOk result ((first : spec.Machine) → StandsAt setting.now.request.now setting.now.board.now first progress.old → StandsAt setting.now.request.now setting.now.board.now first progress.new) }
+    ensures fails { OnOk result ((first : spec.Machine) → StandsAt setting.now.request.now setting.now.board.now first progress.old → FailsAt setting.now.request.now setting.now.board.now first progress.old.machine → FailsAt setting.now.request.now setting.now.board.now first progress.new.machine) }
     ensures told { IfOk result (λ reached. Told (step setting.now.request.now (log_of setting.now.board.now) (shown_machine setting.now.board.now progress.new.machine)) reached) }
     ensures falls { IfOk result (λ reached. IfWent reached (Falls progress.old.machine.legs (weight (shown_frames setting.now.board.now progress.old.machine.frames)) (shown_machine setting.now.board.now progress.new.machine))) }
     ensures placed { OnOk result (ArePlaced setting.now.board.now progress.new.machine.frames) }
@@ -77,6 +81,7 @@ fn run_to_leg(progress: &mut Progress, setting: &Setting<'_>) -> Result<Reached,
     requires placed { ArePlaced setting.now.board.now progress.old.machine.frames }
     requires ready { Ready progress.old.machine.failed (shown_frames setting.now.board.now progress.old.machine.frames) }
     ensures stands { OnOk result ((first : spec.Machine) → StandsAt setting.now.request.now setting.now.board.now first progress.old → StandsAt setting.now.request.now setting.now.board.now first progress.new) }
+    ensures fails { OnOk result ((first : spec.Machine) → StandsAt setting.now.request.now setting.now.board.now first progress.old → FailsAt setting.now.request.now setting.now.board.now first progress.old.machine → FailsAt setting.now.request.now setting.now.board.now first progress.new.machine) }
     ensures told { IfOk result (λ reached. Told (step setting.now.request.now (log_of setting.now.board.now) (shown_machine setting.now.board.now progress.new.machine)) reached) }
     ensures further { IfOk result (λ reached. IfWent reached ((progress.new.machine.legs ≡ progress.old.machine.legs + 1) × (progress.new.machine.legs ≤ most_legs))) }
     ensures placed { OnOk result (ArePlaced setting.now.board.now progress.new.machine.frames) }
@@ -100,6 +105,7 @@ pub(crate) fn advance(progress: &mut Progress, setting: &Setting<'_>) -> Result<
     requires placed { ArePlaced setting.now.board.now progress.old.machine.frames }
     requires ready { Ready progress.old.machine.failed (shown_frames setting.now.board.now progress.old.machine.frames) }
     ensures stands { OnOk result ((first : spec.Machine) → StandsAt setting.now.request.now setting.now.board.now first progress.old → StandsAt setting.now.request.now setting.now.board.now first progress.new) }
+    ensures fails { OnOk result ((first : spec.Machine) → StandsAt setting.now.request.now setting.now.board.now first progress.old → FailsAt setting.now.request.now setting.now.board.now first progress.old.machine → FailsAt setting.now.request.now setting.now.board.now first progress.new.machine) }
     ensures told { IfOk result (λ reached. Told (step setting.now.request.now (log_of setting.now.board.now) (shown_machine setting.now.board.now progress.new.machine)) reached) }
     ensures stops { IfOk result (λ reached. Stops reached) }
     ensures placed { OnOk result (ArePlaced setting.now.board.now progress.new.machine.frames) }

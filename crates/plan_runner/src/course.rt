@@ -144,6 +144,7 @@ fn ended(setting: &Setting<'_>, url: &PageUrl, progress: &mut Progress) -> Resul
     ensures shown { IfOk result (λ o. (tree : Elements) (status : ℕ) (content_type : List ℕ) → IsPage (log_of setting.now.board.now) url.now tree status content_type
         → shown o ≡ text_outcome status content_type (text_so_far progress.old.machine.failed progress.old.machine.out)) }
     ensures steps { progress.new.steps ≡ progress.old.steps }
+    ensures last { progress.new.machine.last ≡ progress.old.machine.last }
 {
     if progress.machine.failed {
         return Ok(Outcome::Fault(PageFault::IncludeFailed));

@@ -10,7 +10,7 @@ ghost use Rattle.answer_board.specs.Board.{log_of};
 ghost use Rattle.plan_machine.specs.Headline.{IsTrueOver};
 ghost use Rattle.plan_runner.specs.Calls.{told_state};
 ghost use Rattle.plan_runner.specs.Events.{Happen, Ran, Advances, empty_handed};
-ghost use Rattle.plan_runner.specs.Holding.{IsHeld};
+ghost use Rattle.plan_runner.specs.Holding.{IsAtEnd, IsHeld};
 ghost use Rattle.plan_runner.specs.Page.{accepted};
 
 use crate::hand::Hand;
@@ -86,7 +86,8 @@ pub fn run_events(
 
 /// Runs a page over a table by these events, in order, and then to its end: it goes on to where it
 /// waits, what is unclaimed is claimed, and the table's answer is posted for the oldest ticket in
-/// hand, until the page is done. Whatever the events are, its outcome is that over the table.
+/// hand, until the page is done. Whatever the events are, its outcome is that over the table. The page is
+/// returned too, since it knows more than its outcome, as which leg failed it.
 ///
 /// `ahead` is how many slots posts may open ahead, at most `MAX_AHEAD`. `NoMemory` if an allocation
 /// fails.
@@ -100,12 +101,14 @@ pub fn run_to_end(
     ahead: u16,
     levels: u8,
     events: &[Event],
-) -> Result<Arc<Outcome>, NoMemory>
+) -> Result<(Page, Arc<Outcome>), NoMemory>
     requires ahead { ahead ≤ MAX_AHEAD }
     requires levels { AreLevels levels }
-    ensures { IfOk result (λ result. shown (arc_value result) ≡ outcome request table.now levels url) }
+    ensures outcome { IfOk result (λ (page, done). shown (arc_value done) ≡ outcome request table.now levels url) }
+    ensures page { IfOk result (λ (page, done). IsAtEnd table.now (accepted url request ahead levels) page (shown (arc_value done))) }
 {
     let mut hand = Hand::accept(alloc, url, request, ahead, levels)?;
     run_all(&mut hand, table, events)?;
-    hand.finish(table)
+    let outcome = hand.finish(table)?;
+    Ok((hand.into_page(), outcome))
 }

@@ -8,7 +8,7 @@ ghost use Rattle.answer_board.specs.Board.{log_of};
 ghost use Rattle.plan_machine.specs.Headline.{IsTrueOver};
 ghost use Rattle.plan_runner.specs.Calls.{told_state};
 ghost use Rattle.plan_runner.specs.Events.{IsClaim, IsPost, Advances, answered_by, empty_handed};
-ghost use Rattle.plan_runner.specs.Holding.{IsHeld, IsSameBut, ClaimsOne, OnlyClaims, left};
+ghost use Rattle.plan_runner.specs.Holding.{IsHeld, IsAtEnd, IsSameBut, ClaimsOne, OnlyClaims, left};
 ghost use Rattle.plan_runner.specs.Page.{accepted};
 
 use crate::page::{MAX_AHEAD, Page, PageError, PostFault, State};
@@ -211,6 +211,7 @@ impl Hand {
     fn round(&mut self, table: &Table) -> Result<Option<Arc<Outcome>>, NoMemory>
         requires { IsHeld table.now self.old }
         ensures done { IfOk result (λ done. IfSome done (λ o. shown (arc_value o) ≡ outcome self.old.page.request table.now self.old.page.levels self.old.page.url)) }
+        ensures end { IfOk result (λ done. IfSome done (λ o. IsAtEnd table.now self.old.page self.new.page (shown (arc_value o)))) }
         ensures held { IfOk result (λ done. IfNone done (IsHeld table.now self.new)) }
         ensures same { IfOk result (λ done. IfNone done (IsSameBut self.old.page self.new.page)) }
         ensures less { IfOk result (λ done. IfNone done (left table.now self.new.page < left table.now self.old.page)) }
@@ -229,7 +230,8 @@ impl Hand {
     /// Goes on, claims and posts the oldest ticket's answer until the page is done.
     pub(crate) fn finish(&mut self, table: &Table) -> Result<Arc<Outcome>, NoMemory>
         requires { IsHeld table.now self.old }
-        ensures { IfOk result (λ o. shown (arc_value o) ≡ outcome self.old.page.request table.now self.old.page.levels self.old.page.url) }
+        ensures outcome { IfOk result (λ o. shown (arc_value o) ≡ outcome self.old.page.request table.now self.old.page.levels self.old.page.url) }
+        ensures end { IfOk result (λ o. IsAtEnd table.now self.old.page self.new.page (shown (arc_value o))) }
     {
         loop {
             if let Some(outcome) = self.round(table)? {

@@ -1,5 +1,5 @@
 //! How far a page has come.
-ghost use Rattle.std.specs.Prelude.{◌≡◌, ◌≤◌, ◌∷◌, [], length, OnOk, IfOk};
+ghost use Rattle.std.specs.Prelude.{◌≡◌, ◌≤◌, ◌∷◌, [], false, length, OnOk, IfOk};
 ghost use Rattle.answer_board.specs.Board.{State};
 ghost use Rattle.edge_types.specs.Pieces.{joined, with_piece};
 ghost use Rattle.plan_machine.specs.Machine.{settled, goes, unwound};
@@ -16,6 +16,9 @@ pub(crate) struct Machine {
     pub(crate) out: PageBody,
     // How many legs were tried.
     pub(crate) legs: u16,
+    // The slot whose answer the last of them asked for, once it is known; none if it asked for nothing. It counts where the
+    // machine failed, which it does at a leg.
+    pub(crate) last: Option<usize>,
     pub(crate) failed: bool,
 }
 
@@ -27,6 +30,7 @@ pub(crate) fn idle(alloc: Global) -> Machine
         frames: Frames::new(alloc),
         out: PageBody::new(alloc),
         legs: 0,
+        last: None,
         failed: false,
     }
 }
@@ -45,6 +49,7 @@ pub(crate) fn started(
         frames: Frames::new(alloc),
         out: PageBody::new(alloc),
         legs: 0,
+        last: None,
         failed: false,
     };
     let frame = Frame {
@@ -74,6 +79,7 @@ fn settle(frames: &mut Frames) -> Result<(), NoMemory>
 
 // Goes on with this frame before the others.
 pub(crate) fn go_on(machine: &mut Machine, frame: Frame) -> Result<(), NoMemory>
+    ensures going { OnOk result (machine.new.failed ≡ false) }
     ensures shown { OnOk result ((board : State) → shown_machine board machine.new ≡ goes machine.old.legs machine.old.out (shown_frame board frame ∷ shown_frames board machine.old.frames)) }
     ensures placed { OnOk result ((board : State) → IsPlaced board frame → ArePlaced board machine.old.frames → ArePlaced board machine.new.frames) }
 {
@@ -108,6 +114,7 @@ pub(crate) fn give(
     most: usize,
 ) -> Result<(), NoMemory>
     ensures few { OnOk result (length (joined machine.new.out) ≤ most) }
+    ensures going { OnOk result (machine.new.failed ≡ false) }
     ensures shown { OnOk result ((board : State) → shown_machine board machine.new ≡ goes machine.old.legs (with_piece machine.old.out text) (shown_frame board frame ∷ shown_frames board machine.old.frames)) }
     ensures placed { OnOk result ((board : State) → IsPlaced board frame → ArePlaced board machine.old.frames → ArePlaced board machine.new.frames) }
 {

@@ -1,9 +1,10 @@
 //! Owners of outcomes. Clauses see what a reader sees of the outcome that is owned.
-ghost use Rattle.std.specs.Prelude.{◌≡◌, IfOk};
+ghost use Rattle.std.specs.Prelude.{◌≡◌, ◌↔◌, IsTrue, IfOk};
 ghost use Rattle.std.specs.Arc.{arc_value};
-ghost use Rattle.edge_types.specs.Outcome.{shown};
+ghost use Rattle.edge_types.specs.declared.outcome.PageFault.TheVariants.{IncludeFailed};
+ghost use Rattle.edge_types.specs.Outcome.{Fault, shown};
 
-use edge_types::{NoMemory, Outcome};
+use edge_types::{NoMemory, Outcome, PageFault};
 use std::alloc::Global;
 use std::marker::Model;
 use std::sync::Arc;
@@ -29,6 +30,13 @@ impl SharedOutcome {
         Ok(SharedOutcome {
             outcome: Arc::new(alloc, outcome)?,
         })
+    }
+
+    // Whether an include failed.
+    pub(crate) fn has_failed(&self) -> bool
+        ensures { IsTrue result ↔ (self.now ≡ Fault IncludeFailed) }
+    {
+        matches!(*self.outcome, Outcome::Fault(PageFault::IncludeFailed))
     }
 
     // A second owner.

@@ -1,11 +1,12 @@
 //! Pages. Clauses see a page's URL, request and levels, its board, the room that is left for slots
 //! ahead, the count of steps, and how far it is. `specs/Headline.antt` is what a page promises.
-ghost use Rattle.std.specs.Prelude.{◌≡◌, ◌≤◌, ◌+◌, length, List, ◌++◌, ◌∷◌, [], Some, None, Err, IfOk, IfErr, OnOk, OnErr, option_and_then, option_map, slice_get};
+ghost use Rattle.std.specs.Prelude.{◌≡◌, ◌≤◌, ◌+◌, length, List, ◌++◌, ◌∷◌, [], Some, None, Err, IfOk, IfErr, IfSome, OnOk, OnErr, option_and_then, option_map, slice_get};
 ghost use Rattle.std.specs.Arc.{arc_value};
 ghost use Rattle.std.specs.List.{AllByRecursion};
 ghost use Rattle.std.specs.Option.{option_copied};
 ghost use Rattle.edge_types.specs.Answered.{Answered};
-ghost use Rattle.edge_types.specs.Outcome.{Shown, shown};
+ghost use Rattle.edge_types.specs.declared.outcome.PageFault.TheVariants.{IncludeFailed};
+ghost use Rattle.edge_types.specs.Outcome.{Shown, Fault, shown};
 ghost use Rattle.edge_types.specs.Table.{Agrees};
 ghost use Rattle.esi_meaning.specs.declared.limits.TheConstants.{MAX_LEGS};
 ghost use Rattle.esi_meaning.specs.Ahead.{IsLegal};
@@ -15,6 +16,7 @@ ghost use Rattle.esi_meaning.specs.State.{Done, state, waits_at};
 ghost use Rattle.answer_board.specs.Sound.{IsBoard};
 ghost use Rattle.answer_board.specs.Board.{answer_at, log_of};
 ghost use Rattle.plan_machine.specs.Headline.{IsTrueOver};
+ghost use Rattle.plan_machine.specs.LastLeg.{failed_answer};
 ghost use Rattle.plan_runner.specs.Page.{Underway, Finished, Broken, accepted, ClaimsOf};
 ghost use Rattle.plan_runner.specs.Calls.{IsOnePage, TakesIn, Refuses, Errs, told_state, standing_after, IsOutcomeOver, IsFilled, HasAppended, Moves, only_board};
 ghost use Rattle.plan_runner.specs.Headline.{TellsTheTruth};
@@ -138,6 +140,8 @@ pub struct Page {
     most: usize,
     progress: Progress,
     stage: Stage,
+    // The slot of the answer that its last leg asked for, once it is done and if it asked for one.
+    last: Option<usize>,
 }
 
 impl Model for Page {
@@ -185,6 +189,7 @@ impl Page {
                 steps: 0,
             },
             stage: Stage::Unread,
+            last: None,
         })
     }
 
@@ -272,6 +277,28 @@ impl Page {
         ensures legal { IsLegal self.now.request self.now.url (log_of self.now.board) }
     {
         filled_answer(&self.board, i)
+    }
+
+    /// Lends the answer of the leg at which the page failed, on a page that is done because an include failed: of all
+    /// legs that it tried, this is the last. `None` if that leg asked for no answer, which one does whose URL can't be
+    /// asked for, or that is a level too deep; and on any other page. Takes no memory.
+    ///
+    /// Source: ESI Language Specification 1.0, "include" and "try"; the order of legs is our profile.
+    pub fn failed_leg(&self) -> Option<&Arc<Answer>>
+        ensures failed { self.now.standing ≡ Finished (Fault IncludeFailed)
+            → option_map arc_value (option_copied result) ≡ failed_answer self.now.request (log_of self.now.board) self.now.levels self.now.url }
+        ensures others { IfSome result (λ _. self.now.standing ≡ Finished (Fault IncludeFailed)) }
+    {
+        let Stage::Done(outcome) = &self.stage else {
+            return None;
+        };
+        if !outcome.has_failed() {
+            return None;
+        }
+        match self.last {
+            Some(number) => answer_in(&self.board, number),
+            None => None,
+        }
     }
 
     /// States what holds of every page, even one that was just taken from a lock: its log is legal, no
@@ -421,6 +448,7 @@ impl Page {
             Came::Done(outcome) => {
                 let outcome = SharedOutcome::new(self.alloc, outcome)?;
                 let told = outcome.share()?;
+                self.last = self.progress.machine.last;
                 self.progress.machine = idle(self.alloc);
                 self.stage = Stage::Done(outcome);
                 Ok(State::Done(told))
@@ -434,10 +462,17 @@ fn filled_answer(board: &Board, i: usize) -> Option<&Arc<Answer>>
     ensures { option_map arc_value (option_copied result) ≡ option_and_then (answer_at board.now.slots) (slice_get board.now.filled i) }
 {
     match board.filled().get(i) {
-        Some(number) => match board.prepared(*number) {
-            Some(prepared) => Some(prepared.answer()),
-            None => None,
-        },
+        Some(number) => answer_in(board, *number),
+        None => None,
+    }
+}
+
+// The answer in the slot with this number, if it is filled.
+fn answer_in(board: &Board, number: usize) -> Option<&Arc<Answer>>
+    ensures { option_map arc_value (option_copied result) ≡ answer_at board.now.slots number }
+{
+    match board.prepared(number) {
+        Some(prepared) => Some(prepared.answer()),
         None => None,
     }
 }

@@ -1,5 +1,5 @@
 //! One step of a page.
-ghost use Rattle.std.specs.Prelude.{◌≡◌, [], ◌∷◌, ◌+◌, ◌≤◌, OnOk, IfOk, length};
+ghost use Rattle.std.specs.Prelude.{◌≡◌, false, [], ◌∷◌, ◌+◌, ◌≤◌, OnOk, IfOk, length};
 ghost use Rattle.std.specs.Arc.{arc_value};
 ghost use Rattle.answer_board.specs.Board.{State, answer_at, log_of};
 ghost use Rattle.edge_types.specs.declared.request.Request.{Request};
@@ -10,7 +10,9 @@ ghost use Rattle.plan_compiler.specs.Laws.{skip_of};
 ghost use Rattle.plan_compiler.specs.Plan as spec;
 ghost use Rattle.plan_compiler.specs.Shown.{step_of};
 ghost use Rattle.plan_compiler.specs.Urls.{entries_of};
+ghost use Rattle.plan_machine.specs.LastLeg.{leg_as, tried_by};
 ghost use Rattle.plan_machine.specs.Machine.{Went, goes, unwound, moved, handled, without_first, plain_leg, doing};
+ghost use Rattle.plan_runner.specs.LastLeg.{IsHeldAt, Remembers};
 ghost use Rattle.plan_runner.specs.Reached.{with_frame, Reaches};
 ghost use Rattle.plan_runner.specs.Shown.{shown_frame, shown_frames, shown_machine, IsPlaced, ArePlaced};
 ghost use Rattle.plan_runner.specs.Targets.{acted, found_at};
@@ -55,6 +57,7 @@ pub(crate) fn run(
     ensures reached { IfOk result (λ reached. Reaches
         (doing setting.now.request.now (log_of setting.now.board.now) machine.old.legs machine.old.out (moved (shown_frame setting.now.board.now frame) (frame.at + 1)) (shown_frames setting.now.board.now machine.old.frames) (step_of step.now))
         (with_frame setting.now.board.now frame machine.old) (shown_machine setting.now.board.now machine.new) reached) }
+    ensures last { IfOk result (λ reached. Remembers setting.now.board.now (tried_by setting.now.request.now (moved (shown_frame setting.now.board.now frame) (frame.at + 1)) (step_of step.now)) machine.old machine.new reached) }
     ensures placed { OnOk result (IsPlaced setting.now.board.now frame → ArePlaced setting.now.board.now machine.old.frames → ArePlaced setting.now.board.now machine.new.frames) }
 {
     match step {
@@ -71,7 +74,6 @@ pub(crate) fn run(
         Step::Try { skip: by } => guard(machine, frame, *by)?,
         Step::EndTry { skip: by } => unguard(machine, frame, *by)?,
         Step::Leg(source) => return leg(machine, setting, template, frame, source),
-        Step::Fail => fail(machine, frame)?,
     }
     Ok(Reached::Went)
 }
@@ -79,6 +81,7 @@ pub(crate) fn run(
 // Goes on after this many steps.
 fn skip(machine: &mut Machine, mut frame: Frame, by: usize) -> Result<(), NoMemory>
     requires { frame.at + 1 + by ≤ usize.MAX }
+    ensures going { OnOk result (machine.new.failed ≡ false) }
     ensures shown { OnOk result ((board : State) → shown_machine board machine.new ≡ goes machine.old.legs machine.old.out (moved (shown_frame board frame) (frame.at + 1 + by) ∷ shown_frames board machine.old.frames)) }
     ensures placed { OnOk result ((board : State) → IsPlaced board frame → ArePlaced board machine.old.frames → ArePlaced board machine.new.frames) }
 {
@@ -90,6 +93,7 @@ fn skip(machine: &mut Machine, mut frame: Frame, by: usize) -> Result<(), NoMemo
 // Adds a handler.
 fn guard(machine: &mut Machine, mut frame: Frame, by: usize) -> Result<(), NoMemory>
     requires { frame.at + 1 + by ≤ usize.MAX }
+    ensures going { OnOk result (machine.new.failed ≡ false) }
     ensures shown { OnOk result ((board : State) → shown_machine board machine.new ≡ goes machine.old.legs machine.old.out
         (handled (shown_frame board frame) (frame.at + 1) (record { to = frame.at + 1 + by; mark = length machine.old.out } ∷ frame.handlers) ∷ shown_frames board machine.old.frames)) }
     ensures placed { OnOk result ((board : State) → IsPlaced board frame → ArePlaced board machine.old.frames → ArePlaced board machine.new.frames) }
@@ -106,6 +110,7 @@ fn guard(machine: &mut Machine, mut frame: Frame, by: usize) -> Result<(), NoMem
 // Removes a handler.
 fn unguard(machine: &mut Machine, mut frame: Frame, by: usize) -> Result<(), NoMemory>
     requires { frame.at + 1 + by ≤ usize.MAX }
+    ensures going { OnOk result (machine.new.failed ≡ false) }
     ensures shown { OnOk result ((board : State) → shown_machine board machine.new ≡ goes machine.old.legs machine.old.out
         (handled (shown_frame board frame) (frame.at + 1 + by) (without_first frame.handlers) ∷ shown_frames board machine.old.frames)) }
     ensures placed { OnOk result ((board : State) → IsPlaced board frame → ArePlaced board machine.old.frames → ArePlaced board machine.new.frames) }
@@ -133,6 +138,7 @@ fn fail(machine: &mut Machine, mut frame: Frame) -> Result<(), NoMemory>
 // A frame within this one.
 fn open(machine: &mut Machine, mut frame: Frame, inner: Frame) -> Result<(), NoMemory>
     requires { frame.at + 1 ≤ usize.MAX }
+    ensures going { OnOk result (machine.new.failed ≡ false) }
     ensures shown { OnOk result ((board : State) → shown_machine board machine.new ≡ goes machine.old.legs machine.old.out (shown_frame board inner ∷ moved (shown_frame board frame) (frame.at + 1) ∷ shown_frames board machine.old.frames)) }
     ensures placed { OnOk result ((board : State) → IsPlaced board inner → IsPlaced board frame → ArePlaced board machine.old.frames → ArePlaced board machine.new.frames) }
 {
@@ -150,6 +156,7 @@ fn give_next(
     most: usize,
 ) -> Result<(), NoMemory>
     requires { frame.at + 1 ≤ usize.MAX }
+    ensures going { OnOk result (machine.new.failed ≡ false) }
     ensures shown { OnOk result ((board : State) → shown_machine board machine.new ≡ goes machine.old.legs (with_piece machine.old.out text) (moved (shown_frame board frame) (frame.at + 1) ∷ shown_frames board machine.old.frames)) }
     ensures placed { OnOk result ((board : State) → IsPlaced board frame → ArePlaced board machine.old.frames → ArePlaced board machine.new.frames) }
 {
@@ -167,6 +174,7 @@ fn give_values(
     parts: &Parts,
 ) -> Result<(), NoMemory>
     requires { frame.at + 1 ≤ usize.MAX }
+    ensures going { OnOk result (machine.new.failed ≡ false) }
     ensures shown { OnOk result ((board : State) → shown_machine board machine.new ≡ goes machine.old.legs (with_pieces machine.old.out (value_pieces setting.now.request.now [] parts.now)) (moved (shown_frame board frame) (frame.at + 1) ∷ shown_frames board machine.old.frames)) }
     ensures placed { OnOk result ((board : State) → IsPlaced board frame → ArePlaced board machine.old.frames → ArePlaced board machine.new.frames) }
 {
@@ -214,19 +222,23 @@ fn enter(
     ensures shown { OnOk result (acted setting.now.request.now (log_of setting.now.board.now) machine.old.legs machine.old.out
         (moved (shown_frame setting.now.board.now frame) (frame.at + 1)) (shown_frames setting.now.board.now machine.old.frames) (found_at (answer_at setting.now.board.now.slots number))
         ≡ Went (shown_machine setting.now.board.now machine.new)) }
+    ensures last { OnOk result (IsHeldAt setting.now.board.now machine.new.last (answer_at setting.now.board.now.slots number)) }
     ensures placed { OnOk result (IsPlaced setting.now.board.now frame → ArePlaced setting.now.board.now machine.old.frames → ArePlaced setting.now.board.now machine.new.frames) }
 {
     let Some(prepared) = setting.board.prepared(number) else {
         fail(machine, frame)?;
+        machine.last = None;
         return Ok(());
     };
     match prepared.form() {
         Form::Plain => {
             give_plain(machine, frame, prepared.answer(), setting.most)?;
+            machine.last = Some(number);
             Ok(())
         }
         Form::BadAt(_) => {
             fail(machine, frame)?;
+            machine.last = Some(number);
             Ok(())
         }
         Form::Planned(plan) => {
@@ -238,6 +250,7 @@ fn enter(
                 handlers: Handlers::new(setting.alloc),
             };
             open(machine, frame, inner)?;
+            machine.last = Some(number);
             Ok(())
         }
     }
@@ -257,6 +270,7 @@ fn leg(
     ensures reached { IfOk result (λ reached. Reaches
         (doing setting.now.request.now (log_of setting.now.board.now) machine.old.legs machine.old.out (moved (shown_frame setting.now.board.now frame) (frame.at + 1)) (shown_frames setting.now.board.now machine.old.frames) (spec.Leg source.now))
         (with_frame setting.now.board.now frame machine.old) (shown_machine setting.now.board.now machine.new) reached) }
+    ensures last { IfOk result (λ reached. Remembers setting.now.board.now (leg_as setting.now.request.now (moved (shown_frame setting.now.board.now frame) (frame.at + 1)) source.now frame.level ∷ []) machine.old machine.new reached) }
     ensures placed { OnOk result (IsPlaced setting.now.board.now frame → ArePlaced setting.now.board.now machine.old.frames → ArePlaced setting.now.board.now machine.new.frames) }
 {
     if machine.legs >= MAX_LEGS {
@@ -272,6 +286,7 @@ fn leg(
         Target::Nowhere => {
             machine.legs += 1;
             fail(machine, frame)?;
+            machine.last = None;
             Ok(Reached::Went)
         }
         Target::Inside(from, to) => {
@@ -284,6 +299,7 @@ fn leg(
                 handlers: Handlers::new(setting.alloc),
             };
             open(machine, frame, inner)?;
+            machine.last = None;
             Ok(Reached::Went)
         }
         Target::Found(number) => {

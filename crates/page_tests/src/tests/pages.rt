@@ -8,7 +8,7 @@
 
 use super::{answer, url_of};
 use edge_case::read_events;
-use edge_types::{NoMemory, Outcome, PageFault, Request, Table};
+use edge_types::{Answer, NoMemory, Outcome, PageFault, Request, Table};
 use esi_meaning::are_levels;
 use plan_runner::{Event, MAX_AHEAD, Page, State, run_events};
 use std::alloc::Global;
@@ -59,8 +59,20 @@ fn text_of<'a>(bytes: &'a [u8]) -> &'a str {
     str::from_utf8(bytes).unwrap_or("?")
 }
 
+// The path of an answer.
+fn path_of(answer: Option<&Arc<Answer>>) -> &str {
+    match answer {
+        Some(answer) => {
+            let url = text_of(answer.url().as_bytes());
+            url.strip_prefix("http://a.test").unwrap_or(url)
+        }
+        None => "nothing",
+    }
+}
+
 // Adds to the line where a page is: `waits` and a URL; or the first bytes of the first pieces, a
-// bar after each, or the fault; how much there is of everything, and the paths of the logged answers.
+// bar after each, or the fault, and of an include the answer at which it failed; how much there is of everything, and the
+// paths of the logged answers.
 fn push_state(line: &mut String, page: &Page, state: &State) -> Result<(), NoMemory> {
     match state {
         State::Waiting(url) => write!(line, "waits {};", text_of(url.as_bytes()))?,
@@ -77,19 +89,15 @@ fn push_state(line: &mut String, page: &Page, state: &State) -> Result<(), NoMem
                 write!(line, "; bytes {}; pieces {};", body.len(), body.mark())?;
             }
             Outcome::Fault(PageFault::BadTemplate(at)) => write!(line, "fault 2 at {at};")?,
+            Outcome::Fault(PageFault::IncludeFailed) => {
+                write!(line, "fault 3 at {};", path_of(page.failed_leg()))?
+            }
             Outcome::Fault(fault) => write!(line, "fault {};", fault.number())?,
         },
     }
     write!(line, " slots {}; steps {}; log", page.slots(), page.steps())?;
     for number in 0..page.posted() {
-        if let Some(answer) = page.logged(number) {
-            let url = text_of(answer.url().as_bytes());
-            write!(
-                line,
-                " {}",
-                url.strip_prefix("http://a.test").unwrap_or(url)
-            )?;
-        }
+        write!(line, " {}", path_of(page.logged(number)))?;
     }
     if page.logged(page.posted()).is_some() {
         line.push_str(" an answer past the end")?;
@@ -201,7 +209,32 @@ const TABLES: &str = r#"/p 200 esi A{/x}B
 0,16 4 300 a page that is no template => fault 2 at 9; slots 1;
 
 /p 200 esi {/x}
-0,16 4 300 an include that nobody answers => fault 3; slots 2;
+0,16 4 300 an include that nobody answers => fault 3 at /x; slots 2;
+
+/p 200 esi {/b!}{/a}{/c!}
+0,16 4 300 one include among those that are excused => fault 3 at /a;
+
+/p 200 esi {/x!}{/y!}{/x}
+0,16 4 300 the second of two includes that ask for one URL => fault 3 at /x;
+
+/p 200 esi A<esi:include src='/x' alt='/y'/>B
+/x 404 plain 1
+/y 500 plain 2
+0,16 4 300 an alternate that fails as well => fault 3 at /y;
+
+/p 200 esi <esi:try><esi:attempt>{/x}</esi:attempt><esi:except>{/y}</esi:except></esi:try>{/z!}
+0,16 4 300 an except that fails as well => fault 3 at /y;
+
+/p 200 esi {/f}
+/f 200 esi {/g}{/h!}
+0,16 4 300 an include of a fragment => fault 3 at /g;
+
+/p 200 esi {/f}
+/f 200 esi <esi:try>
+0,16 4 300 a fragment that is no template => fault 3 at /f;
+
+/p 200 esi <esi:inline name='/i' fetchable='yes'>{/g!}</esi:inline>{/i}{//}
+0,16 4 300 an include of what is no URL => fault 3 at nothing;
 
 /p 200 esi A<esi:include src='/x' alt='/y'/>B
 /x 404 plain 1
@@ -224,7 +257,7 @@ const TABLES: &str = r#"/p 200 esi A{/x}B
 /3 200 esi 3{/4}
 /4 200 esi 4{/5}
 /5 200 plain 5
-0,16 4 300 a fragment too deep => fault 3; slots 5;
+0,16 4 300 a fragment too deep => fault 3 at nothing; slots 5;
 1 5 300 five fragments, one in the other => P|1|2|3|4|5|; bytes 6; pieces 6; slots 6;
 
 /p 200 esi P{/1}
@@ -288,7 +321,7 @@ const TABLES: &str = r#"/p 200 esi A{/x}B
 
 /p 200 esi ~10*{/b}~
 /b 200 esi ~10*{/b}~
-0,1,256 4 300 a fragment that includes itself ten times => fault 3; slots 2; steps 5;
+0,1,256 4 300 a fragment that includes itself ten times => fault 3 at nothing; slots 2; steps 5;
 
 /p 200 esi ~10*{/b}~
 /b 200 esi ~10*{/b!}~

@@ -35,7 +35,6 @@ fn push_step(line: &mut String, step: &Step) -> Result<(), NoMemory> {
             }
             line.push_str("}")?;
         }
-        Step::Fail => line.push_str("fail")?,
     }
     line.push_str(" ")?;
     Ok(())

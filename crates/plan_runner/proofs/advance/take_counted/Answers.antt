@@ -20,3 +20,19 @@ pub returns-in-Went-clause-ready : goal.returns-in-Went-clause-ready
 returns-in-Went-clause-ready c =
     let went = rw c.in-Went.is at c.in_ok-stop.ensures.reached in
     (step_leaves c.args.setting.now.request.now (log_of c.args.setting.now.board.now) (shown_machine c.args.setting.now.board.now c.args.progress.now.machine) _ c.requires.ready went).1
+
+pub returns-in-Went-clause-fails : goal.returns-in-Went-clause-fails
+returns-in-Went-clause-fails c =
+    let r = c.args.setting.now.request.now in
+    let b = c.args.setting.now.board.now in
+    let went = rw c.in-Went.is at c.in_ok-stop.ensures.reached in
+    let last = rw c.in-Went.is at c.in_ok-stop.ensures.last in
+    λ first s before failed. record {
+      count = s.count;
+      before = shown_machine b c.args.progress.now.machine;
+      failed = shown_machine b c.take_step.new.machine;
+      there = s.there;
+      fails = went;
+      is_failed = failed;
+      is_last = last failed;
+    }

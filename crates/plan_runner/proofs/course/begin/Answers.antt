@@ -1,7 +1,8 @@
-use Rattle.std.proofs.Common.{◌∙◌, ℕ, ap, refl}
+use Rattle.std.proofs.Common.{◌∙◌, ℕ, ap, sym, refl}
 use Rattle.edge_types.specs.Answered.{Answered}
 use Rattle.plan_runner.specs.Plain.{plain_outcome}
 use Rattle.plan_runner.proofs.Courses.{own_is, own_missing, own_unknown, plain_done, bad_done, begun}
+use Rattle.plan_runner.proofs.LastLegs.{plain_stands}
 use Rattle.plan_runner.proofs.course.begin.Goals as goal
 
 pub returns-in_default : goal.returns-in_default
@@ -16,14 +17,14 @@ returns-in_ok-outcome-in-Plain c =
     let b = c.args.setting.now.board.now in
     let a = c.in-Some-prepared.own.now in
     let found = own_is b c.filled.ensures.sound c.args.url.now c.in-Some.slot a (rw c.in-Some.is at c.number.ensures) (rw c.in-Some-prepared.is at c.prepared.ensures) in
-    (plain_done c.args.setting.now.request.now c.args.levels c.args.url.now b a found (rw c.in-Plain.is at c.form.ensures) _ (c.in_ok-outcome-in-Plain.ensures ∙ ap (λ (x : Answered). plain_outcome x.reply) c.answer.ensures), refl)
+    (plain_done c.args.setting.now.request.now c.args.levels c.args.url.now b a found (rw c.in-Plain.is at c.form.ensures) _ (c.in_ok-outcome-in-Plain.ensures ∙ ap (λ (x : Answered). plain_outcome x.reply) c.answer.ensures), refl, λ e. plain_stands a.reply (sym (c.in_ok-outcome-in-Plain.ensures ∙ ap (λ (x : Answered). plain_outcome x.reply) c.answer.ensures) ∙ e))
 
 pub returns-in-BadAt : goal.returns-in-BadAt
 returns-in-BadAt c =
     let b = c.args.setting.now.board.now in
     let a = c.in-Some-prepared.own.now in
     let found = own_is b c.filled.ensures.sound c.args.url.now c.in-Some.slot a (rw c.in-Some.is at c.number.ensures) (rw c.in-Some-prepared.is at c.prepared.ensures) in
-    (bad_done c.args.setting.now.request.now c.args.levels c.args.url.now b a found _ (rw c.in-BadAt.is at c.form.ensures), refl)
+    (bad_done c.args.setting.now.request.now c.args.levels c.args.url.now b a found _ (rw c.in-BadAt.is at c.form.ensures), refl, λ e. absurd (cc))
 
 pub returns-in_ok-progress-in-Planned : goal.returns-in_ok-progress-in-Planned
 returns-in_ok-progress-in-Planned c =

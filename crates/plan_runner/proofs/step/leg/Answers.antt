@@ -1,5 +1,5 @@
 use Rattle.plan_runner.specs.Shown.{shown_machine}
-use Rattle.plan_runner.proofs.Legs.{leg_many, put_back, leg_missing, leg_nowhere, leg_inside, leg_found}
+use Rattle.plan_runner.proofs.Legs.{leg_many, put_back, leg_missing, leg_nowhere, leg_inside, leg_found, last_nowhere, last_inside, last_found}
 use Rattle.plan_runner.proofs.step.leg.Goals as goal
 
 pub returns-then-machine-ge-MAX_LEGS-clause-reached : goal.returns-then-machine-ge-MAX_LEGS-clause-reached
@@ -29,3 +29,15 @@ pub returns-in_ok-enter-in-Found-clause-reached : goal.returns-in_ok-enter-in-Fo
 returns-in_ok-enter-in-Found-clause-reached c =
     leg_found c.args.setting.now c.args.machine.now c.args.frame c.args.source.now c.if-machine-ge-MAX_LEGS.false c.args.template.now c.requires.url c.requires.inlines c.in_ok-url.field-0 c.in_ok-url.ensures
     c.in-Found.number (shown_machine c.args.setting.now.board.now c.enter.new.machine) c.in-Found.is c.in_ok-enter-in-Found.ensures.shown
+
+pub returns-in_ok-fail-in-Nowhere-clause-last : goal.returns-in_ok-fail-in-Nowhere-clause-last
+returns-in_ok-fail-in-Nowhere-clause-last c =
+    λ failed. last_nowhere c.args.setting.now c.args.machine.now c.args.frame c.args.source.now c.if-machine-ge-MAX_LEGS.false c.args.template.now c.requires.url c.requires.inlines c.in_ok-url.field-0 c.in_ok-url.ensures c.in-Nowhere.is
+
+pub returns-in_ok-open-in-Inside-clause-last : goal.returns-in_ok-open-in-Inside-clause-last
+returns-in_ok-open-in-Inside-clause-last c =
+    λ failed. last_inside c.args.setting.now c.args.machine.now c.args.frame c.args.source.now c.if-machine-ge-MAX_LEGS.false c.args.template.now c.requires.url c.requires.inlines c.in_ok-url.field-0 c.in_ok-url.ensures c.in-Inside.from c.in-Inside.to c.in-Inside.is
+
+pub returns-in_ok-enter-in-Found-clause-last : goal.returns-in_ok-enter-in-Found-clause-last
+returns-in_ok-enter-in-Found-clause-last c =
+    λ failed. last_found c.args.setting.now c.args.machine.now c.args.frame c.args.source.now c.if-machine-ge-MAX_LEGS.false c.args.template.now c.requires.url c.requires.inlines c.in_ok-url.field-0 c.in_ok-url.ensures c.in-Found.number _ c.in-Found.is c.in_ok-enter-in-Found.ensures.last

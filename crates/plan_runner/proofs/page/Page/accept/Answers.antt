@@ -9,4 +9,5 @@ invariant_of-result c = record {
   legal = legal_first c.args.request c.args.url c.open.new.self (first_opened c.new-board.result c.open.new.self c.args.url _ c.new-board.ensures c.in_ok-open.ensures.ok);
   board_is = whole_first c.args.request c.args.levels c.args.url c.args.ahead c.open.new.self (first_opened c.new-board.result c.open.new.self c.args.url _ c.new-board.ensures c.in_ok-open.ensures.ok);
   stage_is = refl;
+  leg_is = tt;
 }

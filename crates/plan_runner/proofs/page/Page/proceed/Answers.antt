@@ -49,7 +49,7 @@ pub returns-clause-told : goal.returns-clause-told
 returns-clause-told c =
     let p = c.self.inside in
     let came = rw c.in-Done.is at c.in_ok-run.ensures in
-    done_state p.request p.levels p.url p.board _ _ came ∙ ap meaning.Done (sym (c.in_ok-told-in-Done.ensures ∙ c.in_ok-outcome-in-Done.ensures))
+    done_state p.request p.levels p.url p.board _ _ came.0 ∙ ap meaning.Done (sym (c.in_ok-told-in-Done.ensures ∙ c.in_ok-outcome-in-Done.ensures))
 
 pub invariant_of-self : goal.invariant_of-self
 invariant_of-self c = kept_spoiled c.self.inside _ _ _ refl c.replace-stage.ensures.after c.self.invariant
@@ -69,7 +69,7 @@ invariant_of-self-in_err-told-in-Done c = kept_spoiled c.self.inside _ _ _ refl 
 pub invariant_of-self-in-Unread : goal.invariant_of-self-in-Unread
 invariant_of-self-in-Unread c =
     let came = rw c.in-Unread.is at c.in_ok-run.ensures in
-    kept_came c.self.inside _ stage.Unread (goes_on c.self.inside c.args.self.now c.self.view_is c.requires.underway) (λ e. absurd (cc)) c.self.invariant came.1
+    kept_came c.self.inside _ stage.Unread _ (goes_on c.self.inside c.args.self.now c.self.view_is c.requires.underway) (λ e. absurd (cc)) c.self.invariant came.1 tt
 
 pub returns-in-Unread-clause-headline : goal.returns-in-Unread-clause-headline
 returns-in-Unread-clause-headline c =
@@ -109,11 +109,11 @@ pub invariant_of-self-in-Done : goal.invariant_of-self-in-Done
 invariant_of-self-in-Done c =
     let came = rw c.in-Done.is at c.in_ok-run.ensures in
     let told = rw (← c.in_ok-outcome-in-Done.ensures) at came in
-    kept_came c.self.inside _ (stage.Done c.in_ok-outcome-in-Done.outcome) (goes_on c.self.inside c.args.self.now c.self.view_is c.requires.underway) (λ e. absurd (cc)) c.self.invariant told
+    kept_came c.self.inside _ (stage.Done c.in_ok-outcome-in-Done.outcome) _ (goes_on c.self.inside c.args.self.now c.self.view_is c.requires.underway) (λ e. absurd (cc)) c.self.invariant told.0 told.1
 
 pub returns-clause-headline : goal.returns-clause-headline
 returns-clause-headline c =
     let p = c.self.inside in
     let came = rw c.in-Done.is at c.in_ok-run.ensures in
     is_true (seen p) (tells.Done c.in_ok-told-in-Done.told) c.self.invariant.sound
-    (done_state p.request p.levels p.url p.board _ _ came ∙ ap meaning.Done (sym (c.in_ok-told-in-Done.ensures ∙ c.in_ok-outcome-in-Done.ensures))) tt
+    (done_state p.request p.levels p.url p.board _ _ came.0 ∙ ap meaning.Done (sym (c.in_ok-told-in-Done.ensures ∙ c.in_ok-outcome-in-Done.ensures))) tt
