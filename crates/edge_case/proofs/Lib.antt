@@ -11,3 +11,4 @@ pub mod Orders
 pub mod Takes
 pub mod Runs
 pub mod TemplateLemmas
+pub mod FailedLegs

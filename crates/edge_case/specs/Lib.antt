@@ -5,5 +5,6 @@ pub mod Order
 pub mod Printed
 pub mod Bytes
 pub mod Run
+pub mod FailedLeg
 pub mod Laws
 pub mod Templates

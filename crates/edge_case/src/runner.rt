@@ -1,9 +1,13 @@
 //! Runs a case: reads it, evaluates it and prints the outcome.
-ghost use Rattle.std.specs.Prelude.{◌≡◌, ◌≢◌, ◌≤◌, ◌+◌, IfOk, IfErr, IsErrOf};
+ghost use Rattle.std.specs.Prelude.{◌≡◌, ◌≢◌, ◌≤◌, ◌+◌, option_map, IfOk, IfErr, IsErrOf};
+ghost use Rattle.std.specs.Arc.{arc_value};
 ghost use Rattle.std.specs.Io.KnownBytes.{Appends, Keeps};
+ghost use Rattle.edge_types.specs.Outcome.{Shown};
 ghost use Rattle.esi_meaning.specs.Meaning.{AreLevels};
 ghost use Rattle.plan_runner.specs.declared.page.TheConstants.{MAX_AHEAD};
+ghost use Rattle.plan_runner.specs.Page.{Finished};
 ghost use Rattle.edge_case.specs.Bytes.{AppendsPart, TakesAtMost, IsInput};
+ghost use Rattle.edge_case.specs.FailedLeg.{IsFailedLegAt, IsFailedLegOf, FailsAtLeg};
 ghost use Rattle.edge_case.specs.Printed.{end_of, printed};
 ghost use Rattle.edge_case.specs.Run.{outcome_of, Reads, IsNoCase, ReadsBefore, Prints, PrintsPart};
 ghost use Rattle.edge_case.specs.declared.case_text.Case.{Case};
@@ -12,9 +16,11 @@ use crate::case_text::{Case, MAX_CASE};
 use crate::ending::{CaseEnd, CaseFault};
 use crate::input::read_input;
 use crate::printer::print;
-use plan_runner::{Event, MAX_AHEAD, run_to_end};
+use edge_types::{Answer, NoMemory};
+use plan_runner::{Event, MAX_AHEAD, Page, run_to_end};
 use std::alloc::Global;
 use std::io::{Read, Write};
+use std::sync::Arc;
 
 /// How a case's page is run. What is printed depends on the levels alone.
 ///
@@ -38,6 +44,8 @@ pub struct Ran {
     pub end: CaseEnd,
     /// Its text, which is the whole input.
     pub text: Vec<u8>,
+    /// Where an include failed its page, the answer of the leg at which it failed, if that leg asked for one.
+    pub failed_leg: Option<Arc<Answer>>,
 }
 
 // The case that the input spells, and the input.
@@ -56,14 +64,15 @@ fn read_case<R: Read>(alloc: Global, reader: &mut R) -> Result<(Case, Vec<u8>), 
     }
 }
 
-// Evaluates a case and prints the outcome of its page.
+// Evaluates a case and prints the outcome of its page; lends out the answer of the leg at which an include failed it.
 fn print_case<W: Write>(
     alloc: Global,
     case: Case,
     writer: &mut W,
     running: Running<'_>,
-) -> Result<CaseEnd, CaseFault>
-    ensures end { IfOk result (λ end. end ≡ end_of (outcome_of case running.entry.levels)) }
+) -> Result<(CaseEnd, Option<Arc<Answer>>), CaseFault>
+    ensures end { IfOk result (λ (end, leg). end ≡ end_of (outcome_of case running.entry.levels)) }
+    ensures leg { IfOk result (λ (end, leg). IsFailedLegOf case running.entry.levels (option_map arc_value leg)) }
     ensures written { IfOk result (λ _. Appends (W.contents writer.old) (W.contents writer.new) (printed (outcome_of case running.entry.levels))) }
     ensures nothing { IfErr result (λ e. e ≢ CaseFault.Write → Keeps (W.contents writer.old) (W.contents writer.new)) }
     ensures part { IsErrOf result CaseFault.Write → AppendsPart (W.contents writer.old) (W.contents writer.new) (printed (outcome_of case running.entry.levels)) }
@@ -79,8 +88,23 @@ fn print_case<W: Write>(
         events,
         levels,
     } = running;
-    let outcome = run_to_end(alloc, url, request, &table, ahead, levels, events)?;
-    print(alloc, writer, &outcome)
+    let (page, outcome) = run_to_end(alloc, url, request, &table, ahead, levels, events)?;
+    let failed_leg = failed_leg_of(&page)?;
+    match print(alloc, writer, &outcome) {
+        Ok(end) => Ok((end, failed_leg)),
+        Err(fault) => Err(fault),
+    }
+}
+
+// An owner of the answer of the leg at which an include failed the page.
+fn failed_leg_of(page: &Page) -> Result<Option<Arc<Answer>>, NoMemory>
+    ensures { IfOk result (λ leg. (outcome : Shown) → page.now.standing ≡ Finished outcome → IsFailedLegAt page.now outcome (option_map arc_value leg)) }
+{
+    page.sound();
+    match page.failed_leg() {
+        Some(answer) => Ok(Some(Arc::try_clone(answer)?)),
+        None => Ok(None),
+    }
 }
 
 /// Reads a case text, runs its page and prints the outcome.
@@ -108,11 +132,11 @@ pub fn run_case<R: Read, W: Write>(
 {
     // The text isn't kept: the case has its own copies.
     let (case, _) = read_case(alloc, reader)?;
-    let end = print_case(alloc, case, writer, running)?;
+    let (end, _) = print_case(alloc, case, writer, running)?;
     Ok(end)
 }
 
-/// The same, and keeps the text.
+/// The same, and keeps the text and what is known of the leg at which an include failed the page.
 ///
 /// Our profile.
 pub fn run_case_and_keep<R: Read, W: Write>(
@@ -124,6 +148,7 @@ pub fn run_case_and_keep<R: Read, W: Write>(
     ensures printed { IfOk result (λ ran. Prints running.entry.levels (R.remaining reader.old)
         (W.contents writer.old) (W.contents writer.new) ran.end) }
     ensures text { IfOk result (λ ran. IsInput (R.remaining reader.old) ran.text.items) }
+    ensures leg { IfOk result (λ ran. FailsAtLeg running.entry.levels (R.remaining reader.old) (option_map arc_value ran.failed_leg)) }
     ensures bad_case { IsErrOf result CaseFault.BadCase → IsNoCase (R.remaining reader.old) }
     ensures through { ReadsBefore result (R.remaining reader.old) (R.remaining reader.new) }
     ensures nothing { IfErr result (λ e. e ≢ CaseFault.Write → Keeps (W.contents writer.old) (W.contents writer.new)) }
@@ -131,6 +156,10 @@ pub fn run_case_and_keep<R: Read, W: Write>(
     ensures at_most { TakesAtMost (MAX_CASE + 1) (R.remaining reader.old) (R.remaining reader.new) }
 {
     let (case, text) = read_case(alloc, reader)?;
-    let end = print_case(alloc, case, writer, running)?;
-    Ok(Ran { end, text })
+    let (end, failed_leg) = print_case(alloc, case, writer, running)?;
+    Ok(Ran {
+        end,
+        text,
+        failed_leg,
+    })
 }

@@ -1,13 +1,15 @@
 -- What is true at each way in which the program ends, over any reader and writer.
-use Rattle.std.specs.Prelude.{◌≡◌, ◌⊎◌, ℕ, true, false, List, Option, Result, Ok, Err, Vec}
-use Rattle.std.specs.Global.{Global}
+use Rattle.std.specs.Prelude.{◌≡◌, ◌⊎◌, ℕ, true, false, List, Option, option_map, Result, Ok, Err}
+use Rattle.std.specs.Arc.{arc_value}
 use Rattle.std.specs.Io.KnownBytes.{Keeps}
 use Rattle.clap.specs.Words.{Text}
+use Rattle.edge_types.specs.Answered.{Answered}
 use Rattle.edge_case.specs.declared.ending.CaseEnd.{CaseEnd}
 use Rattle.edge_case.specs.declared.ending.CaseEnd.TheVariants.{PagePrinted, FaultPrinted}
 use Rattle.edge_case.specs.declared.ending.CaseFault.{CaseFault}
 use Rattle.edge_case.specs.declared.runner.Ran.{Ran as RanCase}
 use Rattle.edge_case.specs.Bytes.{IsInput}
+use Rattle.edge_case.specs.FailedLeg.{FailsAtLeg}
 use Rattle.edge_case.specs.Run.{IsNoCase, Prints, PrintsPart}
 use Rattle.edge_main.specs.Status.{status_of}
 use Rattle.edge_main.specs.declared.status.Status.{Status}
@@ -56,28 +58,30 @@ Ends words input before after AddressDenied = ⊥
 Ends words input before after UnknownHost = ⊥
 
 -- a page's fault was printed, and the words ask for its reason, in this text
-pub record AsksWhyOf (words : List Text) (input before after : Option (List ℕ)) (text : List ℕ) : Type 0 where
+pub record AsksWhyOf (words : List Text) (input before after : Option (List ℕ)) (text : List ℕ) (leg : Option Answered) : Type 0 where
   pub printed : Ends words input before after PageFault
   pub asks : AsksWhy words true
   pub whole : IsInput input text
+  -- the answer of the leg at which an include failed the page
+  pub failed : (levels : ℕ) × AsksLevels words levels × FailsAtLeg levels input leg
 
 -- if a page's fault is all that was reported, nobody asked for its reason
 abbrev pub IsUnasked : List Text → Status → Type 0
 IsUnasked words PageFault = AsksWhy words false
 IsUnasked words _ = Unit {0}
 
--- what came of words that ask why, by how the run of their case ended: its text, where the page has a fault
-abbrev pub explains_by : Vec ℕ Global → CaseEnd → Done
-explains_by text FaultPrinted = Explains text
-explains_by text PagePrinted = Ran Page
+-- what came of words that ask why, by how the run of their case ended: the run, where the page has a fault
+abbrev pub explains_by : RanCase → CaseEnd → Done
+explains_by ran FaultPrinted = Explains ran
+explains_by ran PagePrinted = Ran Page
 
 abbrev pub explained_by : Result RanCase CaseFault → Done
-explained_by (Ok ran) = explains_by ran.text ran.end
+explained_by (Ok ran) = explains_by ran ran.end
 explained_by (Err fault) = Ran (status_of (Err fault))
 
 -- what was read and written, by what the words led to
 abbrev pub Does : List Text → Option (List ℕ) → Option (List ℕ) → Option (List ℕ) → Done → Type 0
 Does words input before after (Ran status) = Ends words input before after status × IsUnasked words status
-Does words input before after (Explains text) = AsksWhyOf words input before after text.items
+Does words input before after (Explains ran) = AsksWhyOf words input before after ran.text.items (option_map arc_value ran.failed_leg)
 Does words input before after (Serves server) = AsksToServe words before after server
 Does words input before after (Checks checking) = AsksToCheck words before after checking

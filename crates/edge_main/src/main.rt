@@ -43,7 +43,7 @@ fn main(rt: HostRuntime) -> ExitCode {
         Ok(line) => match Words::of(&rt, line.as_slice()) {
             Ok(words) => match run(&rt, &words) {
                 Done::Ran(status) => status,
-                Done::Explains(text) => explain(&rt, &text),
+                Done::Explains(ran) => explain(&rt, &ran),
                 Done::Serves(server) => Status::of_serving(serve(&rt, server)),
                 Done::Checks(checking) => check(&rt, &checking),
             },

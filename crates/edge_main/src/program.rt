@@ -18,8 +18,8 @@ use std::io::{Read, Write};
 pub(crate) enum Done<'a> {
     /// A case was run, and ended like this.
     Ran(Status),
-    /// A case was run whose page has a fault; its text is here to say why.
-    Explains(Vec<u8>),
+    /// A case was run whose page has a fault; what is known of it is here to say why.
+    Explains(Ran),
     /// This server is to run.
     Serves(Server),
     /// These templates are to be checked.
@@ -73,7 +73,7 @@ fn explained_by<'a>(ended: Result<Ran, CaseFault>) -> Done<'a>
     ensures { result ≡ explained_by ended }
 {
     match ended {
-        Ok(ran) if ran.end == CaseEnd::FaultPrinted => Done::Explains(ran.text),
+        Ok(ran) if ran.end == CaseEnd::FaultPrinted => Done::Explains(ran),
         Ok(ran) => Done::Ran(Status::of(Ok(ran.end))),
         Err(fault) => Done::Ran(Status::of(Err(fault))),
     }

@@ -10,7 +10,7 @@ returns-then-is_why-clause-ran g c =
     let ran = c.run_case_and_keep-ended.ensures in
     let asks : Asks words (Case c.in-Case.order c.in-Case.ahead c.in-Case.levels c.in-Case.is_why) = rw c.in-Case.is at c.in_ok-order.ensures.judged in
     let is : c.in-Case.is_why ≡ true = search rules in
-    rw c.explained_by.ensures (does_explained words c.in-Case.levels _ _ _ c.run_case_and_keep-ended.result ran.printed ran.text ran.bad_case ran.nothing ran.part
+    rw c.explained_by.ensures (does_explained words c.in-Case.levels _ _ _ c.run_case_and_keep-ended.result ran.printed ran.text ran.leg ran.bad_case ran.nothing ran.part
     (c.in-Case.order.items, c.in-Case.ahead, asks.0) (asks.1 ∙ is))
 
 pub returns-in-Serve-clause-ran : goal.returns-in-Serve-clause-ran
