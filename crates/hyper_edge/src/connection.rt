@@ -1,6 +1,6 @@
 //! A connection that the HTTP library serves, and how far it gets.
 
-ghost use Rattle.std.specs.Prelude.{◌≡◌, IsSomeAnd};
+ghost use Rattle.std.specs.Prelude.{◌≡◌, box_value, IsSomeAnd};
 ghost use Rattle.hyper_edge.specs.Refusals.{status_of_refusal};
 
 use crate::date::DateClock;
@@ -12,6 +12,7 @@ use futures::Future;
 use futures::task::{Context, Poll};
 use hyper::server::conn::http1::Builder;
 use polled_futures::Pollable;
+use std::alloc::{AllocError, Global};
 use std::os::fd::RawFd;
 use std::sync::{Arc, Wait};
 use std::time::Clock;
@@ -79,17 +80,18 @@ pub(crate) struct Connection<F: Future> {
 impl<F: Future<Output = hyper::Result<()>>> Connection<F> {
     /// A connection whose requests are handed over there, and whose stream tells these signals.
     pub(crate) fn new(
+        alloc: Global,
         future: F,
         handover: Arc<Handover>,
         signals: Option<Arc<Signals>>,
-    ) -> Connection<F>
+    ) -> Result<Connection<F>, AllocError>
         requires { F.can_poll future }
     {
-        Connection {
-            future: Pollable::new(future),
+        Ok(Connection {
+            future: Pollable::new(alloc, future)?,
             handover,
             signals,
-        }
+        })
     }
 
     /// Where the responses to its requests are given.
@@ -139,7 +141,7 @@ struct Stretch<F: Future> {
 impl<F: Future<Output = hyper::Result<()>>> Future for Stretch<F> {
     type Output = Went<F>;
 
-    ghost needs = { λ s n. IsSomeAnd s.connection (λ c. F.needs c.future.future n) };
+    ghost needs = { λ s n. IsSomeAnd s.connection (λ c. F.needs (box_value c.future.future) n) };
 
     fn poll(&mut self, cx: &mut Context<'_>) -> Poll<Went<F>> {
         let Some(connection) = self.connection.take() else {
@@ -150,12 +152,12 @@ impl<F: Future<Output = hyper::Result<()>>> Future for Stretch<F> {
             handover,
             signals,
         } = connection;
-        let mut future = future.into_inner();
-        if let Poll::Ready(ended) = future.poll(cx) {
-            return Poll::Ready(Went::Ended(status_of_refusal(&ended)));
-        }
+        let future = match future.poll(cx) {
+            Ok(ended) => return Poll::Ready(Went::Ended(status_of_refusal(&ended))),
+            Err(future) => future,
+        };
         let connection = Connection {
-            future: Pollable::new(future),
+            future,
             handover,
             signals,
         };

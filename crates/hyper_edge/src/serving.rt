@@ -103,7 +103,7 @@ where
         let handover = Arc::new(alloc, Handover::new()).ok()?;
         let future = opens(io, handover.clone().ok()?);
         Some(Session {
-            connection: Connection::new(future, handover, signals),
+            connection: Connection::new(alloc, future, handover, signals).ok()?,
             client,
             unreported: Vec::new(alloc),
         })

@@ -81,9 +81,12 @@ impl Exchange {
         let response = sender.send_request(request);
         // The connection ends with this response.
         drop(sender);
+        let Ok(connection) = Pollable::new(alloc, connection.without_shutdown()) else {
+            return Err(Lost::NoMemory);
+        };
         Ok(Exchange {
             page: Page::Nothing(response),
-            connection: Some(Pollable::new(connection.without_shutdown())),
+            connection: Some(connection),
             stream: None,
             socket: descriptor,
             signals,
@@ -138,10 +141,9 @@ impl Exchange {
         let Some(connection) = self.connection.take() else {
             return;
         };
-        let mut connection = connection.into_inner();
         match connection.poll(cx) {
-            Poll::Ready(parts) => self.stream = bare(parts),
-            Poll::Pending => self.connection = Some(Pollable::new(connection)),
+            Ok(parts) => self.stream = bare(parts),
+            Err(connection) => self.connection = Some(connection),
         }
     }
 
