@@ -8,7 +8,6 @@ use Rattle.access_log.specs.Faults.{name_of}
 use Rattle.access_log.specs.declared.format.LogFormat.{LogFormat}
 use Rattle.access_log.specs.declared.format.LogFormat.TheVariants.{Line, Combined, Json}
 use Rattle.access_log.specs.declared.record.Fault.{Fault}
-use Rattle.access_log.specs.declared.record.Place.{Place}
 use Rattle.access_log.specs.declared.record.RequestRecord.{RequestRecord}
 use Rattle.access_log.specs.declared.record.Version.{Version}
 use Rattle.access_log.specs.declared.record.Version.TheVariants.{Http10, Http11}
@@ -75,13 +74,10 @@ text_member name text = member_name name ++ codes "\"" ++ json_escaped text ++ c
 abbrev pub number_member : List ℕ → ℕ → List ℕ
 number_member name number = member_name name ++ decimal number
 
--- what a fault is about: ` http://a.test/p 3:14`; and why no answer came: `: connect`
-abbrev pub url_part : List ℕ → List ℕ
-url_part url = if length url == 0 then [] else codes " " ++ json_escaped url
-
-abbrev pub place_part : Option Place → List ℕ
-place_part None = []
-place_part (Some place) = codes " " ++ decimal place.line ++ codes ":" ++ decimal place.column
+-- what a fault is about, and why that is no template: ` http://a.test/p`, ` 3:14: error: <esi:try> ..`; and why no answer
+-- came: `: connect`
+abbrev pub text_part : List ℕ → List ℕ
+text_part text = if length text == 0 then [] else codes " " ++ json_escaped text
 
 abbrev pub cause_part : Option FetchFault → List ℕ
 cause_part None = []
@@ -89,7 +85,7 @@ cause_part (Some cause) = codes ": " ++ fetch.name_of cause
 
 unfoldable pub fault_member : Option Fault → List ℕ
 fault_member None = []
-fault_member (Some fault) = codes ",\"fault\":\"" ++ name_of fault.reason ++ url_part fault.url.items ++ place_part fault.place ++ cause_part fault.cause ++ codes "\""
+fault_member (Some fault) = codes ",\"fault\":\"" ++ name_of fault.reason ++ text_part fault.url.items ++ text_part fault.message.items ++ cause_part fault.cause ++ codes "\""
 
 unfoldable pub time_member : List ℕ → List ℕ
 time_member date = codes "{\"time\":\"" ++ internet_time date ++ codes "\""

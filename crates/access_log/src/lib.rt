@@ -14,4 +14,4 @@ pub use clock::date_of;
 pub use format::LogFormat;
 pub use line::{line_of, report_of};
 pub use queue::LineQueue;
-pub use record::{Fault, Place, Reason, RequestRecord, Version};
+pub use record::{Fault, Reason, RequestRecord, Version};

@@ -11,7 +11,7 @@ use crate::parts::{
     client_text, or_dash, push_field, push_number, push_number_field, push_number_member,
     push_quoted, push_text_member, version_text,
 };
-use crate::record::{Fault, Place, RequestRecord};
+use crate::record::{Fault, RequestRecord};
 use fetch_outcomes::FetchFault;
 use std::alloc::{AllocError, Global};
 use std::net::IpAddr;
@@ -260,32 +260,20 @@ fn push_fault_member(line: &mut Vec<u8>, fault: Option<&Fault>) -> Result<(), Al
     };
     line.extend_from_slice(b",\"fault\":\"")?;
     line.extend_from_slice(fault.reason.name().as_bytes())?;
-    push_url(line, fault.url.as_slice())?;
-    push_place(line, fault.place)?;
+    push_part(line, fault.url.as_slice())?;
+    push_part(line, fault.message.as_slice())?;
     push_cause(line, fault.cause)?;
     line.extend_from_slice(b"\"")
 }
 
-fn push_url(line: &mut Vec<u8>, url: &[u8]) -> Result<(), AllocError>
-    ensures { OnOk result (line.new.items ≡ line.old.items ++ spec.url_part url.now) }
+fn push_part(line: &mut Vec<u8>, text: &[u8]) -> Result<(), AllocError>
+    ensures { OnOk result (line.new.items ≡ line.old.items ++ spec.text_part text.now) }
 {
-    if url.is_empty() {
+    if text.is_empty() {
         return Ok(());
     }
     line.extend_from_slice(b" ")?;
-    push_escaped(line, IN_JSON, url)
-}
-
-fn push_place(line: &mut Vec<u8>, place: Option<Place>) -> Result<(), AllocError>
-    ensures { OnOk result (line.new.items ≡ line.old.items ++ spec.place_part place) }
-{
-    let Some(Place { line: row, column }) = place else {
-        return Ok(());
-    };
-    line.extend_from_slice(b" ")?;
-    push_number(line, row as u64)?;
-    line.extend_from_slice(b":")?;
-    push_number(line, column as u64)
+    push_escaped(line, IN_JSON, text)
 }
 
 fn push_cause(line: &mut Vec<u8>, cause: Option<FetchFault>) -> Result<(), AllocError>

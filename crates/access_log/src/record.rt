@@ -16,15 +16,6 @@ pub enum Version {
     Http11,
 }
 
-/// A line and a column of a template, each from 1.
-#[derive(Clone, Copy, Debug, Drop, PartialEq, Eq)]
-pub struct Place {
-    /// The line.
-    pub line: usize,
-    /// The column, in bytes.
-    pub column: usize,
-}
-
 /// Why a request wasn't answered with a page as it should be.
 #[derive(Clone, Copy, Debug, Drop, PartialEq, Eq)]
 pub enum Reason {
@@ -68,8 +59,8 @@ pub struct Fault {
     pub reason: Reason,
     /// The URL of the page or of the fragment that it is about; empty if it is about none.
     pub url: Vec<u8>,
-    /// Where the template at this URL has its fault, if it has one.
-    pub place: Option<Place>,
+    /// What is wrong with what is at this URL, such as where and why it is no template; empty if nothing more is known.
+    pub message: Vec<u8>,
     /// Why the fetch of this URL got no answer, if it got none and that is known.
     pub cause: Option<FetchFault>,
 }

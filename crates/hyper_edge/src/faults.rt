@@ -1,17 +1,20 @@
 //! Why a request wasn't answered with a page as it should be, for who reads the log.
 
 ghost use Rattle.std.specs.Prelude.{◌≡◌, option_map, IfSome};
+ghost use Rattle.std.specs.Arc.{arc_value};
+ghost use Rattle.std.specs.Option.{option_copied};
+ghost use Rattle.access_log.specs.declared.record.Reason.TheVariants as variant;
 ghost use Rattle.edge_types.specs.declared.answer.Reply.TheVariants.{Failed};
+ghost use Rattle.edge_types.specs.declared.outcome.PageFault.TheVariants.{IncludeFailed};
 ghost use Rattle.hyper_edge.specs.Records.{reason_of, status_of};
 
 use crate::journal::{Journal, copy};
 use crate::responding::Responded;
-use access_log::{Fault, Place, Reason};
-use edge_types::{Answer, Outcome, PageFault, Reply};
+use access_log::{Fault, Reason};
+use edge_types::{Answer, Outcome, PageFault, Reply, SharedBytes};
 use fetch_outcomes::FetchFault;
 use std::alloc::Global;
-use std::sync::Arc;
-use template_check::check;
+use template_check::{Message, check};
 
 /// The status of a page, or its fault.
 pub(crate) fn status_of(outcome: &Outcome) -> Result<u16, PageFault>
@@ -50,12 +53,12 @@ pub(crate) fn fault_of<R, J: Journal<R>>(
     let mut fault = Fault {
         reason,
         url: Vec::new(alloc),
-        place: None,
+        message: Vec::new(alloc),
         cause: None,
     };
-    if let Some(answer) = about(alloc, reason, responded) {
+    if let Some(answer) = about(reason, responded) {
         fault.url = copy(alloc, answer.url().as_bytes());
-        fault.place = place_in(alloc, answer);
+        fault.message = message_of(alloc, reason, answer);
         fault.cause = cause_of(rt, journal, answer);
     }
     Some(fault)
@@ -71,10 +74,15 @@ fn cause_of<R, J: Journal<R>>(rt: &R, journal: &J, answer: &Answer) -> Option<Fe
     }
 }
 
-// The answer that a reason is about: a fragment that failed, or the page's own.
-fn about<'a>(alloc: Global, reason: Reason, responded: &'a Responded) -> Option<&'a Answer> {
+// The answer that a reason is about: that of the leg at which the page failed, or the page's own.
+fn about(reason: Reason, responded: &Responded) -> Option<&Answer>
+    ensures { reason ≡ variant.Page IncludeFailed → option_copied result ≡ option_map arc_value responded.now.failed_leg }
+{
     match reason {
-        Reason::Page(PageFault::IncludeFailed) => failed_fragment(alloc, responded),
+        Reason::Page(PageFault::IncludeFailed) => match &responded.failed_leg {
+            Some(answer) => Some(&**answer),
+            None => None,
+        },
         _ => match responded.log.first() {
             Some(page) => Some(&**page),
             None => None,
@@ -82,34 +90,29 @@ fn about<'a>(alloc: Global, reason: Reason, responded: &'a Responded) -> Option<
     }
 }
 
-// The last fragment that couldn't be fetched; if each was, the last one that is no template.
-fn failed_fragment(alloc: Global, responded: &Responded) -> Option<&Answer> {
-    let mut failed: Option<&Arc<Answer>> = None;
-    let mut broken: Option<&Arc<Answer>> = None;
-    for answer in responded.log.iter().skip(1) {
-        if !answer.succeeded() {
-            failed = Some(answer);
-        } else if failed.is_none() && place_in(alloc, answer).is_some() {
-            broken = Some(answer);
+// What is wrong with the answer that a reason is about: the status of a fragment that is no success, or where and why it
+// is no template; empty if neither is so.
+fn message_of(alloc: Global, reason: Reason, answer: &Answer) -> Vec<u8> {
+    let message = match answer.reply() {
+        Reply::Failed => None,
+        Reply::Got { body, .. } if answer.processed() => invalid(alloc, body),
+        Reply::Got { status, .. } if reason == Reason::Page(PageFault::IncludeFailed) => {
+            format!(in alloc; "status {status}").ok()
         }
-    }
-    match (failed, broken) {
-        (Some(answer), _) | (None, Some(answer)) => Some(&**answer),
-        (None, None) => None,
+        Reply::Got { .. } => None,
+    };
+    match message {
+        Some(message) => message.into_bytes(),
+        None => Vec::new(alloc),
     }
 }
 
-// Where the template of an answer has its fault, if it is one with a fault.
-fn place_in(alloc: Global, answer: &Answer) -> Option<Place> {
-    if !answer.processed() {
-        return None;
-    }
-    let Reply::Got { body, .. } = answer.reply() else {
-        return None;
+// Where and why a text is no template, as a check of it says, if it is none.
+fn invalid(alloc: Global, body: &SharedBytes) -> Option<String> {
+    let fault = check(alloc, body).ok().flatten()?;
+    let message = Message {
+        text: body.as_bytes(),
+        fault,
     };
-    let position = check(alloc, body).ok().flatten()?.position(body.as_bytes());
-    Some(Place {
-        line: position.line,
-        column: position.column,
-    })
+    format!(in alloc; "{message}").ok()
 }

@@ -173,7 +173,7 @@ pub(crate) fn refused_head(alloc: Global, client: Option<IpAddr>, status: u16) -
         fault: Some(Fault {
             reason: Reason::Unreadable,
             url: Vec::new(alloc),
-            place: None,
+            message: Vec::new(alloc),
             cause: None,
         }),
     }

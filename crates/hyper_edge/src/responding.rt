@@ -59,14 +59,16 @@ pub(crate) struct RequestHead<'a> {
     pub(crate) fields: &'a [Field<'a>],
 }
 
-/// A response, the answers that it rests on, a page's own first, none for a refusal, and by which ways they came; and why
-/// it isn't a page as it should be, if it isn't.
+/// A response, the answers that it rests on, a page's own first, none for a refusal, and by which ways they came; why it
+/// isn't a page as it should be, if it isn't; and the answer of the leg at which an include failed the page, if one did and
+/// the leg asked for an answer.
 #[derive(Drop)]
 pub(crate) struct Responded {
     pub(crate) response: Response<EdgeBody>,
     pub(crate) log: Vec<Arc<Answer>>,
     pub(crate) ways: WayCounts,
     pub(crate) reason: Option<Reason>,
+    pub(crate) failed_leg: Option<Arc<Answer>>,
 }
 
 /// The response to the head of a request, with the answers that the page asked the source for.
@@ -142,6 +144,7 @@ where
                 log: page.log,
                 ways: page.ways,
                 reason,
+                failed_leg: page.failed_leg,
             }))
         }
         Err(AssembleFault::NoThread) => Ok(None),
@@ -160,6 +163,7 @@ pub(crate) fn refused(alloc: Global, status: u16, reason: Reason) -> Result<Resp
         log: Vec::new(alloc),
         ways: WayCounts::new(),
         reason: Some(reason),
+        failed_leg: None,
     })
 }
 
