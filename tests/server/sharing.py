@@ -132,7 +132,7 @@ def answers_are_kept_no_longer_where_the_clock_is_set_back():
     """The clock of the day is set back by an hour, as the log shows: an answer is kept for its seconds all the same."""
     with tempfile.TemporaryDirectory() as room:
         library, sign = os.path.join(room, "set_back.so"), os.path.join(room, "sign")
-        subprocess.run(["cc", "-O2", "-shared", "-fPIC", "-o", library, os.path.join(HERE, "set_back.c"), "-ldl"], check=True)
+        subprocess.run(["cc", "-O2", "-shared", "-fPIC", "-o", library, os.path.join(HERE, "set_back.c")], check=True)
         added = {"LD_PRELOAD": library, "SET_BACK": sign}
         with Origin({"/x": (b"x", "text/plain", "max-age=1")}) as origin, before(origin, "--log", "--accept", "2", added=added) as edge:
             same("at first", b"x", get(edge, "/x").body)
