@@ -100,13 +100,13 @@ def a_late_page_shows_older_answers():
     """Past its time a page has what would bridge a failing origin, and nobody is asked for it: by a thread for each fetch,
     or several fetches of one. What nothing bridges fails."""
     texts = {
-        "/slow": slow("s"),
+        "/slow": slow("s", 1.5),
         "/older": wire("HTTP/1.1 200 OK|surrogate-control: max-age=1+600|content-length: 1||1"),
         "/expired": wire("HTTP/1.1 200 OK|surrogate-control: max-age=1|content-length: 1||2"),
         "/p": page_of(ALTERNATIVE % "/slow" + "<esi:include src='/older'/>" + ALTERNATIVE % "/expired"),
     }
     for several in ((), ("--fetches", "2")):
-        with Wires(texts) as origin, before(origin, "--workers", "1", "--ahead", "0", "--page-timeout", "200", *several) as edge:
+        with Wires(texts) as origin, before(origin, "--workers", "1", "--ahead", "0", "--page-timeout", "700", *several) as edge:
             same("stored", [(200, b"1"), (200, b"2")], [told(edge, "/older"), told(edge, "/expired")])
             time.sleep(1.1)
             same("past the limit", (200, b"late1late"), told(edge, "/p"))
