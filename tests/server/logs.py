@@ -153,11 +153,11 @@ def heads_that_are_refused_are_told():
     with Origin(PLAIN) as origin:
         plain, combined, as_json = [lines_of(origin, ("--log-format", name), asked)[:-1] for name in ("line", "combined", "json")]
     same("lines", ["N - - 400 0 0 N", "N - - 431 0 0 N", "N GET http://a.test/p 200 10 2 N"], sorted(re.sub(r"^\d+|\d+$", "N", line) for line in plain))
-    told_as = sorted((at, *others) for at, _, *others in map(of_combined, combined))
-    same("combined", [("127.0.0.1", "- - HTTP/1.1", status, 0, "-", "-") for status in (400, 431)], [it for it in told_as if it[1] == "- - HTTP/1.1"])
-    told_as = [(it["client"], it["method"], it["url"], it["status"], it["answers"], it.get("fault")) for it in map(of_json, as_json)]
-    same("objects", [("127.0.0.1", "", "", status, 0, "Unreadable") for status in (400, 431)], sorted(it for it in told_as if it[3] != 200))
     same("as many in each format", [3, 3], [len(combined), len(as_json)])
+    refused = sorted((at, *others) for at, _, *others in map(of_combined, combined) if others[1] != 200)
+    same("combined", [("127.0.0.1", "- - HTTP/1.1", status, 0, "-", "-") for status in (400, 431)], refused)
+    refused = sorted((it["client"], it["method"], it["url"], it["status"], it["answers"], it["fault"]) for it in map(of_json, as_json) if it["status"] != 200)
+    same("objects", [("127.0.0.1", "", "", status, 0, "Unreadable") for status in (400, 431)], refused)
 
 
 def line_is_the_format_without_a_name():
