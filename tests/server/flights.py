@@ -28,27 +28,30 @@ def fragment(i, seconds=0.0):
     return lambda _: time.sleep(seconds) or text
 
 
-def fastest(call, tries=5):
-    """What a call gives, and the fewest seconds that it took in some tries: a busy machine may hold one up."""
+def fastest(call, enough, tries=5):
+    """What a call gives, and the fewest seconds that it took in some tries, until one is fast enough: a busy machine may hold
+    one up."""
     taken = []
     for _ in range(tries):
         begun = time.monotonic()
         came = call()
         taken.append(time.monotonic() - begun)
+        if taken[-1] < enough:
+            break
     return came, min(taken)
 
 
 def one_thread_waits_for_many_fetches():
-    """Twenty fragments, each after 20 ms, and 200, of which 64 are fetched at a time: in about the time of one round,
+    """Twenty fragments, each after 200 ms, and 200, of which 64 are fetched at a time: in about the time of one round,
     and of four. One that asks for one after another takes twenty rounds."""
     # On a busy machine it takes some times as long, the origin's own work among it; four threads that fetch one after
     # another take at least five and twelve times as long.
     for count, rounds, most in ((20, 1, 4), (200, 4, 8)):
-        texts = {"/%d" % i: fragment(i, 0.02) for i in range(count)}
+        texts = {"/%d" % i: fragment(i, 0.2) for i in range(count)}
         with Wires({**texts, "/p": page_of(count)}) as origin, before(origin, *FLYING) as edge:
-            came, taken = fastest(lambda: told(edge))
+            came, taken = fastest(lambda: told(edge), 0.2 * rounds * most)
             same("%d fragments" % count, (200, joined(count)), came)
-            same("%d fragments took %.4f s" % (count, taken), True, taken < 0.02 * rounds * most)
+            same("%d fragments took %.4f s" % (count, taken), True, taken < 0.2 * rounds * most)
 
 
 def as_many_are_in_flight_as_may_be():
@@ -185,9 +188,9 @@ def origins_that_cut_their_answers_fail_alone():
         same("the page", (200, wanted), told(edge))
 
 
-def a_page_holds_its_fetches_back_for_the_bound_of_an_origin():
+def the_fetches_of_a_page_wait_for_the_bound_of_an_origin():
     """Four fetches may be in flight to an origin: a page of twenty fragments has four at a time, and none fails for the
-    page's own. Beside it another page's first fetch is one too many, and fails."""
+    page's own. Beside it another page's first fetch is one too many, and waits behind the page's last."""
     meeting = Meeting(4)
     texts = {"/%d" % i: meeting.of(sized("HTTP/1.1 200 OK", "%d" % i)) for i in range(20)}
     with Wires({**texts, "/p": page_of(20)}) as origin, before(origin, *FLYING, "--origin-fetches", "4") as edge:
@@ -200,10 +203,14 @@ def a_page_holds_its_fetches_back_for_the_bound_of_an_origin():
         first = threading.Thread(target=lambda: came.append(told(edge)))
         first.start()
         soon("three are in flight", lambda: len(origin.heads) == 4)
-        same("one too many", UNASSEMBLED, told(edge, "/q"))
+        second = threading.Thread(target=lambda: came.append(told(edge, "/q")))
+        second.start()
+        time.sleep(0.2)
+        same("one too many", 4, len(origin.heads))
         released.set()
         first.join()
-        same("the page", [(200, b"1111")], came)
+        second.join()
+        same("both pages", [(200, b"1"), (200, b"1111")], sorted(came))
 
 
 def nested_fragments_begin_as_they_become_known():
@@ -212,13 +219,13 @@ def nested_fragments_begin_as_they_become_known():
     texts = {"/p": wire(PAGE + "".join("<esi:include src='/%d'/>" % i for i in range(8)))}
     for i in range(8):
         inner = sized(processed, "(<esi:include src='/%d/x'/>)" % i)
-        texts["/%d" % i] = (lambda text, i: lambda _: time.sleep(0.01 * i) or text)(inner, i)
-        texts["/%d/x" % i] = fragment(i, 0.02)
+        texts["/%d" % i] = (lambda text, i: lambda _: time.sleep(0.03 * i) or text)(inner, i)
+        texts["/%d/x" % i] = fragment(i, 0.06)
     with Wires(texts) as origin, before(origin, *FLYING) as edge:
-        came, taken = fastest(lambda: told(edge))
+        came, taken = fastest(lambda: told(edge), 0.6)
         same("the page", (200, b"".join(b"(%d)" % i for i in range(8))), came)
-        # The last fragment comes after 70 ms, and what it needs 20 ms later; one after another they take 440.
-        same("it took %.4f s" % taken, True, taken < 0.2)
+        # The last fragment comes after 210 ms, and what it needs 60 ms later; one after another they take 1320.
+        same("it took %.4f s" % taken, True, taken < 0.6)
 
 
 def many_flights_over_kept_connections():
@@ -242,7 +249,7 @@ TESTS = (
     what_somebody_else_waits_for_is_fetched_to_its_end,
     one_origin_that_hangs_leaves_the_others,
     origins_that_cut_their_answers_fail_alone,
-    a_page_holds_its_fetches_back_for_the_bound_of_an_origin,
+    the_fetches_of_a_page_wait_for_the_bound_of_an_origin,
     nested_fragments_begin_as_they_become_known,
     many_flights_over_kept_connections,
 )

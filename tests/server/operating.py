@@ -190,7 +190,7 @@ def fetches_that_are_not_made_are_counted():
     """One that is one too many for its origin, and one to an origin that rests."""
     gate = threading.Event()
     texts = {"/p": lambda _: gate.wait(PATIENCE) and sized("HTTP/1.1 200 OK", "late")}
-    with Wires(texts) as origin, Edge("--origin", "a.test=" + origin.at, *ADMIN, "--origin-fetches", "1") as edge:
+    with Wires(texts) as origin, Edge("--origin", "a.test=" + origin.at, *ADMIN, "--origin-fetches", "1", "--origin-queue", "0") as edge:
         desk = Desk(edge)
         first = client(edge, ASKED)
         time.sleep(0.3)

@@ -56,7 +56,7 @@ def usage_is_told():
         ["--ahead", "257"], ["--ahead=-1"], ["--levels", "0"], ["--levels", "9"], ["--capacity", "0"], ["--capacity", "1025"], ["--page-bytes", "4294967296"],
         ["--accept", "18446744073709551616"], ["--accept", "+1"], ["--accept", ""], ["--timeout", "1s"], ["--timeout", "86400001"],
         ["--page-timeout", "x"], ["--page-timeout", "86400001"], ["--origin-keep-alive", "1025"], ["--origin-keep-alive=-1"],
-        ["--origin-fetches", "65536"], ["--origin-rest", "5s"], ["--origin-rest", "86401"], ["--url-rest", "5s"], ["--url-rest", "86401"],
+        ["--origin-fetches", "65536"], ["--origin-queue", "65537"], ["--origin-rest", "5s"], ["--origin-rest", "86401"], ["--url-rest", "5s"], ["--url-rest", "86401"],
         ["--name", ""], ["--name", "a b"], ["--name", "a/b"], ["--name", "n" * 65], ["--name", "a", "--name", "b"],
         ["--client-timeout", "-"], ["--client-timeout", "86400001"], ["--keep-alive", "5s"], ["--keep-alive", "86401"],
         ["--threads", "0"], ["--threads", "65"], ["--connections", "0"], ["--connections", "65537"], ["--head", "x"], ["--head=yes"], ["--abort-on-close", "x"], ["--abort-on-close", "--abort-on-close"], ["--stop-with-input", "x"], ["--log", "x"], ["--log=yes"], ["--log", "--log"], ["--log-format"], ["--log-format", "JSON"], ["--log-format="],
@@ -101,6 +101,8 @@ def numbers_that_no_files_are_left_for_are_told():
         ([], 100, b"warning: --threads 64 with --workers 4 can't be reached: 100 files may be open, and 608 may be needed (ulimit -n)\n"),
         ([], 607, b"warning: --connections 64 can't be reached, only 63: 607 files may be open, and 608 may be needed (ulimit -n)\n"),
         ([], 608, b""),
+        (["--fetches", "64"], 200, b"warning: --connections 64 can't be reached, only 42: 200 files may be open, and 288 may be needed (ulimit -n)\n"),
+        (["--fetches", "64"], 288, b""),
     )
     for words, files, said in rows:
         with Origin(PLAIN) as origin, Edge("--origin", "a.test=" + origin.at, *words, files=files) as edge:
@@ -110,8 +112,8 @@ def numbers_that_no_files_are_left_for_are_told():
 
 def limits_are_taken():
     """The largest and the smallest of each number, an address of IPv6, and a thousand origins."""
-    most = ["--workers", "16", "--ahead", "256", "--levels", "8", "--capacity", "1024", "--page-bytes", "4294967295", "--timeout", "86400000", "--page-timeout", "86400000", "--origin-keep-alive", "1024", "--origin-fetches", "65535", "--origin-rest", "86400", "--url-rest", "86400", "--name", "n" * 64, "--client-timeout", "86400000", "--keep-alive", "86400", "--threads", "64", "--connections", "65536", "--head", "--abort-on-close"]
-    least = ["--workers", "1", "--ahead", "0", "--levels", "1", "--capacity", "1", "--page-bytes", "0", "--timeout", "0", "--page-timeout", "0", "--origin-keep-alive", "0", "--origin-fetches", "0", "--origin-rest", "0", "--url-rest", "0", "--name", "~", "--client-timeout", "0", "--keep-alive", "0", "--threads", "1", "--connections", "1"]
+    most = ["--workers", "16", "--ahead", "256", "--levels", "8", "--capacity", "1024", "--page-bytes", "4294967295", "--timeout", "86400000", "--page-timeout", "86400000", "--origin-keep-alive", "1024", "--origin-fetches", "65535", "--origin-queue", "65536", "--origin-rest", "86400", "--url-rest", "86400", "--name", "n" * 64, "--client-timeout", "86400000", "--keep-alive", "86400", "--threads", "64", "--connections", "65536", "--head", "--abort-on-close"]
+    least = ["--workers", "1", "--ahead", "0", "--levels", "1", "--capacity", "1", "--page-bytes", "0", "--timeout", "0", "--page-timeout", "0", "--origin-keep-alive", "0", "--origin-fetches", "0", "--origin-queue", "0", "--origin-rest", "0", "--url-rest", "0", "--name", "~", "--client-timeout", "0", "--keep-alive", "0", "--threads", "1", "--connections", "1"]
     many = [word for at in range(1000) for word in ("--origin", "%d.test=127.0.0.1:80" % at)]
     for words in (most, least, many, ["--accept", "18446744073709551615"], ["--origin", "a.test=[::1]:80", "--origin", "b.test=127.0.0.1:80"]):
         with Origin(PLAIN) as origin, before(origin, *words) as edge:

@@ -1,5 +1,5 @@
 -- How many descriptors a server may need, and which of its numbers can't be reached with fewer.
-use Rattle.std.specs.Prelude.{◌≡◌, ◌≤◌, ◌<◌, ◌+◌, ◌*◌, ◌==◌, ℕ, if◌then◌else◌}
+use Rattle.std.specs.Prelude.{◌≡◌, ◌≤◌, ◌<◌, ◌+◌, ◌-◌, ◌*◌, ◌==◌, ℕ, if◌then◌else◌}
 use Rattle.edge_main.specs.declared.open_files.Numbers.{Numbers}
 use Rattle.edge_main.specs.declared.open_files.Unreached.{Unreached}
 use Rattle.edge_main.specs.declared.open_files.Unreached.TheVariants as number
@@ -12,22 +12,25 @@ pub record AreOf (server : Server) (numbers : Numbers) : Type 0 where
   pub workers_are : numbers.workers ≡ server.pages.workers
   pub fetches_are : numbers.fetches ≡ server.pages.fetches
 
--- those of a page's fetches at once: one for each worker; or for each fetch that its own thread has in flight, and one
--- more to wait for them
-abbrev pub of_page : Numbers → ℕ
-of_page numbers = if numbers.fetches == 1 then numbers.workers else numbers.fetches + 1
+-- those of a connection: its socket; and where its page is parked while it waits, two by which that is told, and a fetch's
+abbrev pub of_connection : Numbers → ℕ
+of_connection numbers = if numbers.fetches == 1 then 1 else 4
 
--- those of the process itself, and of a page for each thread that serves, and for as many threads that go on with
--- clients who were waited for
+-- those of the process itself; and where a page holds its thread, one for each worker of the page of each thread that
+-- serves, and of as many threads that go on with clients who were waited for
 abbrev pub besides : Numbers → ℕ
-besides numbers = 32 + 2 * numbers.threads * of_page numbers
+besides numbers = if numbers.fetches == 1 then 32 + 2 * numbers.threads * numbers.workers else 32
 
--- and one for each connection to a client
+-- and those of each connection to a client
 abbrev pub wanted : Numbers → ℕ
-wanted numbers = besides numbers + numbers.connections
+wanted numbers = besides numbers + of_connection numbers * numbers.connections
 
--- with this limit the number can't be reached: of the connections just these can be open beside all else; or there is
--- no room for even one beside all fetches
+-- just so many connections have room among so many descriptors
+abbrev pub AreConnections : Numbers → ℕ → ℕ → Type 0
+AreConnections numbers count most = (of_connection numbers * most ≤ count) × (count < of_connection numbers * (most + 1))
+
+-- with this limit the number can't be reached: of the connections just these have room beside all else; or not even one
+-- has
 abbrev pub IsUnreached : Numbers → ℕ → Unreached → Type 0
-IsUnreached numbers limit (number.Connections most) = (besides numbers + most ≡ limit) × (1 ≤ most) × (most < numbers.connections)
-IsUnreached numbers limit number.Fetches = limit ≤ besides numbers
+IsUnreached numbers limit (number.Connections most) = (besides numbers ≤ limit) × AreConnections numbers (limit - besides numbers) most × (1 ≤ most) × (most < numbers.connections)
+IsUnreached numbers limit number.Fetches = limit < besides numbers + of_connection numbers

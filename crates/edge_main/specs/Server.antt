@@ -4,7 +4,7 @@ use Rattle.std.specs.Duration.{as_nanos}
 use Rattle.std.specs.declared.time.Duration.{Duration}
 use Rattle.edge_setup.specs.declared.setup.Fetching.{Fetching}
 use Rattle.edge_setup.specs.declared.setup.Setup.{Setup}
-use Rattle.origin_health.specs.declared.health.Bounds.{Bounds}
+use Rattle.hyper_source.specs.declared.gate.Bounds.{Bounds}
 use Rattle.edge_main.specs.declared.server.Server.{Server}
 
 -- how many nanoseconds a limit has, if there is one
@@ -27,6 +27,11 @@ idle_of seconds = if seconds == 0 then None else Some (seconds * 1_000_000_000)
 abbrev pub bound_of : ℕ → Option ℕ
 bound_of count = if count == 0 then None else Some count
 
+-- how many may wait for a fetch that another page has begun: as many as may be fetched at once, where each page has one
+-- fetch in flight and holds its thread
+abbrev pub crowd_of : ℕ → ℕ → Option ℕ
+crowd_of fetches most = if fetches == 1 then bound_of most else None
+
 -- so many bytes of a page; 0 means that there may be any number
 abbrev pub bytes_of : ℕ → ℕ
 bytes_of count = if count == 0 then 18_446_744_073_709_551_615 else count
@@ -36,9 +41,15 @@ pub record IsUnbounded (fetching : Fetching) : Type 0 where
   pub any_fetches : fetching.origin_fetches ≡ 0
   pub no_rest : fetching.origin_rest ≡ 0
 
--- so many fetches at once, and a rest of so many seconds, in milliseconds
-pub record AreBounds (fetching : Fetching) (bounds : Bounds) : Type 0 where
+-- so many fetches that wait; where no word says how many, as many as connections may be open
+abbrev pub queue_for : ℕ → Option ℕ → ℕ
+queue_for connections None = connections
+queue_for connections (Some most) = most
+
+-- so many fetches at once, so many that wait, and a rest of so many seconds, in milliseconds
+pub record AreBounds (fetching : Fetching) (connections : ℕ) (bounds : Bounds) : Type 0 where
   pub fetches_are : bounds.most_in_flight ≡ bound_of fetching.origin_fetches
+  pub queue_is : bounds.most_waiting ≡ queue_for connections fetching.origin_queue
   pub rest_is : bounds.rest ≡ fetching.origin_rest * 1_000
 
 -- each part is what its option asks for
@@ -47,7 +58,8 @@ pub record IsServerOf (setup : Setup) (server : Server) : Type 0 where
   pub origins_are : server.origins ≡ setup.origins
   pub fetch_is : nanos_of server.fetches.limit ≡ limit_of (fetch_millis setup.fetching.timeout setup.fetching.page_timeout)
   pub idle_origins_are : server.fetches.idle ≡ setup.fetching.origin_keep_alive
-  pub bounds_are : MatchOption server.fetches.bounds (IsUnbounded setup.fetching) (AreBounds setup.fetching)
+  pub bounds_are : MatchOption server.fetches.bounds (IsUnbounded setup.fetching) (AreBounds setup.fetching setup.serving.connections)
+  pub crowd_is : server.fetches.crowd ≡ crowd_of setup.pages.fetches setup.fetching.origin_fetches
   pub url_rest_is : server.fetches.url_rest ≡ setup.fetching.url_rest
   pub name_is : server.name ≡ setup.name
   pub request_is : nanos_of server.clients.request ≡ limit_of setup.serving.client_timeout

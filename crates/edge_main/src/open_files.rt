@@ -27,7 +27,7 @@ pub(crate) struct Numbers {
 pub(crate) enum Unreached {
     /// No more connections than these can be open.
     Connections(u64),
-    /// Not all fetches of each thread's page can be in flight.
+    /// Not one connection and the fetches of its page can be open.
     Fetches,
 }
 
@@ -44,44 +44,52 @@ impl Numbers {
         }
     }
 
-    // The descriptors of a page's fetches at once: one for each worker; or for each that its own thread has in flight,
-    // and one more to wait for them.
-    fn of_page(self) -> u64
-        ensures { result ≡ spec.of_page self }
-    {
-        if self.fetches == 1 {
-            u64::from(self.workers)
-        } else {
-            u64::from(self.fetches) + 1
-        }
-    }
-
-    // The descriptors of the process itself, and those of the page of each thread: as many threads more may go on
-    // with clients who were waited for.
+    // The descriptors of the process itself; and where a page holds its thread, those of the page of each thread, one for
+    // each worker: as many threads more may go on with clients who were waited for.
     fn besides(self) -> u64
         ensures { result ≡ spec.besides self }
     {
-        OWN + 2 * u64::from(self.threads) * self.of_page()
+        if self.fetches == 1 {
+            OWN + 2 * u64::from(self.threads) * u64::from(self.workers)
+        } else {
+            OWN
+        }
+    }
+
+    // How many connections have room among so many descriptors: each has its socket; and where its page is parked while it
+    // waits, two by which that is told, and a fetch's.
+    fn connections_of(self, count: u64) -> u64
+        ensures { spec.AreConnections self count result }
+    {
+        if self.fetches == 1 { count } else { count / 4 }
     }
 
     /// How many descriptors a server may need.
     pub(crate) fn wanted(self) -> u64
         ensures { result ≡ spec.wanted self }
     {
-        self.besides() + u64::from(self.connections)
+        let connections = u64::from(self.connections);
+        if self.fetches == 1 {
+            self.besides() + connections
+        } else {
+            self.besides() + 4 * connections
+        }
     }
 
     /// The number that can't be reached where no more descriptors than these may be open, if there is one.
     pub(crate) fn unreached(self, limit: u64) -> Option<Unreached>
         ensures { MatchOption result (spec.wanted self ≤ limit) (spec.IsUnreached self limit) }
     {
-        let besides = self.besides();
         if self.wanted() <= limit {
-            None
-        } else if besides < limit {
-            Some(Unreached::Connections(limit - besides))
-        } else {
-            Some(Unreached::Fetches)
+            return None;
+        }
+        let besides = self.besides();
+        if limit < besides {
+            return Some(Unreached::Fetches);
+        }
+        match self.connections_of(limit - besides) {
+            0 => Some(Unreached::Fetches),
+            most => Some(Unreached::Connections(most)),
         }
     }
 }

@@ -1,10 +1,10 @@
 //! The server that the options of `serve` ask for.
 ghost use Rattle.std.specs.Prelude.{◌≡◌, MatchOption};
 ghost use Rattle.edge_setup.specs.Words.{IsWithin};
-ghost use Rattle.edge_main.specs.Server.{AreBounds, IsServerOf, IsUnbounded, bytes_of, fetch_millis, idle_of, limit_of, nanos_of};
+ghost use Rattle.edge_main.specs.Server.{AreBounds, IsServerOf, IsUnbounded, bytes_of, crowd_of, fetch_millis, idle_of, limit_of, nanos_of};
 
 use crate::server::{Fetches, Server};
-use edge_setup::{Fetching, Setup};
+use edge_setup::{Fetching, Pages, Setup};
 use fetch_workers::Assembling;
 use hyper_edge::{Capacity, Limits};
 use hyper_source::Bounds;
@@ -56,9 +56,10 @@ fn bytes_of(count: u32) -> usize
     }
 }
 
-// When an address may be asked: 0 fetches in flight mean that there is no bound, and a rest is in milliseconds.
-fn bounds_of(fetching: Fetching) -> Option<Bounds>
-    ensures { MatchOption result (IsUnbounded fetching) (AreBounds fetching) }
+// When an address may be asked: 0 fetches in flight mean that there is no bound, as many wait as connections may be open
+// where no number says how many, and a rest is in milliseconds.
+fn bounds_of(fetching: Fetching, connections: u32) -> Option<Bounds>
+    ensures { MatchOption result (IsUnbounded fetching) (AreBounds fetching connections) }
 {
     if fetching.origin_fetches == 0 && fetching.origin_rest == 0 {
         return None;
@@ -70,8 +71,21 @@ fn bounds_of(fetching: Fetching) -> Option<Bounds>
     };
     Some(Bounds {
         most_in_flight,
+        most_waiting: fetching.origin_queue.unwrap_or(connections),
         rest: u64::from(fetching.origin_rest) * 1_000,
     })
+}
+
+// How many may wait for a fetch that another page has begun: where each of them holds a thread, no more than may fetch at
+// once.
+fn crowd_of(pages: Pages, fetching: Fetching) -> Option<u32>
+    ensures { result ≡ crowd_of pages.fetches fetching.origin_fetches }
+{
+    if pages.fetches == 1 && fetching.origin_fetches > 0 {
+        Some(u32::from(fetching.origin_fetches))
+    } else {
+        None
+    }
 }
 
 /// The server of a setup.
@@ -96,7 +110,8 @@ pub(crate) fn server_of(setup: Setup) -> Server
         fetches: Fetches {
             limit: limit_of(fetch_millis(fetching)),
             idle: fetching.origin_keep_alive,
-            bounds: bounds_of(fetching),
+            bounds: bounds_of(fetching, serving.connections),
+            crowd: crowd_of(pages, fetching),
             url_rest: fetching.url_rest,
         },
         name,

@@ -17,6 +17,8 @@ pub(crate) struct Fetches {
     pub idle: u16,
     /// When an address may be asked, where that is bounded.
     pub bounds: Option<Bounds>,
+    /// How many may wait for a fetch that another page has begun, where that is bounded.
+    pub crowd: Option<u32>,
     /// For how many seconds a URL that failed isn't asked again.
     pub url_rest: u32,
 }

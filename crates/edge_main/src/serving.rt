@@ -206,7 +206,7 @@ fn warn_of_files(rt: &impl Eprint, numbers: Numbers) {
             "warning: --connections {connections} can't be reached, only {most}: {limit} files may be open, and {wanted} may be needed (ulimit -n)"
         ),
         Some(Unreached::Fetches) if fetches > 1 => eprintln!(rt;
-            "warning: --threads {threads} with --fetches {fetches} can't be reached: {limit} files may be open, and {wanted} may be needed (ulimit -n)"
+            "warning: --connections {connections} with --fetches {fetches} can't be reached: {limit} files may be open, and {wanted} may be needed (ulimit -n)"
         ),
         Some(Unreached::Fetches) => eprintln!(rt;
             "warning: --threads {threads} with --workers {workers} can't be reached: {limit} files may be open, and {wanted} may be needed (ulimit -n)"
@@ -306,10 +306,9 @@ fn cache_of(
     requires few { capacity ≤ 1024 }
 {
     let alloc = rt.alloc();
-    let most_waiting = fetches.bounds.and_then(|bounds| bounds.most_in_flight);
     let failures = SharedFailures::new(alloc, fetches.url_rest)?;
     let spared = SparingSource::new(source, MonotonicSeconds, failures);
-    let kept = Cache::new(alloc, spared, MonotonicSeconds, capacity)?.bounded(most_waiting);
+    let kept = Cache::new(alloc, spared, MonotonicSeconds, capacity)?.bounded(fetches.crowd);
     match Arc::new(alloc, kept) {
         Ok(shared) => Ok(shared),
         Err(_) => Err(Status::NoMemory),

@@ -21,16 +21,21 @@ with_pages command = with_rule (with_rule (with_rule (with_rule (with_rule (with
     (numeric_option capacity))
     (numeric_option page_bytes)
 
--- how origins are asked
-abbrev pub with_fetching : App → App
-with_fetching command = with_rule (with_rule (with_rule (with_rule (with_rule (with_rule (with_rule command
-    (numeric_option timeout))
-    (numeric_option page_timeout))
-    (numeric_option origin_keep_alive))
+-- when an origin is asked, and as whom
+abbrev pub with_bounds : App → App
+with_bounds command = with_rule (with_rule (with_rule (with_rule (with_rule command
     (numeric_option origin_fetches))
+    (named_option (codes "origin-queue")))
     (numeric_option origin_rest))
     (numeric_option url_rest))
     (named_option (codes "name"))
+
+-- how origins are asked
+abbrev pub with_fetching : App → App
+with_fetching command = with_bounds (with_rule (with_rule (with_rule command
+    (numeric_option timeout))
+    (numeric_option page_timeout))
+    (numeric_option origin_keep_alive))
 
 -- how connections are served
 abbrev pub with_serving : App → App

@@ -23,7 +23,7 @@ shown option = record { name = option.name.now; least = option.least; most = opt
 abbrev pub workers : Numeric
 workers = record { name = codes "workers"; least = 1; most = 16; default = codes "4"; refusal = codes "error: --workers takes a number from 1 to 16" }
 
--- the fetches that a page's own thread may have in flight
+-- the fetches that a page may have in flight
 abbrev pub fetches : Numeric
 fetches = record { name = codes "fetches"; least = 1; most = 256; default = codes "1"; refusal = codes "error: --fetches takes a number from 1 to 256" }
 

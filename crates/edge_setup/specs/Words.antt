@@ -40,6 +40,11 @@ abbrev pub accepts_of : Option Text → Option ℕ
 accepts_of None = Some most_accepts
 accepts_of (Some word) = decimal_of word most_accepts
 
+-- how many fetches may wait, where a word says it
+abbrev pub queue_of : Option Text → Option (Option ℕ)
+queue_of None = Some None
+queue_of (Some word) = option_map Some (decimal_of word 65536)
+
 -- whether a flag is set
 abbrev pub is_set : Option Text → Bool
 is_set word = option_map_or (λ w. bytes_eq w (codes "true")) word false
@@ -153,6 +158,7 @@ pub record SaysFetching (rows : List Row) (fetching : Fetching) : Type 0 where
   pub page_timeout_is : said_of page_timeout rows ≡ Some fetching.page_timeout
   pub origin_keep_alive_is : said_of origin_keep_alive rows ≡ Some fetching.origin_keep_alive
   pub origin_fetches_are : said_of origin_fetches rows ≡ Some fetching.origin_fetches
+  pub origin_queue_is : queue_of (first_of (codes "origin-queue") rows) ≡ Some fetching.origin_queue
   pub origin_rest_is : said_of origin_rest rows ≡ Some fetching.origin_rest
   pub url_rest_is : said_of url_rest rows ≡ Some fetching.url_rest
 
@@ -198,6 +204,7 @@ IsWrong rows named.Timeout = said_of timeout rows ≡ None
 IsWrong rows named.PageTimeout = said_of page_timeout rows ≡ None
 IsWrong rows named.OriginKeepAlive = said_of origin_keep_alive rows ≡ None
 IsWrong rows named.OriginFetches = said_of origin_fetches rows ≡ None
+IsWrong rows named.OriginQueue = queue_of (first_of (codes "origin-queue") rows) ≡ None
 IsWrong rows named.OriginRest = said_of origin_rest rows ≡ None
 IsWrong rows named.UrlRest = said_of url_rest rows ≡ None
 IsWrong rows named.Accept = accepts_of (first_of (codes "accept") rows) ≡ None
@@ -228,6 +235,9 @@ HasAccepts rows = IsSome (accepts_of (first_of (codes "accept") rows))
 abbrev pub HasAhead : List Row → Type 0
 HasAhead rows = IsSome (ahead_said 1 (first_of (codes "ahead") rows))
 
+abbrev pub HasQueue : List Row → Type 0
+HasQueue rows = IsSome (queue_of (first_of (codes "origin-queue") rows))
+
 abbrev pub HasLog : List Row → Type 0
 HasLog rows = IsSome (log_said rows)
 
@@ -235,7 +245,7 @@ abbrev pub HasPages : List Row → Type 0
 HasPages rows = Has workers rows × Has fetches rows × HasAhead rows × Has levels rows × Has capacity rows × Has page_bytes rows
 
 abbrev pub HasFetching : List Row → Type 0
-HasFetching rows = Has timeout rows × Has page_timeout rows × Has origin_keep_alive rows × Has origin_fetches rows × Has origin_rest rows × Has url_rest rows
+HasFetching rows = Has timeout rows × Has page_timeout rows × Has origin_keep_alive rows × Has origin_fetches rows × HasQueue rows × Has origin_rest rows × Has url_rest rows
 
 abbrev pub HasServing : List Row → Type 0
 HasServing rows = HasAccepts rows × Has client_timeout rows × Has keep_alive rows × Has threads rows × Has connections rows × HasLog rows
@@ -263,8 +273,9 @@ AreValidBefore rows named.Timeout = HasAddresses rows × HasPages rows
 AreValidBefore rows named.PageTimeout = HasAddresses rows × HasPages rows × Has timeout rows
 AreValidBefore rows named.OriginKeepAlive = HasAddresses rows × HasPages rows × Has timeout rows × Has page_timeout rows
 AreValidBefore rows named.OriginFetches = HasAddresses rows × HasPages rows × Has timeout rows × Has page_timeout rows × Has origin_keep_alive rows
-AreValidBefore rows named.OriginRest = HasAddresses rows × HasPages rows × Has timeout rows × Has page_timeout rows × Has origin_keep_alive rows × Has origin_fetches rows
-AreValidBefore rows named.UrlRest = HasAddresses rows × HasPages rows × Has timeout rows × Has page_timeout rows × Has origin_keep_alive rows × Has origin_fetches rows × Has origin_rest rows
+AreValidBefore rows named.OriginQueue = HasAddresses rows × HasPages rows × Has timeout rows × Has page_timeout rows × Has origin_keep_alive rows × Has origin_fetches rows
+AreValidBefore rows named.OriginRest = HasAddresses rows × HasPages rows × Has timeout rows × Has page_timeout rows × Has origin_keep_alive rows × Has origin_fetches rows × HasQueue rows
+AreValidBefore rows named.UrlRest = HasAddresses rows × HasPages rows × Has timeout rows × Has page_timeout rows × Has origin_keep_alive rows × Has origin_fetches rows × HasQueue rows × Has origin_rest rows
 AreValidBefore rows named.Accept = HasAddresses rows × HasPages rows × HasFetching rows
 AreValidBefore rows named.ClientTimeout = HasAddresses rows × HasPages rows × HasFetching rows × HasAccepts rows
 AreValidBefore rows named.KeepAlive = HasAddresses rows × HasPages rows × HasFetching rows × HasAccepts rows × Has client_timeout rows
@@ -295,6 +306,7 @@ refusal_of named.Timeout = timeout.refusal
 refusal_of named.PageTimeout = page_timeout.refusal
 refusal_of named.OriginKeepAlive = origin_keep_alive.refusal
 refusal_of named.OriginFetches = origin_fetches.refusal
+refusal_of named.OriginQueue = codes "error: --origin-queue takes a number from 0 to 65536"
 refusal_of named.OriginRest = origin_rest.refusal
 refusal_of named.UrlRest = url_rest.refusal
 refusal_of named.Accept = codes "error: --accept takes a number below 2 to the power of 64"

@@ -2,7 +2,7 @@
 ghost use Rattle.std.specs.Prelude.{◌≡◌, false, IfOk};
 ghost use Rattle.clap.specs.Words.{app_of};
 ghost use Rattle.clap.specs.declared.builder.command.Command.TheViews.{out-Command as fields_of};
-ghost use Rattle.edge_setup.specs.Command.{serve_command, with_addresses, with_fetching, with_file, with_flags, with_pages, with_reports, with_serving, without_file};
+ghost use Rattle.edge_setup.specs.Command.{serve_command, with_addresses, with_bounds, with_fetching, with_file, with_flags, with_pages, with_reports, with_serving, without_file};
 
 use crate::number::{
     CAPACITY, CLIENT_TIMEOUT, CONNECTIONS, FETCHES, KEEP_ALIVE, LEVELS, ORIGIN_FETCHES,
@@ -100,7 +100,25 @@ fn with_fetching<'a>(alloc: Global, command: Command<'a>) -> Result<Command<'a>,
     let timeout = TIMEOUT.arg(alloc);
     let page_timeout = PAGE_TIMEOUT.arg(alloc);
     let origin_keep_alive = ORIGIN_KEEP_ALIVE.arg(alloc);
+    let command = with_option(command, timeout)?;
+    let command = with_option(command, page_timeout)?;
+    let command = with_option(command, origin_keep_alive)?;
+    with_bounds(alloc, command)
+}
+
+// When an origin is asked, and as whom.
+fn with_bounds<'a>(alloc: Global, command: Command<'a>) -> Result<Command<'a>, AllocError>
+    ensures app { IfOk result (λ more. app_of more ≡ with_bounds (app_of command.entry)) }
+    ensures local { IfOk result (λ more. (fields_of more).has_globals ≡ (fields_of command.entry).has_globals) }
+{
     let origin_fetches = ORIGIN_FETCHES.arg(alloc);
+    // Where no word says so, the number is that of another option.
+    let origin_queue = option(
+        alloc,
+        "origin-queue",
+        "N",
+        "Fetches over --origin-fetches that may wait for each origin's address, from 0 to 65536; 0 to fail at once [default: --connections]",
+    );
     let origin_rest = ORIGIN_REST.arg(alloc);
     let url_rest = URL_REST.arg(alloc);
     let name = option(
@@ -109,10 +127,8 @@ fn with_fetching<'a>(alloc: Global, command: Command<'a>) -> Result<Command<'a>,
         "TOKEN",
         "The edge's name: a request that has passed it before is refused",
     );
-    let command = with_option(command, timeout)?;
-    let command = with_option(command, page_timeout)?;
-    let command = with_option(command, origin_keep_alive)?;
     let command = with_option(command, origin_fetches)?;
+    let command = with_option(command, origin_queue)?;
     let command = with_option(command, origin_rest)?;
     let command = with_option(command, url_rest)?;
     with_option(command, name)

@@ -36,10 +36,10 @@ pub(crate) const WORKERS: NumericOption = NumericOption {
     refusal: "error: --workers takes a number from 1 to 16",
 };
 
-/// The fetches that a page's own thread may have in flight.
+/// The fetches that a page may have in flight.
 pub(crate) const FETCHES: NumericOption = NumericOption {
     name: "fetches",
-    help: "Fetches that one thread may have in flight for a page, from 1 to 256; above 1 it has no other thread",
+    help: "Fetches that a page may have in flight, from 1 to 256; above 1 it holds no thread while it waits",
     least: 1,
     most: 256,
     default: "1",
@@ -119,7 +119,7 @@ pub(crate) const ORIGIN_KEEP_ALIVE: NumericOption = NumericOption {
 /// The fetches that may be in flight to each origin.
 pub(crate) const ORIGIN_FETCHES: NumericOption = NumericOption {
     name: "origin-fetches",
-    help: "Fetches that may be in flight to each origin's address, further ones fail; 0 for no bound",
+    help: "Fetches that may be in flight to each origin's address, further ones wait; 0 for no bound",
     least: 0,
     most: 65_535,
     default: "0",

@@ -36,7 +36,7 @@ pub struct Addresses {
 pub struct Pages {
     /// The most threads that work for one page.
     pub workers: u8,
-    /// The most fetches that a page's own thread has in flight.
+    /// The most fetches that a page has in flight.
     pub fetches: u16,
     /// The most slots that posts open ahead.
     pub ahead: u16,
@@ -59,6 +59,9 @@ pub struct Fetching {
     pub origin_keep_alive: u16,
     /// The most fetches that are in flight to each address; 0 means no bound.
     pub origin_fetches: u16,
+    /// The most fetches to each address that wait until one of those has ended; without a number, as many as connections
+    /// may be open.
+    pub origin_queue: Option<u32>,
     /// The seconds for which an address isn't asked after five failures in succession; 0 means that it is asked on.
     pub origin_rest: u32,
     /// The seconds for which a URL that failed isn't asked again; 0 means that it is asked on.
@@ -136,6 +139,8 @@ pub enum Named {
     OriginKeepAlive,
     /// `--origin-fetches`: not a number within the limits.
     OriginFetches,
+    /// `--origin-queue`: not a number within the limits.
+    OriginQueue,
     /// `--origin-rest`: not a number within the limits.
     OriginRest,
     /// `--url-rest`: not a number within the limits.
@@ -177,6 +182,7 @@ impl Named {
             Named::PageTimeout => PAGE_TIMEOUT.refusal,
             Named::OriginKeepAlive => ORIGIN_KEEP_ALIVE.refusal,
             Named::OriginFetches => ORIGIN_FETCHES.refusal,
+            Named::OriginQueue => "error: --origin-queue takes a number from 0 to 65536",
             Named::OriginRest => ORIGIN_REST.refusal,
             Named::UrlRest => URL_REST.refusal,
             Named::Accept => "error: --accept takes a number below 2 to the power of 64",

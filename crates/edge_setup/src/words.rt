@@ -3,7 +3,7 @@ ghost use Rattle.std.specs.Prelude.{◌≡◌, ◌≤◌, option_map, IfNone, If
 ghost use Rattle.std.specs.declared.net.socket_addr.SocketAddr.{SocketAddr};
 ghost use Rattle.clap.specs.Words.{first_of, found_of, rows_of};
 ghost use Rattle.edge_setup.specs.Numbers.{ahead_said};
-ghost use Rattle.edge_setup.specs.Words.{accepts_of, is_set, log_of, log_said, token_of, IsAddress, IsAdmin, IsNoAdmin, HasAddresses, HasFetching, HasPages, HasServing, IsFirstWrong, IsRefusedBy, IsWithin, SaysAddresses, SaysFetching, SaysPages, SaysServing, SaysSetup, SaysTokens};
+ghost use Rattle.edge_setup.specs.Words.{accepts_of, is_set, log_of, log_said, queue_of, token_of, IsAddress, IsAdmin, IsNoAdmin, HasAddresses, HasFetching, HasPages, HasServing, IsFirstWrong, IsRefusedBy, IsWithin, SaysAddresses, SaysFetching, SaysPages, SaysServing, SaysSetup, SaysTokens};
 
 use crate::number::{
     AHEAD, CAPACITY, CLIENT_TIMEOUT, CONNECTIONS, FETCHES, KEEP_ALIVE, LEVELS, ORIGIN_FETCHES,
@@ -33,6 +33,20 @@ fn accepts_of(word: Option<&str>) -> Option<u64>
         Some(word) => decimal_of(word.as_bytes(), u64::MAX),
         None => Some(u64::MAX),
     }
+}
+
+// As many fetches may wait as connections may be open.
+const MAX_QUEUE: u64 = 65_536;
+
+// The number of fetches that may wait, where a word says it; `None` if it is no such number.
+fn queue_of(word: Option<&str>) -> Option<Option<u32>>
+    ensures { result ≡ queue_of (option_map (λ w. w.now) word.entry) }
+{
+    let Some(word) = word else {
+        return Some(None);
+    };
+    let most = decimal_of(word.as_bytes(), MAX_QUEUE)?;
+    Some(Some(most as u32))
 }
 
 // The longest name of an edge or of a field.
@@ -179,6 +193,7 @@ fn fetching_of(matches: &ArgMatches<'_>) -> Result<Fetching, Named>
             .u16_of(matches)
             .ok_or(Named::OriginKeepAlive)?,
         origin_fetches: ORIGIN_FETCHES.u16_of(matches).ok_or(Named::OriginFetches)?,
+        origin_queue: queue_of(word_of(matches, "origin-queue")).ok_or(Named::OriginQueue)?,
         origin_rest: ORIGIN_REST.u32_of(matches).ok_or(Named::OriginRest)?,
         url_rest: URL_REST.u32_of(matches).ok_or(Named::UrlRest)?,
     })

@@ -4,9 +4,10 @@ ghost use Rattle.std.specs.Prelude.{◌≡◌};
 
 use crate::shared_failures::SharedFailures;
 use edge_types::{Answer, NoMemory, PageUrl};
-use fetch_workers::{Clock, ConcurrentSource, Found, Given, OnBehalf, Source};
+use fetch_workers::{Awaited, Bell, Clock, ConcurrentSource, Found, Given, OnBehalf, Source};
 use std::alloc::Global;
 use std::sync::{Arc, Wait};
+use std::time::Duration;
 
 /// A source that asks another one, and doesn't ask it again for a URL that rests since it failed: whoever asks for that one
 /// gets the failing answer again, at once.
@@ -116,6 +117,35 @@ impl<R: Wait, S: ConcurrentSource<R>, C: Clock<R>> ConcurrentSource<R> for Spari
             self.failures.note(rt, &self.clock, &given.answer);
         }
         Ok(came)
+    }
+
+    fn is_idle(&self, in_flight: &SparedFetches<S::InFlight>) -> bool {
+        in_flight.here.is_empty() && self.source.is_idle(&in_flight.fetches)
+    }
+
+    fn wait(
+        &self,
+        rt: &R,
+        alloc: Global,
+        in_flight: &mut SparedFetches<S::InFlight>,
+        most: Option<Duration>,
+    ) -> Result<(), NoMemory> {
+        if !in_flight.here.is_empty() {
+            return Ok(());
+        }
+        self.source.wait(rt, alloc, &mut in_flight.fetches, most)
+    }
+
+    fn awaited(&self, rt: &R, in_flight: &SparedFetches<S::InFlight>) -> Option<Awaited> {
+        self.source.awaited(rt, &in_flight.fetches)
+    }
+
+    fn bell(&self, rt: &R, in_flight: &mut SparedFetches<S::InFlight>) -> Option<Bell> {
+        self.source.bell(rt, &mut in_flight.fetches)
+    }
+
+    fn let_go(&self, rt: &R, alloc: Global, in_flight: &mut SparedFetches<S::InFlight>) -> bool {
+        self.source.let_go(rt, alloc, &mut in_flight.fetches)
     }
 
     fn give_up(&self, rt: &R, alloc: Global, in_flight: SparedFetches<S::InFlight>) {

@@ -54,6 +54,7 @@ where
         "assemble:cache" => pages::assemble_through_cache(rt, name),
         "assemble:fetches" => pages::assemble_with_flights(rt, name),
         "assemble_gated" => pages::assemble_page_gated(rt, name),
+        "PageInProgress::go_on" => pages::go_on_with_page(rt, name),
         "respond" => pages::respond_with_page(rt, name),
         "run_events" => pages::run_page(rt, name),
         _ => sources::fetch_by_http(rt, name, name.strip_prefix("HyperSource::fetch@")?),

@@ -8,7 +8,8 @@ use allocation_tools::printing::{answers, calls, out_of_memory, print_outcome, w
 use allocation_tools::values::{request, url};
 use edge_types::{NoMemory, Table};
 use fetch_workers::{
-    AssembleFault, Assembled, Assembling, OpenGate, Source, TableSource, assemble, assemble_gated,
+    AssembleFault, Assembled, Assembling, ConcurrentSource, Ended, Made, OpenGate, PageInProgress,
+    Source, TableSource, assemble, assemble_gated,
 };
 use http::Response;
 use http_body::Body;
@@ -88,6 +89,37 @@ where
     answers(rt)?;
     print_assembled(rt, &made)?;
     print_again(rt, &source, "/x")
+}
+
+/// Begins a page with two fetches in flight through a cache, and goes on with it.
+pub fn go_on_with_page<R>(rt: &R, name: &str) -> Option<()>
+where
+    R: Wait + AllocGlobal + Print + Clone + Drop,
+{
+    let alloc = rt.alloc();
+    let source = cache(alloc)?;
+    let how = Assembling::new(AHEAD, 1, LEVELS).with_fetches(2);
+    let (url, request) = (url(alloc, "/p")?, request(alloc)?);
+    let own = rt.clone().ok()?;
+    calls(rt, name)?;
+    let made = match how.begin(own, alloc, source, url, request) {
+        Ok(page) => made_at_once(page),
+        Err(NoMemory) => Err(AssembleFault::NoMemory),
+    };
+    answers(rt)?;
+    print_assembled(rt, &made)
+}
+
+// What a page has come to that waits for nothing, since its source fetches one by one.
+fn made_at_once<R, S>(page: PageInProgress<R, S>) -> Made
+where
+    R: Wait + Drop,
+    S: ConcurrentSource<R> + Drop,
+{
+    match page.go_on() {
+        Ok(Ended { made, owed: _ }) => made,
+        Err(_) => Err(AssembleFault::Torn),
+    }
 }
 
 pub fn assemble_page_gated<R>(rt: &R, name: &str) -> Option<()>

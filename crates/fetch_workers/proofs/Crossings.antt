@@ -1,5 +1,7 @@
 -- Workers may share a desk, and threads what a cache has made ready: what lies there may cross threads.
+use denote.RattleType.{RattleType}
 use denote.Param.Send.{IsSend, IsSync, sendable}
+use denote.Param.SendFields.{declared_send}
 use Rattle.std.proofs.Crossing
 use Rattle.std.proofs.MapsCrossing
 use Rattle.lru.proofs.cache.LruCache.TheSendSync as LruCache
@@ -21,6 +23,11 @@ use Rattle.fetch_workers.proofs.desk.SetAside.TheSendSync as SetAside
 use Rattle.fetch_workers.proofs.shared_shard.SharedShard.TheSendSync as SharedShard
 use Rattle.fetch_workers.specs.contracts.desk.Desk as desk
 use Rattle.fetch_workers.specs.contracts.shared_desk.SharedDesk as shared_desk
+use Rattle.fetch_workers.specs.declared.source.Source.{Ghosts}
+use Rattle.fetch_workers.specs.contracts.page_in_progress.Work as work
+use Rattle.fetch_workers.specs.contracts.page_in_progress.PageInProgress as page_in_progress
+use Rattle.fetch_workers.proofs.concurrent_worker.Flights.TheSendSync as Flights
+use Rattle.fetch_workers.proofs.page_in_progress.Posted.TheSendSync as Posted
 use Rattle.fetch_workers.specs.contracts.kept_plans.PlanShelf as plan_shelf
 use Rattle.fetch_workers.specs.contracts.kept_plans.KeptPlans as kept_plans
 
@@ -61,8 +68,61 @@ page_send = search (
 desk_send : IsSend desk.the_row
 desk_send = search (page_send, SetAside.the_send, Crossing.crosses, sendable) depth 60 fits 20000
 
+pub shared_desk_send : IsSend shared_desk.the_row
+shared_desk_send = search (desk_send, Crossing.crosses, sendable) depth 60 fits 20000
+
 pub shared_desk_sync : IsSync shared_desk.the_row
 shared_desk_sync = search (desk_send, Crossing.crosses, sendable) depth 60 fits 20000
+
+ruleset works_cross = (
+  shared_desk_send,
+  Posted.the_send,
+  Posted.the_field_send,
+  Flights.the_send,
+  Flights.the_field_send,
+  PageUrl.the_send,
+  Request.the_field_send,
+  SetAside.the_send,
+  Crossing.crosses,
+  sendable,
+)
+
+work_send : (R S F : RattleType) (source : Ghosts S.Denot R.Denot) → IsSend R → IsSend S → IsSend F → IsSend (work.the_row R S F source)
+work_send R S F source r s f = declared_send (work.the_type R S F source) (
+  search (works_cross) depth 60 fits 20000,
+  (
+    search (works_cross) depth 60 fits 20000,
+    (
+      search (works_cross) depth 60 fits 20000,
+      (
+        search (works_cross) depth 60 fits 20000,
+        (
+          search (works_cross) depth 60 fits 20000,
+          (
+            search (works_cross) depth 60 fits 20000,
+            (
+              search (works_cross) depth 60 fits 20000,
+              (
+                search (works_cross) depth 60 fits 20000,
+                (
+                  search (works_cross) depth 60 fits 20000,
+                  tt,
+                ),
+              ),
+            ),
+          ),
+        ),
+      ),
+    ),
+  ),
+)
+
+-- whoever goes on with a page may be another thread, where its source and what that has in flight may cross threads
+pub page_in_progress_send : (R S F : RattleType) (source : Ghosts S.Denot R.Denot) → IsSend R → IsSend S → IsSend F → IsSend (page_in_progress.the_row R S F source)
+page_in_progress_send R S F source r s f = declared_send (page_in_progress.the_type R S F source) (
+  search (work_send R S F source r s f, Crossing.crosses, sendable) depth 60 fits 20000,
+  tt,
+)
 
 plan_shelf_send : IsSend plan_shelf.the_row
 plan_shelf_send = search (LruCache.the_send, PageUrl.the_send, PageUrl.the_sync, prepared_send, MapsCrossing.crosses, Crossing.crosses, sendable) depth 60 fits 20000

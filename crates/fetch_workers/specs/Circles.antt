@@ -1,8 +1,11 @@
 -- Which answers of a flight are for everybody who joined it.
-use Rattle.std.specs.Prelude.{◌≡◌, ℕ, Bool, false, ◌==◌, List}
+use Rattle.std.specs.Prelude.{◌≡◌, ⊤, ℕ, Bool, false, ◌==◌, List}
 use Rattle.edge_types.specs.Answered.{Answered}
 use Rattle.edge_types.specs.declared.answer.Reply.{Reply}
 use Rattle.edge_types.specs.declared.answer.Reply.TheVariants.{Failed, Got}
+use Rattle.fetch_workers.specs.declared.cache.Look.{Look}
+use Rattle.fetch_workers.specs.declared.cache.Look.TheVariants.{Landed, Begun, Flying}
+use Rattle.fetch_workers.specs.declared.given.Given.{Given}
 
 -- the request for it went in a circle, so it was refused (RFC 5842, section 7.2)
 unfoldable pub says_circle : Reply → Bool
@@ -13,3 +16,9 @@ says_circle (Got status content_type control body) = status == 508
 pub record IsForAll (url : List ℕ) (answer : Answered) : Type 0 where
   pub named : answer.url ≡ url
   pub no_circle : says_circle answer.reply ≡ false
+
+-- what is given, if a look at the flights that others lead has found an answer
+abbrev pub IfLanded : Look → (Given → Type 0) → Type 0
+IfLanded (Landed given) holds = holds given
+IfLanded Begun holds = ⊤
+IfLanded Flying holds = ⊤

@@ -5,3 +5,4 @@ pub mod Rests
 pub mod Laws
 pub mod Shards
 pub mod Circles
+pub mod Progress

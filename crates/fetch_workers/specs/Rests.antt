@@ -17,7 +17,7 @@ pub record AreWorkers (workers : ℕ) : Type 0 where
   pub some : 1 ≤ workers
   pub few : workers ≤ MAX_WORKERS
 
--- how many fetches a page's own thread may have in flight
+-- how many fetches a page may have in flight
 pub record AreFetches (fetches : ℕ) : Type 0 where
   pub some : 1 ≤ fetches
   pub few : fetches ≤ MAX_FETCHES

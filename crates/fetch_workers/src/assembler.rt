@@ -21,6 +21,7 @@ use crate::gate::{Gate, OpenGate};
 use crate::given::WayCounts;
 use crate::log::{Own, answers_of, is_log_of};
 use crate::one_by_one::OneByOne;
+use crate::page_in_progress::PageInProgress;
 use crate::shared_desk::SharedDesk;
 use crate::source::Source;
 use crate::worker::Worker;
@@ -51,7 +52,7 @@ pub struct Assembling {
     pub workers: u8,
     /// How many levels of fragments there may be.
     pub levels: u8,
-    /// How many fetches the page's own thread may have in flight.
+    /// How many fetches the page may have in flight.
     pub fetches: u16,
     /// How many bytes the page may have.
     pub bytes: usize,
@@ -234,6 +235,39 @@ impl Assembling {
         )
     }
 
+    /// Begins a page by these numbers, which is then gone on with by one thread at a time, and has as many fetches in flight
+    /// as may be and are asked for.
+    ///
+    /// Our profile.
+    pub fn begin<R, S>(
+        self,
+        rt: R,
+        alloc: Global,
+        source: S,
+        url: PageUrl,
+        request: Request,
+    ) -> Result<PageInProgress<R, S>, NoMemory>
+    where
+        R: Wait + Drop,
+        S: ConcurrentSource<R> + Drop,
+        ensures source { IfOk result (λ page. page.work.posted.source ≡ source) }
+        ensures url { IfOk result (λ page. page.work.url ≡ url) }
+        ensures request { IfOk result (λ page. page.work.request ≡ request) }
+        ensures levels { IfOk result (λ page. page.work.levels ≡ self.levels) }
+    {
+        let page = self.accept(alloc, &url, &request)?;
+        Ok(PageInProgress::new(
+            rt,
+            alloc,
+            source,
+            page,
+            self.fetches,
+            url,
+            request,
+            self.levels,
+        ))
+    }
+
     // How many threads may work for a page: its own alone where that has several fetches in flight.
     fn threads(self) -> u8
         ensures { 0 < result }
@@ -286,7 +320,7 @@ impl Assembling {
 }
 
 // The page that was worked for, if it is the one that its workers' answers make, all of which the source gave.
-fn put_together<R, S: Source<R>>(
+pub(crate) fn put_together<R, S: Source<R>>(
     alloc: Global,
     _source: &S,
     page: Page,

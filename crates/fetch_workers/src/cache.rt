@@ -2,12 +2,15 @@
 
 ghost use Rattle.std.specs.Prelude.{◌≡◌, ◌⊎◌, ◌↔◌, ◌≤◌, ◌<◌, [], IsTrue, IfOk, IfSome};
 ghost use Rattle.std.specs.Arc.{arc_value};
-ghost use Rattle.fetch_workers.specs.Circles.{IsForAll, says_circle};
+ghost use Rattle.fragment_cache.specs.Shown.{begun_answer};
+ghost use Rattle.fragment_cache.specs.Sound.{NamesUrl};
+ghost use Rattle.fetch_workers.specs.Circles.{IfLanded, IsForAll, says_circle};
 ghost use Rattle.fetch_workers.specs.Shards.{shard_of};
 
+use crate::bell::Bell;
 use crate::cache_flights::{CacheFlights, Joined, Led};
 use crate::clock::Clock;
-use crate::concurrent_source::ConcurrentSource;
+use crate::concurrent_source::{Awaited, ConcurrentSource};
 use crate::given::{Given, Way};
 use crate::kept_plans::KeptPlans;
 use crate::on_behalf::OnBehalf;
@@ -19,6 +22,7 @@ use plan_compiler::Prepared;
 use std::alloc::Global;
 use std::array;
 use std::sync::{Arc, Wait};
+use std::time::Duration;
 
 /// How many shards a cache has, each under a lock of its own.
 ///
@@ -72,6 +76,17 @@ fn says_circle(reply: &Reply) -> bool
         Reply::Failed => false,
         Reply::Got { status, .. } => *status == LOOP_DETECTED,
     }
+}
+
+// What a look at the flights that others lead has found.
+#[derive(Drop)]
+pub(crate) enum Look {
+    // One has landed, with an answer for all.
+    Landed(Given),
+    // One has landed whose answer isn't for all, so a fetch was begun.
+    Begun,
+    // None has landed.
+    Flying,
 }
 
 impl<S: Drop, C: Drop> Cache<S, C> {
@@ -186,6 +201,30 @@ impl<S, C> Cache<S, C> {
         }
     }
 
+    // Begins for a URL. Where its flight is joined, that the page is told once it has landed.
+    fn begun<R: Wait>(
+        &self,
+        rt: &R,
+        alloc: Global,
+        in_flight: &mut CacheFlights<S::InFlight>,
+        url: &PageUrl,
+    ) -> Result<Option<Begun>, NoMemory>
+    where
+        S: ConcurrentSource<R>,
+        C: Clock<R>,
+        ensures { IfOk result (λ found. IfSome found (λ begun. NamesUrl url.now (begun_answer begun))) }
+    {
+        if in_flight.bell.is_none() {
+            in_flight.bell = self.source.bell(rt, &mut in_flight.fetches);
+        }
+        let shard = &self.shards[shard_of(url)];
+        let now = self.clock.now(rt);
+        match &in_flight.bell {
+            Some(bell) => shard.begin_told(rt, alloc, url, now, self.most_waiting, bell.share()?),
+            None => Ok(shard.begin(rt, url, now, self.most_waiting)),
+        }
+    }
+
     // Begins the fetch of a flight that the thread leads. Without room for it the flight lands at once.
     fn depart<R: Wait>(
         &self,
@@ -244,38 +283,74 @@ impl<S, C> Cache<S, C> {
         self.land(rt, alloc, shard, flight, given.into_answer())
     }
 
-    // The answer of one of the flights that others lead, if it has landed; each time another one is looked at. One that
-    // can't be picked up, or isn't for all, is fetched.
-    fn joined_landed<R: Wait>(
+    // Looks at each flight that others lead, until one has landed. One whose answer can't be picked up, or isn't for all,
+    // is fetched.
+    fn look_at_joined<R: Wait>(
         &self,
         rt: &R,
         alloc: Global,
         in_flight: &mut CacheFlights<S::InFlight>,
-    ) -> Result<Option<Given>, NoMemory>
+    ) -> Result<Look, NoMemory>
     where
         S: ConcurrentSource<R>,
-        ensures { IfOk result (λ found. IfSome found (λ given.
+        ensures { IfOk result (λ look. IfLanded look (λ given.
             IsForAll (arc_value given.answer).url (arc_value given.answer))) }
     {
-        let Some(flight) = in_flight.joined.pop_front() else {
-            return Ok(None);
-        };
-        match self.shards[shard_of(&flight.url)].pick(rt, flight.number) {
-            Picked::Here(answer) if is_for_all(&answer, &flight.url) => {
-                return Ok(Some(Given::new(answer, Way::Joined)));
-            }
-            Picked::Flying => in_flight.joined.push_back(flight)?,
-            Picked::Here(_) | Picked::Unknown => {
-                self.source
-                    .begin(rt, alloc, &mut in_flight.fetches, &flight.url)?;
+        for _ in 0..in_flight.joined.len() {
+            let Some(flight) = in_flight.joined.pop_front() else {
+                return Ok(Look::Flying);
+            };
+            match self.shards[shard_of(&flight.url)].pick(rt, flight.number) {
+                Picked::Here(answer) if is_for_all(&answer, &flight.url) => {
+                    return Ok(Look::Landed(Given::new(answer, Way::Joined)));
+                }
+                Picked::Flying => in_flight.joined.push_back(flight)?,
+                Picked::Here(_) | Picked::Unknown => {
+                    self.source
+                        .begin(rt, alloc, &mut in_flight.fetches, &flight.url)?;
+                    return Ok(Look::Begun);
+                }
             }
         }
-        Ok(None)
+        Ok(Look::Flying)
     }
 
-    // Ends each flight that the thread leads: one that somebody else waits for by its own answer, any other by a failed
-    // one.
-    fn end_led<R: Wait>(&self, rt: &R, alloc: Global, in_flight: &mut CacheFlights<S::InFlight>)
+    // Leaves each flight that others lead.
+    fn leave_joined<R: Wait>(&self, rt: &R, in_flight: &mut CacheFlights<S::InFlight>)
+    where
+        S: ConcurrentSource<R>,
+    {
+        for _ in rt.forever() {
+            let Some(joined) = in_flight.joined.pop_front() else {
+                return;
+            };
+            self.shards[shard_of(&joined.url)].leave(rt, joined.number);
+        }
+        unreachable!()
+    }
+
+    // Lands each flight that is led and that nobody else waits for.
+    fn land_unawaited<R: Wait>(&self, rt: &R, in_flight: &mut CacheFlights<S::InFlight>)
+    where
+        S: ConcurrentSource<R>,
+        C: Clock<R>,
+    {
+        for place in (0..in_flight.led()).rev() {
+            let Some(led) = in_flight.take_led_at(place) else {
+                return;
+            };
+            let shard = &self.shards[shard_of(led.flight.url())];
+            let Some(led) = shard.land_unless_awaited(rt, led, self.clock.now(rt)) else {
+                continue;
+            };
+            if let Err(led) = in_flight.lead(led) {
+                let _ = self.land_ready(rt, led);
+            }
+        }
+    }
+
+    // Ends each flight that the page leads by a failed answer.
+    fn end_led<R: Wait>(&self, rt: &R, in_flight: &mut CacheFlights<S::InFlight>)
     where
         S: ConcurrentSource<R>,
         C: Clock<R>,
@@ -285,60 +360,9 @@ impl<S, C> Cache<S, C> {
             let Some(led) = in_flight.pop_led() else {
                 return;
             };
-            let shard = &self.shards[shard_of(led.flight.url())];
-            if let Some(led) = shard.land_unless_awaited(rt, led, self.clock.now(rt)) {
-                self.finish(rt, alloc, in_flight, led);
-            }
-        }
-        unreachable!()
-    }
-
-    // Waits for the answer of a flight that the thread leads, and lands it.
-    fn finish<R: Wait>(
-        &self,
-        rt: &R,
-        alloc: Global,
-        in_flight: &mut CacheFlights<S::InFlight>,
-        led: Led,
-    )
-    where
-        S: ConcurrentSource<R>,
-        C: Clock<R>,
-    {
-        let mut left = Some(led);
-        for _ in rt.forever() {
-            let Some(led) = left else {
-                return;
-            };
-            left = self.finished(rt, alloc, in_flight, led);
-        }
-        unreachable!()
-    }
-
-    // Waits for one answer, which lands the flight if it is that of its URL; else the flight comes back.
-    fn finished<R: Wait>(
-        &self,
-        rt: &R,
-        alloc: Global,
-        in_flight: &mut CacheFlights<S::InFlight>,
-        led: Led,
-    ) -> Option<Led>
-    where
-        S: ConcurrentSource<R>,
-        C: Clock<R>,
-    {
-        let Ok(Some(given)) = self.source.next(rt, alloc, &mut in_flight.fetches) else {
             let _ = self.land_ready(rt, led);
-            return None;
-        };
-        if given.answer.url() == led.flight.url() {
-            let (flight, _) = led.into_parts();
-            let shard = &self.shards[shard_of(given.answer.url())];
-            let _ = self.land(rt, alloc, shard, flight, given.into_answer());
-            return None;
         }
-        let _ = self.landed(rt, alloc, in_flight, given);
-        Some(led)
+        unreachable!()
     }
 }
 
@@ -388,8 +412,7 @@ impl<R: Wait, S: ConcurrentSource<R>, C: Clock<R>> ConcurrentSource<R> for Cache
     ) -> Result<(), NoMemory> {
         in_flight.reserve()?;
         let own = url.share()?;
-        let shard = &self.shards[shard_of(url)];
-        match shard.begin(rt, url, self.clock.now(rt), self.most_waiting) {
+        match self.begun(rt, alloc, in_flight, url)? {
             None => Ok(in_flight.here.push(self.crowded_out(rt, alloc, url)?)?),
             Some(Begun::Hit(answer)) => { Ok(in_flight.here.push(Given::new(answer, Way::Kept))?) }
             Some(Begun::Join(number)) => {
@@ -402,40 +425,101 @@ impl<R: Wait, S: ConcurrentSource<R>, C: Clock<R>> ConcurrentSource<R> for Cache
         }
     }
 
+    // What the source has to say first: so whoever rings the bell meanwhile is heard by the look at the flights that others
+    // lead, or at the next wait.
     fn next(
         &self,
         rt: &R,
         alloc: Global,
         in_flight: &mut CacheFlights<S::InFlight>,
     ) -> Result<Option<Given>, NoMemory> {
-        if let Some(given) = in_flight.here.pop() {
-            return Ok(Some(given));
+        for _ in rt.forever() {
+            if let Some(given) = in_flight.here.pop() {
+                return Ok(Some(given));
+            }
+            if let Some(given) = self.source.next(rt, alloc, &mut in_flight.fetches)? {
+                return Ok(Some(self.landed(rt, alloc, in_flight, given)));
+            }
+            match self.look_at_joined(rt, alloc, in_flight)? {
+                Look::Landed(given) => return Ok(Some(given)),
+                Look::Begun => {}
+                Look::Flying if self.source.is_idle(&in_flight.fetches) => {
+                    // A flight whose fetch the source has lost.
+                    return match in_flight.pop_led() {
+                        Some(led) => Ok(Some(self.land_ready(rt, led))),
+                        None => Ok(None),
+                    };
+                }
+                Look::Flying => return Ok(None),
+            }
         }
-        if let Some(given) = self.joined_landed(rt, alloc, in_flight)? {
-            return Ok(Some(given));
+        unreachable!()
+    }
+
+    fn is_idle(&self, in_flight: &CacheFlights<S::InFlight>) -> bool {
+        in_flight.is_empty() && self.source.is_idle(&in_flight.fetches)
+    }
+
+    // Where no bell can be rung, others' flights are waited for only once nothing else is in flight: nobody waits for this
+    // page's then.
+    fn wait(
+        &self,
+        rt: &R,
+        alloc: Global,
+        in_flight: &mut CacheFlights<S::InFlight>,
+        most: Option<Duration>,
+    ) -> Result<(), NoMemory> {
+        if !in_flight.here.is_empty() {
+            return Ok(());
         }
-        if let Some(given) = self.source.next(rt, alloc, &mut in_flight.fetches)? {
-            return Ok(Some(self.landed(rt, alloc, in_flight, given)));
+        if in_flight.bell.is_some() || !self.source.is_idle(&in_flight.fetches) {
+            return self.source.wait(rt, alloc, &mut in_flight.fetches, most);
         }
-        // A flight whose fetch the source has lost.
-        if let Some(led) = in_flight.pop_led() {
-            return Ok(Some(self.land_ready(rt, led)));
+        if most.is_some() {
+            return Ok(());
         }
-        // Only now others' flights are waited for, since nobody waits for this thread's.
         let Some(joined) = in_flight.joined.pop_front() else {
-            return Ok(None);
+            return Ok(());
         };
+        in_flight.reserve()?;
         let shard = &self.shards[shard_of(&joined.url)];
         let given = self.join(rt, alloc, shard, &joined.url, joined.number)?;
-        Ok(Some(given))
+        Ok(in_flight.here.push(given)?)
+    }
+
+    fn awaited(&self, rt: &R, in_flight: &CacheFlights<S::InFlight>) -> Option<Awaited> {
+        if in_flight.bell.is_none() && !in_flight.joined.is_empty() {
+            return None;
+        }
+        self.source.awaited(rt, &in_flight.fetches)
+    }
+
+    fn bell(&self, rt: &R, in_flight: &mut CacheFlights<S::InFlight>) -> Option<Bell> {
+        self.source.bell(rt, &mut in_flight.fetches)
+    }
+
+    fn let_go(&self, rt: &R, alloc: Global, in_flight: &mut CacheFlights<S::InFlight>) -> bool {
+        self.leave_joined(rt, in_flight);
+        for _ in rt.forever() {
+            self.land_unawaited(rt, in_flight);
+            if in_flight.led() == 0 {
+                return true;
+            }
+            match self.source.next(rt, alloc, &mut in_flight.fetches) {
+                Ok(Some(given)) => {
+                    let _ = self.landed(rt, alloc, in_flight, given);
+                }
+                Ok(None) if !self.source.is_idle(&in_flight.fetches) => return false,
+                _ => self.end_led(rt, in_flight),
+            }
+        }
+        unreachable!()
     }
 
     fn give_up(&self, rt: &R, alloc: Global, in_flight: CacheFlights<S::InFlight>) {
         let mut in_flight = in_flight;
-        for joined in &in_flight.joined {
-            self.shards[shard_of(&joined.url)].leave(rt, joined.number);
-        }
-        self.end_led(rt, alloc, &mut in_flight);
+        self.leave_joined(rt, &mut in_flight);
+        self.end_led(rt, &mut in_flight);
         self.source.give_up(rt, alloc, in_flight.into_fetches());
     }
 }

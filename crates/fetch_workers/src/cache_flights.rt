@@ -1,8 +1,9 @@
-//! What one thread has in flight through a cache.
+//! What one page has in flight through a cache.
 
-ghost use Rattle.std.specs.Prelude.{◌≡◌, [], IfNone, IfSome, IsTrue};
+ghost use Rattle.std.specs.Prelude.{◌≡◌, [], length, IfNone, IfSome, IsTrue};
 ghost use Rattle.std.specs.Arc.{arc_value};
 
+use crate::bell::Bell;
 use crate::given::Given;
 use edge_types::{Answer, NoMemory, PageUrl};
 use fragment_cache::Flight;
@@ -10,14 +11,16 @@ use std::alloc::Global;
 use std::collections::VecDeque;
 use std::sync::Arc;
 
-/// What one thread has in flight through a cache.
+/// What one page has in flight through a cache.
 pub struct CacheFlights<F> {
     /// The fetches of the source below.
     pub(crate) fetches: F,
-    // The flights that these fetches are made for, and that the thread has to land.
+    // The flights that these fetches are made for, and that have to be landed.
     led: Vec<Led>,
-    /// Flights that other threads lead.
+    /// Flights that others lead.
     pub(crate) joined: VecDeque<Joined>,
+    /// What rings once one of those has landed, where that is possible.
+    pub(crate) bell: Option<Bell>,
     /// Answers that were there at once.
     pub(crate) here: Vec<Given>,
 }
@@ -61,6 +64,7 @@ impl<F> CacheFlights<F> {
             fetches,
             led: Vec::new(alloc),
             joined: VecDeque::new(alloc),
+            bell: None,
             here: Vec::new(alloc),
         }
     }
@@ -89,6 +93,26 @@ impl<F> CacheFlights<F> {
         Some(self.led.swap_remove(place))
     }
 
+    /// Whether nothing is there beside the fetches.
+    pub(crate) fn is_empty(&self) -> bool {
+        self.led.is_empty() && self.joined.is_empty() && self.here.is_empty()
+    }
+
+    /// How many flights are led.
+    pub(crate) fn led(&self) -> usize
+        ensures { result ≡ length self.now.led.items }
+    {
+        self.led.len()
+    }
+
+    /// Takes out the flight at a place among those that are led.
+    pub(crate) fn take_led_at(&mut self, place: usize) -> Option<Led> {
+        if place >= self.led.len() {
+            return None;
+        }
+        Some(self.led.swap_remove(place))
+    }
+
     /// Takes out any flight that the thread leads.
     pub(crate) fn pop_led(&mut self) -> Option<Led>
         ensures { IfNone result (self.new.led.items ≡ []) }
@@ -104,6 +128,7 @@ impl<F> CacheFlights<F> {
             fetches,
             led,
             joined: _,
+            bell: _,
             here: _,
         } = self;
         led.destroy_empty();

@@ -3,16 +3,29 @@
 ghost use Rattle.std.specs.Prelude.{IfOk, IfSome};
 ghost use Rattle.std.specs.Arc.{arc_value};
 
+use crate::bell::Bell;
 use crate::given::Given;
 use crate::source::Source;
 use edge_types::{NoMemory, PageUrl};
 use std::alloc::Global;
+use std::os::fd::RawFd;
+use std::time::{Duration, Instant};
 
-/// A source that makes several fetches at once in one thread, which waits for whichever ends first.
+/// What fetches in flight wait for.
+#[derive(Clone, Copy)]
+pub struct Awaited {
+    /// This is readable once one of them may have moved.
+    pub descriptor: RawFd,
+    /// When one of them is late; `None` means never.
+    pub until: Option<Instant>,
+}
+
+/// A source that makes several fetches at once for one page, which goes on with whichever ends first.
 ///
 /// Each fetch that was begun ends once: `next` gives its answer, or it is given up with all that are in flight.
 pub trait ConcurrentSource<R>: Source<R> {
-    /// What one thread has in flight. It can't be dropped: `give_up` takes it.
+    /// What one page has in flight. One thread at a time has it, not always the same one. It can't be dropped: `give_up`
+    /// takes it.
     type InFlight;
 
     /// Nothing is in flight yet.
@@ -29,8 +42,9 @@ pub trait ConcurrentSource<R>: Source<R> {
         url: &PageUrl,
     ) -> Result<(), NoMemory>;
 
-    /// Waits until a fetch has ended, and gives its answer; `None` if nothing is in flight. What can't be fetched
-    /// is a failed answer; `NoMemory` if an allocation fails, after which one fetch less may be in flight.
+    /// The answer of a fetch that has ended, if one has. A source that fetches one by one makes its next fetch for it;
+    /// any other doesn't wait. What can't be fetched is a failed answer; `NoMemory` if an allocation fails, after which
+    /// one fetch less may be in flight.
     fn next(
         &self,
         rt: &R,
@@ -40,6 +54,39 @@ pub trait ConcurrentSource<R>: Source<R> {
         ensures { IfOk result (λ found. IfSome found (λ given.
             Self.gives self.now (arc_value given.answer).url (arc_value given.answer))) };
 
-    /// Gives up what is in flight. A fetch for which somebody else waits too is made to its end.
+    /// Whether nothing is in flight, so that `next` never will have an answer.
+    fn is_idle(&self, in_flight: &Self::InFlight) -> bool;
+
+    /// Waits until `next` may have an answer, which it hadn't, or for `most`, where there is one. By default there is
+    /// nothing to wait for.
+    fn wait(
+        &self,
+        _rt: &R,
+        _alloc: Global,
+        _in_flight: &mut Self::InFlight,
+        _most: Option<Duration>,
+    ) -> Result<(), NoMemory> {
+        Ok(())
+    }
+
+    /// What is waited for, after `next` had no answer; `None` where only `wait` tells, as by default.
+    fn awaited(&self, _rt: &R, _in_flight: &Self::InFlight) -> Option<Awaited> {
+        None
+    }
+
+    /// By what a wait for what is in flight may be ended from outside; `None` where it can't be, as by default. A ring is
+    /// taken by the next `next`, so whoever rings does it after what it is about, and whoever waits looks for that after
+    /// `next`.
+    fn bell(&self, _rt: &R, _in_flight: &mut Self::InFlight) -> Option<Bell> {
+        None
+    }
+
+    /// Ends what nobody else waits for, and goes on with what is left, without waiting. Whether nothing is left; by default
+    /// nobody else ever waits.
+    fn let_go(&self, _rt: &R, _alloc: Global, _in_flight: &mut Self::InFlight) -> bool {
+        true
+    }
+
+    /// Gives up what is in flight, at once: whoever else waits for a fetch has a failed answer.
     fn give_up(&self, rt: &R, alloc: Global, in_flight: Self::InFlight);
 }

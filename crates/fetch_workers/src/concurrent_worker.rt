@@ -16,10 +16,10 @@ use edge_types::{NoMemory, PageUrl};
 use std::alloc::Global;
 use std::sync::Wait;
 
-// What a worker has in flight: the fetches of its source, and the tickets whose answers they are to give.
-struct Flights<F> {
-    fetches: F,
-    tickets: Vec<SetAside>,
+/// What a worker has in flight: the fetches of its source, and the tickets whose answers they are to give.
+pub(crate) struct Flights<F> {
+    pub(crate) fetches: F,
+    pub(crate) tickets: Vec<SetAside>,
 }
 
 impl<'a, R: Wait, S: ConcurrentSource<R>, G: Gate<R>, D: Shared<R>> Worker<'a, R, S, G, D> {
@@ -35,12 +35,28 @@ impl<'a, R: Wait, S: ConcurrentSource<R>, G: Gate<R>, D: Shared<R>> Worker<'a, R
         };
         let worked = self.keep_working(most, &mut flights, &mut mine);
         let Flights {
-            fetches,
+            mut fetches,
             tickets: _,
         } = flights;
+        self.let_go(&mut fetches);
         self.source.give_up(self.rt, self.alloc, fetches);
         worked?;
         Ok(mine)
+    }
+
+    // Waits until nobody else waits for what is in flight.
+    fn let_go(&self, fetches: &mut S::InFlight) {
+        for _ in self.rt.forever() {
+            if self.source.let_go(self.rt, self.alloc, fetches)
+                || self
+                    .source
+                    .wait(self.rt, self.alloc, fetches, None)
+                    .is_err()
+            {
+                return;
+            }
+        }
+        unreachable!()
     }
 
     fn keep_working(
@@ -53,14 +69,40 @@ impl<'a, R: Wait, S: ConcurrentSource<R>, G: Gate<R>, D: Shared<R>> Worker<'a, R
         ensures { OnOk result (AllOwn (S.gives self.now.source.now) mine.new.items) }
     {
         for _ in self.rt.forever() {
+            if self.go_on(most, flights, mine)? {
+                return Ok(());
+            }
+            self.source
+                .wait(self.rt, self.alloc, &mut flights.fetches, None)?;
+        }
+        unreachable!()
+    }
+
+    /// Works as far as it gets without waiting for a fetch. Whether the work has ended.
+    pub(crate) fn go_on(
+        &self,
+        most: u16,
+        flights: &mut Flights<S::InFlight>,
+        mine: &mut Vec<Own>,
+    ) -> Result<bool, AssembleFault>
+        requires { AllOwn (S.gives self.now.source.now) mine.old.items }
+        ensures { OnOk result (AllOwn (S.gives self.now.source.now) mine.new.items) }
+    {
+        for _ in self.rt.forever() {
             if flights.tickets.len() >= usize::from(most) {
-                self.wait_for_one(flights, mine)?;
+                if !self.take_one(flights, mine)? {
+                    return Ok(false);
+                }
                 continue;
             }
             match self.shared.turn(self.rt) {
-                Turn::End => return Ok(()),
+                Turn::End => return Ok(true),
                 Turn::NoMemory => return Err(AssembleFault::NoMemory),
-                Turn::Sleep => self.wait_for_one(flights, mine)?,
+                Turn::Sleep => {
+                    if !self.take_one(flights, mine)? {
+                        return Ok(false);
+                    }
+                }
                 Turn::Prepare(ticket) => self.prepare(ticket, mine)?,
                 Turn::StartAndFetch(ticket) | Turn::Fetch(ticket) => {
                     self.begin(flights, ticket, mine)?;
@@ -88,27 +130,32 @@ impl<'a, R: Wait, S: ConcurrentSource<R>, G: Gate<R>, D: Shared<R>> Worker<'a, R
         Ok(())
     }
 
-    // Waits until a fetch has ended, and posts its answer. Where the source has lost a fetch, it is made once more.
-    fn wait_for_one(
+    // Posts the answer of a fetch that has ended; false if none has. Where the source has lost a fetch, it is made once
+    // more.
+    fn take_one(
         &self,
         flights: &mut Flights<S::InFlight>,
         mine: &mut Vec<Own>,
-    ) -> Result<(), AssembleFault>
+    ) -> Result<bool, AssembleFault>
         requires { AllOwn (S.gives self.now.source.now) mine.old.items }
         ensures { OnOk result (AllOwn (S.gives self.now.source.now) mine.new.items) }
     {
         let next = self.source.next(self.rt, self.alloc, &mut flights.fetches)?;
         let Some(given) = next else {
-            return match flights.tickets.pop() {
-                Some(held) => self.fetch_one(held.into_ticket(), mine),
-                None => Err(AssembleFault::Torn),
-            };
+            if !self.source.is_idle(&flights.fetches) {
+                return Ok(false);
+            }
+            match flights.tickets.pop() {
+                Some(held) => self.fetch_one(held.into_ticket(), mine)?,
+                None => return Err(AssembleFault::Torn),
+            }
+            return Ok(true);
         };
-        match take_ticket(&mut flights.tickets, given.answer.url()) {
-            Some(ticket) => self.post(ticket, given, mine),
-            // Nobody has asked for it.
-            None => Ok(()),
+        // Else nobody has asked for it.
+        if let Some(ticket) = take_ticket(&mut flights.tickets, given.answer.url()) {
+            self.post(ticket, given, mine)?;
         }
+        Ok(true)
     }
 }
 

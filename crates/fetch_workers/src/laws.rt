@@ -22,7 +22,7 @@ pub fn limit_of_workers()
     ensures { MAX_WORKERS ≡ 16 }
 {}
 
-/// A page's own thread has at most 256 fetches in flight. Takes no memory.
+/// A page has at most 256 fetches in flight. Takes no memory.
 ///
 /// Our profile.
 pub fn limit_of_fetches()

@@ -3,6 +3,7 @@
 #![tactic(auto)]
 
 mod assembler;
+mod bell;
 mod cache;
 mod cache_flights;
 mod clock;
@@ -18,6 +19,8 @@ pub mod laws;
 mod log;
 mod on_behalf;
 mod one_by_one;
+mod owed_fetches;
+mod page_in_progress;
 mod same;
 mod shared_desk;
 mod shared_shard;
@@ -28,15 +31,18 @@ mod upkeep;
 mod worker;
 
 pub use assembler::{Assembled, Assembling, MAX_FETCHES, MAX_WORKERS, assemble, assemble_gated};
+pub use bell::Bell;
 pub use cache::{Cache, SHARDS};
 pub use cache_flights::CacheFlights;
 pub use clock::Clock;
-pub use concurrent_source::ConcurrentSource;
+pub use concurrent_source::{Awaited, ConcurrentSource};
 pub use fault::AssembleFault;
 pub use gate::{Gate, OpenGate};
 pub use given::{Given, Way, WayCounts};
 pub use on_behalf::OnBehalf;
 pub use one_by_one::OneByOne;
+pub use owed_fetches::OwedFetches;
+pub use page_in_progress::{Ended, Made, PageInProgress};
 pub use source::{Found, Source};
 pub use table_source::TableSource;
 pub use tally::CacheTally;

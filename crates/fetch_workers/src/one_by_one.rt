@@ -71,5 +71,9 @@ impl<'a, R, S: Source<R>> ConcurrentSource<R> for OneByOne<'a, S> {
         }
     }
 
+    fn is_idle(&self, in_flight: &VecDeque<PageUrl>) -> bool {
+        in_flight.is_empty()
+    }
+
     fn give_up(&self, _rt: &R, _alloc: Global, _in_flight: VecDeque<PageUrl>) {}
 }

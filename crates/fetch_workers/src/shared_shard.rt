@@ -7,6 +7,7 @@ ghost use Rattle.std.specs.Sync.Mutex.{mutex_guard_value};
 ghost use Rattle.fragment_cache.specs.Shown.{begun_answer};
 ghost use Rattle.fragment_cache.specs.Sound.{IsSound, NamesUrl};
 
+use crate::bell::Bell;
 use crate::cache_flights::Led;
 use crate::given::{Given, Way};
 use crate::source::Found;
@@ -24,13 +25,15 @@ pub(crate) struct SharedShard {
     landed: Condvar,
 }
 
-// A shard, what was asked of it, and how many have left each flight that they had joined: their pick-ups are made once
-// it lands.
+// A shard, what was asked of it, how many have left each flight that they had joined: their pick-ups are made once it
+// lands, and whom to tell then.
 #[derive(Drop)]
 struct Shelf {
     shard: Shard,
     asked: CacheTally,
     left: BTreeMap<u64, u64>,
+    // What is rung once the flight of a number has landed.
+    bells: BTreeMap<u64, Vec<Bell>>,
 }
 
 impl Shelf {
@@ -98,6 +101,26 @@ impl Shelf {
         }
     }
 
+    // Has a bell rung once a flight has landed that was joined just now. Without room for it the flight is left again.
+    fn hangs(&mut self, alloc: Global, number: u64, bell: Bell) -> Result<(), NoMemory> {
+        if self.hung(alloc, number, bell).is_err() {
+            let _ = self.note_left(number);
+            return Err(NoMemory);
+        }
+        Ok(())
+    }
+
+    fn hung(&mut self, alloc: Global, number: u64, bell: Bell) -> Result<(), NoMemory> {
+        if let Some(bells) = self.bells.get_mut(&number) {
+            bells.push(bell)?;
+            return Ok(());
+        }
+        let mut bells = Vec::new(alloc);
+        bells.push(bell)?;
+        self.bells.insert(number, bells)?;
+        Ok(())
+    }
+
     // Notes that one more has left a flight.
     fn note_left(&mut self, number: u64) -> Result<(), NoMemory> {
         match self.left.get_mut(&number) {
@@ -122,6 +145,7 @@ impl SharedShard {
                 shard: Shard::new(alloc, capacity)?,
                 asked: CacheTally::new(),
                 left: BTreeMap::new(alloc),
+                bells: BTreeMap::new(alloc),
             }),
             landed: Condvar::new(),
         })
@@ -147,9 +171,28 @@ impl SharedShard {
         ensures { IfSome result (λ begun. NamesUrl url.now (begun_answer begun)) }
     {
         let mut shelf = self.lock(rt);
-        match most {
-            Some(most) if shelf.is_crowded(url, most) => None,
-            _ => Some(shelf.begin(url, now)),
+        begun(&mut *shelf, url, now, most)
+    }
+
+    // The same, and if a flight is joined, the bell is rung once that has landed.
+    pub(crate) fn begin_told<R: Wait>(
+        &self,
+        rt: &R,
+        alloc: Global,
+        url: &PageUrl,
+        now: u64,
+        most: Option<u32>,
+        bell: Bell,
+    ) -> Result<Option<Begun>, NoMemory>
+        ensures { IfOk result (λ found. IfSome found (λ begun. NamesUrl url.now (begun_answer begun))) }
+    {
+        let mut shelf = self.lock(rt);
+        match begun(&mut *shelf, url, now, most) {
+            Some(Begun::Join(number)) => {
+                shelf.hangs(alloc, number, bell)?;
+                Ok(Some(Begun::Join(number)))
+            }
+            found => Ok(found),
         }
     }
 
@@ -194,12 +237,27 @@ impl SharedShard {
         requires { (arc_value answer).url ≡ flight.url }
         ensures { (arc_value result.answer).url ≡ flight.url }
     {
-        let landed = self.lock(rt).land(flight, answer, now);
-        self.landed.notify_all();
+        let number = flight.number();
+        let mut shelf = self.lock(rt);
+        let landed = shelf.land(flight, answer, now);
+        let bells = shelf.bells.remove(&number);
+        drop(shelf);
+        self.tell(bells);
         landed
     }
 
-    // Lands a flight with the failed answer of its leader, unless somebody else waits for it: then it comes back.
+    // Wakes those who wait for a flight that has landed. The lock is left before.
+    fn tell(&self, bells: Option<Vec<Bell>>) {
+        self.landed.notify_all();
+        if let Some(bells) = bells {
+            for bell in &bells {
+                bell.ring();
+            }
+        }
+    }
+
+    // Lands a flight with the failed answer of its leader, unless somebody else waits for it: then it comes back. Those who
+    // have left it may have bells there yet.
     pub(crate) fn land_unless_awaited<R: Wait>(&self, rt: &R, led: Led, now: u64) -> Option<Led>
         ensures { IfSome result (λ kept. kept.flight ≡ led.flight) }
     {
@@ -207,8 +265,12 @@ impl SharedShard {
         if shelf.waiting(led.flight.number()) > 0 {
             return Some(led);
         }
+        let number = led.flight.number();
         let (flight, ready) = led.into_parts();
         let _ = shelf.land(flight, ready, now);
+        let bells = shelf.bells.remove(&number);
+        drop(shelf);
+        self.tell(bells);
         None
     }
 
@@ -245,5 +307,15 @@ impl SharedShard {
             }
         }
         unreachable!()
+    }
+}
+
+// Begins for a URL, unless as many as may already wait for its flight.
+fn begun(shelf: &mut Shelf, url: &PageUrl, now: u64, most: Option<u32>) -> Option<Begun>
+    ensures { IfSome result (λ begun. NamesUrl url.now (begun_answer begun)) }
+{
+    match most {
+        Some(most) if shelf.is_crowded(url, most) => None,
+        _ => Some(shelf.begin(url, now)),
     }
 }

@@ -80,6 +80,10 @@ impl<R> ConcurrentSource<R> for TableSource {
         OneByOne { source: self }.next(rt, alloc, in_flight)
     }
 
+    fn is_idle(&self, in_flight: &VecDeque<PageUrl>) -> bool {
+        in_flight.is_empty()
+    }
+
     fn give_up(&self, rt: &R, alloc: Global, in_flight: VecDeque<PageUrl>) {
         OneByOne { source: self }.give_up(rt, alloc, in_flight);
     }

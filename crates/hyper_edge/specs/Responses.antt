@@ -36,6 +36,11 @@ pub record SendsPage (gives : List ℕ → Answered → Type 0) (target : List �
   pub asks : Asks target fields url request
   pub page : TellsPageAt gives url request levels response
 
+-- the page that a head asks for by the method that is served
+pub record IsAskedFor (method target : List ℕ) (fields : List Field) (url : List ℕ) (request : Request) : Type 0 where
+  pub is_served : method ≡ served
+  pub asks : Asks target fields url request
+
 -- what is sent if the method is served: 400 if no page is asked for, 503 if there is no
 -- room for it, and the page (RFC 9110, sections 15.5.1 and 15.6.4)
 abbrev pub RespondsToGet : (List ℕ → Answered → Type 0) → List ℕ → List Field → ℕ → Sent → Type 0

@@ -102,9 +102,14 @@ counted_to_accept roster = record roster { accepting = staff.counted roster.acce
 abbrev pub counted_to_resume : Roster → Roster
 counted_to_resume roster = record roster { resuming = staff.counted roster.resuming }
 
--- it could not be started
-abbrev pub not_accepting : Roster → Roster
-not_accepting roster = record roster { accepting = staff.uncounted roster.accepting }
+-- it could not be started at this millisecond
+abbrev pub not_accepting : Roster → ℕ → Roster
+not_accepting roster now = record roster { accepting = staff.uncounted roster.accepting now }
 
-abbrev pub not_resuming : Roster → Roster
-not_resuming roster = record roster { resuming = staff.uncounted roster.resuming }
+abbrev pub not_resuming : Roster → ℕ → Roster
+not_resuming roster now = record roster { resuming = staff.uncounted roster.resuming now }
+
+-- there are accepts to be made, and no thread that makes them
+pub record LacksAccepting (roster : Roster) : Type 0 where
+  pub may_accept : IsOpen roster
+  pub none : staff.Lacks roster.accepting

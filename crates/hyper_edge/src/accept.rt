@@ -13,6 +13,12 @@ pub trait Accept<R> {
     /// Waits for a connection. `None` means that the accept failed.
     fn accept(&self, rt: &R) -> Option<Self::Io>;
 
+    /// Waits for a moment until a client comes, so that `accept` needn't wait, and tells whether one has come. By default it
+    /// tells so at once, and `accept` waits.
+    fn has_client(&self, _rt: &R) -> bool {
+        true
+    }
+
     /// Waits for so long, since an accept has failed and the next one would fail too. By default it doesn't.
     fn rest(&self, _rt: &R, _pause: Duration) {}
 
@@ -35,7 +41,13 @@ pub trait Accept<R> {
     /// Whether streams may block for a moment from now on, since there are threads to spare.
     fn set_may_wait(&self, _may_wait: bool) {}
 
-    /// Has `ready` tell a key, once, when the socket of a stream is ready. Returns false if that isn't possible.
+    /// What was told by that last, false before. By default nothing is kept of it.
+    fn may_wait(&self) -> bool {
+        false
+    }
+
+    /// Has `ready` tell a key, once, when the socket of a pause is ready, or its client leaves. Returns false if that isn't
+    /// possible.
     fn watch(&self, _key: usize, _pause: &Pause) -> bool {
         false
     }

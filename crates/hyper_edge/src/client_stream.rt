@@ -128,6 +128,7 @@ impl<R: Clock + Drop> ClientStream<R> {
             readiness,
             until: self.exchange.until,
             is_idle: self.exchange.stage == Stage::Idle,
+            client: None,
         };
         self.signals.pauses(pause);
         Ok(())

@@ -99,6 +99,11 @@ impl<F: Future<Output = hyper::Result<()>>> Connection<F> {
         &self.handover
     }
 
+    /// Whether whoever serves it is told when it may be gone on with, so that it may be parked.
+    pub(crate) fn may_pause(&self) -> bool {
+        self.signals.is_some()
+    }
+
     /// Its client's socket, where it is known.
     pub(crate) fn socket(&self) -> Option<RawFd> {
         self.signals.as_ref()?.socket()

@@ -3,7 +3,7 @@
 ghost use Rattle.std.specs.Prelude.{◌≡◌, is_some};
 ghost use Rattle.hyper_edge.specs.Departure.{has_left, watch_of};
 
-use libc::net::{POLLERR, POLLHUP, POLLRDHUP, poll};
+use libc::net::{EPOLLRDHUP, POLLERR, POLLHUP, POLLRDHUP, poll};
 use libc::types::pollfd;
 use std::os::fd::RawFd;
 use std::time::Duration;
@@ -19,7 +19,7 @@ pub(crate) enum ClientState {
     Reset,
 }
 
-/// The socket of a page's client, which is looked at before each fetch for the page.
+/// The socket of a page's client, which is looked at before each fetch for the page, and while the page waits.
 #[derive(Clone, Copy)]
 pub(crate) struct ClientWatch {
     /// Its number. It stays open for as long as the page is made, by whoever serves the connection.
@@ -29,6 +29,11 @@ pub(crate) struct ClientWatch {
 }
 
 impl ClientWatch {
+    /// What a wait for its socket is to tell, beside a reset, which each wait tells.
+    pub(crate) fn events(&self) -> u32 {
+        if self.end_leaves { EPOLLRDHUP } else { 0 }
+    }
+
     /// Whether the client is known to have left. Doesn't wait.
     pub(crate) fn has_left(&self) -> bool {
         has_left(self.end_leaves, state_of(self.socket))

@@ -1,24 +1,25 @@
 //! The time that a page may take.
 
-ghost use Rattle.std.specs.Prelude.{◌≡◌, false, None, option_map, IfOk};
+ghost use Rattle.std.specs.Prelude.{◌≡◌, ◌≢◌, [], false, None, Some, option_map, IfOk};
 ghost use Rattle.std.specs.Arc.{arc_value};
+ghost use Rattle.std.specs.Duration.{as_nanos};
 ghost use Rattle.std.specs.Time.{instant_nanos};
 ghost use Rattle.hyper_edge.specs.Departure.{is_over};
-ghost use Rattle.hyper_edge.specs.PageTime.{GivesInTime, names_url};
+ghost use Rattle.hyper_edge.specs.PageTime.{GivesInTime, earlier_of, names_url};
 
 use crate::departure::ClientWatch;
 use edge_types::{Answer, NoMemory, PageUrl};
-use fetch_workers::{ConcurrentSource, Given, Source, Way};
+use fetch_workers::{Awaited, Bell, ConcurrentSource, Given, Source, Way};
 use plan_compiler::Prepared;
 use std::alloc::Global;
 use std::sync::Arc;
-use std::time::{Clock, Instant};
+use std::time::{Clock, Duration, Instant};
 
 /// A source as one page sees it: once the page's time is over, or its client is known to have left, nothing is fetched, and
 /// what would have been is bridged, or fails at once. What the source has ready costs no time, so it is still given.
 #[derive(Drop)]
-pub(crate) struct WithinTime<'a, S> {
-    pub source: &'a S,
+pub(crate) struct WithinTime<S> {
+    pub source: Arc<S>,
     /// When the page's time is over; `None` means never.
     pub until: Option<Instant>,
     /// The client's socket, where it is looked at.
@@ -38,7 +39,48 @@ fn is_over(until: Option<Instant>, now: Option<Instant>, has_left: bool) -> bool
     }
 }
 
-impl<'a, S> WithinTime<'a, S> {
+// How long it is until then; no time at all where the clock can't be read.
+fn left(until: Instant, clock: &impl Clock) -> Duration {
+    match Instant::now(clock) {
+        Ok(now) => until.duration_since(now),
+        Err(_) => Duration::ZERO,
+    }
+}
+
+// The shorter of two; `None` is any time.
+fn shorter(most: Option<Duration>, other: Duration) -> Option<Duration>
+    ensures { option_map as_nanos result ≡ earlier_of (option_map as_nanos most) (Some (as_nanos other)) }
+{
+    match most {
+        Some(most) if most < other => Some(most),
+        _ => Some(other),
+    }
+}
+
+// The earlier of two; `None` is never.
+fn earlier(one: Option<Instant>, other: Option<Instant>) -> Option<Instant>
+    ensures { option_map instant_nanos result ≡ earlier_of (option_map instant_nanos one) (option_map instant_nanos other) }
+{
+    match (one, other) {
+        (Some(one), Some(other)) => Some(one.min(other)),
+        (Some(one), None) => Some(one),
+        (None, other) => other,
+    }
+}
+
+impl<S> WithinTime<S> {
+    // When the page's time is over, as long as it waits for something.
+    fn time_of<F>(&self, in_flight: &FlightsInTime<F>) -> Option<Instant>
+        ensures idle { in_flight.now.awaited.items ≡ [] → result ≡ None }
+        ensures waits { in_flight.now.awaited.items ≢ [] → result ≡ self.now.until }
+    {
+        if in_flight.awaited.is_empty() {
+            None
+        } else {
+            self.until
+        }
+    }
+
     // Neither the clock nor the socket is looked at where it can't count.
     fn is_over(&self, clock: &impl Clock) -> bool
         ensures { self.now.until ≡ None → self.now.client ≡ None → result ≡ false }
@@ -54,11 +96,11 @@ impl<'a, S> WithinTime<'a, S> {
         is_over(self.until, now, has_left)
     }
 
-    // What is given for a URL that is asked for too late: what would bridge its failing origin, else a failed answer.
+    // What is given for a URL that isn't waited for: what would bridge its failing origin, else a failed answer.
     fn too_late<R>(&self, rt: &R, alloc: Global, url: &PageUrl) -> Result<Given, NoMemory>
     where
         S: Source<R>,
-        ensures given { IfOk result (λ given. GivesInTime (S.gives self.now.source.now) url.now (arc_value given.answer)) }
+        ensures given { IfOk result (λ given. GivesInTime (S.gives (arc_value self.now.source)) url.now (arc_value given.answer)) }
         ensures named { IfOk result (λ given. (arc_value given.answer).url ≡ url.now) }
     {
         match self.source.bridging(rt, alloc, url)? {
@@ -68,16 +110,27 @@ impl<'a, S> WithinTime<'a, S> {
     }
 }
 
-/// What a page has in flight: the source's fetches, and the URLs that were asked for too late.
+/// What a page has in flight: the source's fetches, the URLs whose answers are waited for, and those that were asked for
+/// too late.
 pub(crate) struct FlightsInTime<F> {
     fetches: F,
+    awaited: Vec<PageUrl>,
     late: Vec<PageUrl>,
 }
 
-impl<'a, R: Clock, S: Source<R>> Source<R> for WithinTime<'a, S> {
-    ghost gives = { λ it. GivesInTime (S.gives it.source.now) };
+impl<F> FlightsInTime<F> {
+    // The answer of a URL isn't waited for any longer.
+    fn has_ended(&mut self, url: &PageUrl) {
+        if let Some(place) = self.awaited.iter().position(|awaited| awaited == url) {
+            self.awaited.swap_remove(place);
+        }
+    }
+}
 
-    ghost names_url = { λ it. names_url (S.gives it.source.now) (S.names_url it.source.now) };
+impl<R: Clock, S: Source<R>> Source<R> for WithinTime<S> {
+    ghost gives = { λ it. GivesInTime (S.gives (arc_value it.source)) };
+
+    ghost names_url = { λ it. names_url (S.gives (arc_value it.source)) (S.names_url (arc_value it.source)) };
 
     fn fetch(&self, rt: &R, alloc: Global, url: &PageUrl) -> Result<Given, NoMemory> {
         if self.is_over(rt) {
@@ -104,12 +157,13 @@ impl<'a, R: Clock, S: Source<R>> Source<R> for WithinTime<'a, S> {
     }
 }
 
-impl<'a, R: Clock, S: ConcurrentSource<R>> ConcurrentSource<R> for WithinTime<'a, S> {
+impl<R: Clock, S: ConcurrentSource<R>> ConcurrentSource<R> for WithinTime<S> {
     type InFlight = FlightsInTime<S::InFlight>;
 
     fn nothing_in_flight(&self, rt: &R, alloc: Global) -> FlightsInTime<S::InFlight> {
         FlightsInTime {
             fetches: self.source.nothing_in_flight(rt, alloc),
+            awaited: Vec::new(alloc),
             late: Vec::new(alloc),
         }
     }
@@ -125,7 +179,10 @@ impl<'a, R: Clock, S: ConcurrentSource<R>> ConcurrentSource<R> for WithinTime<'a
             in_flight.late.push(url.share()?)?;
             return Ok(());
         }
-        self.source.begin(rt, alloc, &mut in_flight.fetches, url)
+        in_flight.awaited.reserve(1)?;
+        let own = url.share()?;
+        self.source.begin(rt, alloc, &mut in_flight.fetches, url)?;
+        Ok(in_flight.awaited.push(own)?)
     }
 
     fn next(
@@ -134,14 +191,68 @@ impl<'a, R: Clock, S: ConcurrentSource<R>> ConcurrentSource<R> for WithinTime<'a
         alloc: Global,
         in_flight: &mut FlightsInTime<S::InFlight>,
     ) -> Result<Option<Given>, NoMemory> {
-        match in_flight.late.pop() {
+        if let Some(url) = in_flight.late.pop() {
+            return Ok(Some(self.too_late(rt, alloc, &url)?));
+        }
+        if let Some(given) = self.source.next(rt, alloc, &mut in_flight.fetches)? {
+            in_flight.has_ended(given.answer.url());
+            return Ok(Some(given));
+        }
+        // A fetch that is under way may go on for others.
+        if in_flight.awaited.is_empty() || !self.is_over(rt) {
+            return Ok(None);
+        }
+        match in_flight.awaited.pop() {
             Some(url) => Ok(Some(self.too_late(rt, alloc, &url)?)),
-            None => self.source.next(rt, alloc, &mut in_flight.fetches),
+            None => Ok(None),
         }
     }
 
+    fn is_idle(&self, in_flight: &FlightsInTime<S::InFlight>) -> bool {
+        in_flight.late.is_empty() && self.source.is_idle(&in_flight.fetches)
+    }
+
+    fn wait(
+        &self,
+        rt: &R,
+        alloc: Global,
+        in_flight: &mut FlightsInTime<S::InFlight>,
+        most: Option<Duration>,
+    ) -> Result<(), NoMemory> {
+        if !in_flight.late.is_empty() {
+            return Ok(());
+        }
+        let most = match self.time_of(in_flight) {
+            Some(until) => shorter(most, left(until, rt)),
+            None => most,
+        };
+        self.source.wait(rt, alloc, &mut in_flight.fetches, most)
+    }
+
+    fn awaited(&self, rt: &R, in_flight: &FlightsInTime<S::InFlight>) -> Option<Awaited> {
+        let below = self.source.awaited(rt, &in_flight.fetches)?;
+        Some(Awaited {
+            descriptor: below.descriptor,
+            until: earlier(below.until, self.time_of(in_flight)),
+        })
+    }
+
+    fn bell(&self, rt: &R, in_flight: &mut FlightsInTime<S::InFlight>) -> Option<Bell> {
+        self.source.bell(rt, &mut in_flight.fetches)
+    }
+
+    fn let_go(&self, rt: &R, alloc: Global, in_flight: &mut FlightsInTime<S::InFlight>) -> bool {
+        in_flight.awaited.clear();
+        in_flight.late.clear();
+        self.source.let_go(rt, alloc, &mut in_flight.fetches)
+    }
+
     fn give_up(&self, rt: &R, alloc: Global, in_flight: FlightsInTime<S::InFlight>) {
-        let FlightsInTime { fetches, late: _ } = in_flight;
+        let FlightsInTime {
+            fetches,
+            awaited: _,
+            late: _,
+        } = in_flight;
         self.source.give_up(rt, alloc, fetches);
     }
 }

@@ -11,7 +11,14 @@ use std::mem;
 use std::sync::{Mutex, Wait};
 use std::time::Instant;
 
-/// The connections that wait, under a lock. Each is known by its key.
+/// What waits: a connection, or fetches.
+#[derive(Drop)]
+pub(crate) enum Waiting<C, F> {
+    Connection(C),
+    Fetches(F),
+}
+
+/// What waits, under a lock. Each is known by its key.
 #[derive(Drop)]
 pub(crate) struct ParkingPlace<T> {
     lot: Mutex<Lot<T>>,
@@ -25,27 +32,25 @@ impl<T: Drop> ParkingPlace<T> {
         }
     }
 
-    /// Takes in a connection that can't go on, once `watch` has its key told as soon as it can. Returns false where
-    /// there is no room for it, or it can't be watched: then it is ended.
+    /// Takes in what can't go on, once `watch` has its key told as soon as it can. It comes back where there is no room for
+    /// it, or it can't be watched.
     pub(crate) fn park<W: FnOnce(usize) -> bool>(
         &self,
         rt: &impl Wait,
         session: T,
         pause: Pause,
         watch: W,
-    ) -> bool
+    ) -> Result<(), Option<T>>
         requires { W.IsAlwaysCallable watch }
     {
-        // Under the lock, so that the key is told only once the connection is there.
+        // Under the lock, so that the key is told only once the session is there.
         let mut lot = self.lot.lock(rt);
-        let Some(key) = lot.park(session, pause) else {
-            return false;
-        };
-        let is_watched = watch(key);
-        if !is_watched {
-            let _ = lot.take(key);
+        let key = lot.park(session, pause)?;
+        if watch(key) {
+            Ok(())
+        } else {
+            Err(lot.take(key))
         }
-        is_watched
     }
 
     /// The connection under a key, if it still waits.
@@ -101,20 +106,26 @@ impl<T: Drop> Lot<T> {
         }
     }
 
-    // The key of a connection that is taken in; `None` where there is no room for it.
-    fn park(&mut self, session: T, pause: Pause) -> Option<usize> {
+    // The key of what is taken in. It comes back where there is no room for it.
+    fn park(&mut self, session: T, pause: Pause) -> Result<usize, Option<T>> {
         let until = pause.until;
-        let key = self.parked.insert(Parked { session, until }).ok()?;
+        let key = match self.parked.insert(Parked { session, until }) {
+            Ok(key) => key,
+            Err(failed) => {
+                let Parked { session, until: _ } = failed.value;
+                return Err(Some(session));
+            }
+        };
         let Some(until) = until else {
-            return Some(key);
+            return Ok(key);
         };
         let is_listed = self.limits.insert((until, key)).is_ok()
             && (!pause.is_idle || self.idle.insert((until, key)).is_ok());
         if is_listed {
-            return Some(key);
+            Ok(key)
+        } else {
+            Err(self.take(key))
         }
-        let _ = self.take(key);
-        None
     }
 
     // The connection under a key, which is there no longer.

@@ -1,14 +1,16 @@
 //! From the head of a request to its response.
 
-ghost use Rattle.std.specs.Prelude.{◌≡◌, ◌⊎◌, IfOk, IfSome, MatchOption, Some};
-ghost use Rattle.page_http.specs.Sent.{IsRefusal, refusal, sent};
+ghost use Rattle.std.specs.Prelude.{◌≡◌, ◌⊎◌, IfOk, IfErr, IfSome, MatchOption, Some};
+ghost use Rattle.std.specs.Arc.{arc_value};
+ghost use Rattle.page_http.specs.Sent.{IsRefusal, Tells, refusal, sent};
 ghost use Rattle.hyper_edge.specs.Responses as spec;
 
 use crate::faults::{reason_of, status_of};
 use access_log::Reason;
 use edge_types::{Answer, NoMemory, PageUrl, Request};
 use fetch_workers::{
-    AssembleFault, Assembling, ConcurrentSource, OneByOne, OpenGate, Source, WayCounts,
+    AssembleFault, Assembled, Assembling, ConcurrentSource, Ended, OneByOne, OpenGate, OwedFetches,
+    PageInProgress, Source, WayCounts,
 };
 use http::Response;
 use page_http::{EdgeBody, Field, HeadFault, answer_head, refusal_of, response_of};
@@ -135,20 +137,103 @@ where
         ⊎ spec.TellsPageAt (S.gives source.now) url request how.levels (sent responded.response))) }
 {
     match how.assemble(rt, alloc, source, &OpenGate, url, request) {
-        Ok(page) => {
-            let status = status_of(&page.outcome);
-            let response = response_of(alloc, page.outcome)?;
-            let reason = reason_of(status, response.status().as_u16());
-            Ok(Some(Responded {
-                response,
-                log: page.log,
-                ways: page.ways,
-                reason,
-                failed_leg: page.failed_leg,
-            }))
-        }
+        Ok(page) => Ok(Some(paged_of(alloc, page)?)),
         Err(AssembleFault::NoThread) => Ok(None),
         Err(AssembleFault::NoMemory | AssembleFault::Torn) => Ok(Some(no_room(alloc)?)),
+    }
+}
+
+// What is sent for a page that was assembled.
+fn paged_of(alloc: Global, page: Assembled) -> Result<Responded, NoMemory>
+    ensures { IfOk result (λ responded. Tells (arc_value page.outcome) (sent responded.response)) }
+{
+    let status = status_of(&page.outcome);
+    let response = response_of(alloc, page.outcome)?;
+    let reason = reason_of(status, response.status().as_u16());
+    Ok(Responded {
+        response,
+        log: page.log,
+        ways: page.ways,
+        reason,
+        failed_leg: page.failed_leg,
+    })
+}
+
+/// What is done for the head of a request: `Ok` has the response that is there at once, `Err` the page that is to be gone on
+/// with.
+pub(crate) type Begun<R, S> = Result<Responded, PageInProgress<R, S>>;
+
+/// Begins the response to the head of a request. A page that may have several fetches in flight is to be gone on with, and
+/// nothing is fetched for it yet; any other is assembled at once.
+pub(crate) fn begin_response<R, S>(
+    rt: R,
+    alloc: Global,
+    source: S,
+    head: &RequestHead<'_>,
+    how: Assembling,
+) -> Result<Begun<R, S>, NoMemory>
+where
+    R: Wait + Threads + Sync + Drop,
+    S: ConcurrentSource<R> + Sync + Drop,
+    ensures at_once { IfOk result (λ begun. IfOk begun (λ responded.
+        spec.Responds (S.gives source) head.now.method.now head.now.target.now head.now.fields.now how.levels (sent responded.response))) }
+    ensures page { IfOk result (λ begun. IfErr begun (λ page.
+        spec.IsAskedFor head.now.method.now head.now.target.now head.now.fields.now page.work.url page.work.request)) }
+    ensures source { IfOk result (λ begun. IfErr begun (λ page. page.work.posted.source ≡ source)) }
+    ensures levels { IfOk result (λ begun. IfErr begun (λ page. page.work.levels ≡ how.levels)) }
+{
+    if how.fetches == 1 {
+        return Ok(Ok(respond_with_log(&rt, alloc, &source, head, how)?));
+    }
+    match answer_head(alloc, head.method, head.target, head.fields) {
+        Ok((url, request)) => match how.begin(rt, alloc, source, url, request) {
+            Ok(page) => Ok(Err(page)),
+            Err(NoMemory) => Ok(Ok(no_room(alloc)?)),
+        },
+        Err(HeadFault::Method) => Ok(Ok(refused(alloc, 405, Reason::Method)?)),
+        Err(HeadFault::Unreadable) => Ok(Ok(refused(alloc, 400, Reason::Unreadable)?)),
+        Err(HeadFault::NoMemory) => Ok(Ok(no_room(alloc)?)),
+    }
+}
+
+/// The response to a page that has ended, and those of its fetches for which others wait.
+#[derive(Drop)]
+pub(crate) struct Told<R: Wait + Drop, S: ConcurrentSource<R> + Drop> {
+    pub(crate) responded: Responded,
+    pub(crate) owed: Option<OwedFetches<R, S>>,
+}
+
+/// What a page that is asked for has come to, or the page that is to be gone on with.
+pub(crate) type Gone<R, S> = Result<Told<R, S>, PageInProgress<R, S>>;
+
+/// Goes on with a page as far as it gets without waiting.
+pub(crate) fn go_on_with<R, S>(
+    alloc: Global,
+    page: PageInProgress<R, S>,
+) -> Result<Gone<R, S>, NoMemory>
+where
+    R: Wait + Drop,
+    S: ConcurrentSource<R> + Drop,
+    ensures told { IfOk result (λ went. IfOk went (λ told.
+        (sent told.responded.response ≡ refusal 503)
+        ⊎ spec.TellsPageAt (S.gives page.work.posted.source) page.work.url page.work.request page.work.levels (sent told.responded.response))) }
+    ensures source { IfOk result (λ went. IfErr went (λ left. left.work.posted.source ≡ page.work.posted.source)) }
+    ensures url { IfOk result (λ went. IfErr went (λ left. left.work.url ≡ page.work.url)) }
+    ensures request { IfOk result (λ went. IfErr went (λ left. left.work.request ≡ page.work.request)) }
+    ensures levels { IfOk result (λ went. IfErr went (λ left. left.work.levels ≡ page.work.levels)) }
+{
+    match page.go_on() {
+        Ok(Ended { made, owed }) => match made {
+            Ok(page) => {
+                let responded = paged_of(alloc, page)?;
+                Ok(Ok(Told { responded, owed }))
+            }
+            Err(_) => {
+                let responded = no_room(alloc)?;
+                Ok(Ok(Told { responded, owed }))
+            }
+        },
+        Err(page) => Ok(Err(page)),
     }
 }
 

@@ -3,7 +3,7 @@
 
 ghost use Rattle.std.specs.Prelude.{◌≡◌, ◌↔◌, ◌<◌, not, None, Some, IsTrue, IsFalse, MatchBool};
 ghost use Rattle.hyper_edge.specs.Roster as spec;
-ghost use Rattle.hyper_edge.specs.Staff.{HasSpare, WantsThread};
+ghost use Rattle.hyper_edge.specs.Staff.{HasSpare, IsDue, Lacks, WantsThread};
 ghost use Rattle.hyper_edge.specs.declared.roster.Admission.TheVariants as admission;
 ghost use Rattle.hyper_edge.specs.declared.roster.AfterFailure.TheVariants as after;
 ghost use Rattle.hyper_edge.specs.declared.roster.ServeEnd.TheVariants as ended;
@@ -231,29 +231,40 @@ impl Roster {
         self.resting = false;
     }
 
-    /// Counts one more thread, if one was asked for, and says for what.
-    pub(crate) fn take_wanted(&mut self) -> Option<Work>
-        ensures accepting { IsTrue self.old.accepting.wanted → (result ≡ Some kind.Accepting) × (self.new ≡ spec.counted_to_accept self.old) }
-        ensures resuming { IsFalse self.old.accepting.wanted → IsTrue self.old.resuming.wanted → (result ≡ Some kind.Resuming) × (self.new ≡ spec.counted_to_resume self.old) }
-        ensures none { IsFalse self.old.accepting.wanted → IsFalse self.old.resuming.wanted → (result ≡ None) × (self.new ≡ self.old) }
+    /// Counts one more thread, if one is to be started at this millisecond, and says for what.
+    pub(crate) fn take_wanted(&mut self, now: u64) -> Option<Work>
+        ensures accepting { IsDue self.old.accepting now → (result ≡ Some kind.Accepting) × (self.new ≡ spec.counted_to_accept self.old) }
+        ensures resuming { ¬ (IsDue self.old.accepting now) → IsDue self.old.resuming now → (result ≡ Some kind.Resuming) × (self.new ≡ spec.counted_to_resume self.old) }
+        ensures none { ¬ (IsDue self.old.accepting now) → ¬ (IsDue self.old.resuming now) → (result ≡ None) × (self.new ≡ self.old) }
     {
-        if self.accepting.take_wanted() {
+        if self.accepting.take_wanted(now) {
             Some(Work::Accepting)
-        } else if self.resuming.take_wanted() {
+        } else if self.resuming.take_wanted(now) {
             Some(Work::Resuming)
         } else {
             None
         }
     }
 
-    /// Called when a thread could not be started. Returns true if there is none for that work.
-    pub(crate) fn not_started(&mut self, work: Work) -> bool
-        ensures accepting { work ≡ kind.Accepting → (self.new ≡ spec.not_accepting self.old) × (IsTrue result ↔ (self.new.accepting.threads ≡ 0)) }
-        ensures resuming { work ≡ kind.Resuming → (self.new ≡ spec.not_resuming self.old) × (IsTrue result ↔ (self.new.resuming.threads ≡ 0)) }
+    /// A thread for this work could not be started at this millisecond. It is wanted again once a pause is over.
+    pub(crate) fn not_started(&mut self, work: Work, now: u64)
+        ensures accepting { work ≡ kind.Accepting → self.new ≡ spec.not_accepting self.old now }
+        ensures resuming { work ≡ kind.Resuming → self.new ≡ spec.not_resuming self.old now }
     {
         match work {
-            Work::Accepting => self.accepting.not_started(),
-            Work::Resuming => self.resuming.not_started(),
+            Work::Accepting => self.accepting.not_started(now),
+            Work::Resuming => self.resuming.not_started(now),
+        }
+    }
+
+    /// Whether there is this work to be done, and no thread for it.
+    pub(crate) fn lacks(&self, work: Work) -> bool
+        ensures accepting { work ≡ kind.Accepting → IsTrue result ↔ spec.LacksAccepting self.now }
+        ensures resuming { work ≡ kind.Resuming → IsTrue result ↔ Lacks self.now.resuming }
+    {
+        match work {
+            Work::Accepting => self.is_open() && self.accepting.lacks(),
+            Work::Resuming => self.resuming.lacks(),
         }
     }
 

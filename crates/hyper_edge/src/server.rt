@@ -6,22 +6,34 @@ use crate::accept::Accept;
 use crate::executor::Executor;
 use crate::handover::Handover;
 use crate::journal::Journal;
-use crate::parking::ParkingPlace;
-use crate::roster::{Admission, AfterFailure, Capacity, Roster, ServeEnd};
+use crate::page_time::WithinTime;
+use crate::parking::{ParkingPlace, Waiting};
+use crate::roster::{Admission, AfterFailure, Capacity, Roster, ServeEnd, Work};
 use crate::runtime::ServerRuntime;
-use crate::serving::{Serving, Session};
+use crate::serving::{Owed, Serving, Session};
 use crate::shared_roster::SharedRoster;
+use crate::signals::Pause;
 use fetch_workers::{ConcurrentSource, OnBehalf};
 use futures::Future;
-use std::sync::Arc;
-use std::time::{Duration, Instant};
+use std::sync::{Arc, Wait};
+use std::time::{Clock, Duration, Instant};
+
+/// What is parked: a connection, whose client is waited for, or what is fetched for its page; or fetches of a page that has
+/// ended, for which others wait.
+type Parked<F, R, S> = Waiting<Session<F, R, S>, Owed<R, S>>;
 
 /// What the threads share that serve the connections of an acceptor.
 #[derive(Drop)]
-pub(crate) struct Server<'a, R, A, S, J, F: Future> {
+pub(crate) struct Server<'a, R, A, S, J, F>
+where
+    R: Wait + Clock + Drop,
+    S: ConcurrentSource<R> + Drop,
+    WithinTime<S>: ConcurrentSource<R> + Drop,
+    F: Future,
+{
     acceptor: &'a A,
     serving: Serving<'a, R, S, J>,
-    parked: ParkingPlace<Session<F>>,
+    parked: ParkingPlace<Parked<F, R, S>>,
     /// Who works, and who is wanted.
     pub roster: SharedRoster,
 }
@@ -30,7 +42,7 @@ impl<'a, R, A, S, J, F> Server<'a, R, A, S, J, F>
 where
     R: ServerRuntime + Sync,
     A: Accept<R>,
-    S: ConcurrentSource<R> + OnBehalf<R> + Sync + Drop,
+    S: ConcurrentSource<R> + OnBehalf<R> + Send + Sync + Drop,
     J: Journal<R>,
     F: Future<Output = hyper::Result<()>>,
 {
@@ -50,8 +62,8 @@ where
     }
 
     /// How the server has ended.
-    pub(crate) fn end(self) -> ServeEnd {
-        self.roster.end()
+    pub(crate) fn end(&self) -> ServeEnd {
+        self.roster.end(self.serving.rt)
     }
 
     /// What one thread does again and again: it tells the journal that a moment has passed, and stops the server if that
@@ -83,27 +95,32 @@ where
         }
     }
 
-    /// What one thread does: it accepts and serves as long as there are accepts left to make.
+    /// What one thread does: it accepts and serves as long as there are accepts left to make. Without an executor it
+    /// counts as not started.
     pub(crate) fn accept_all<M: Fn(A::Io, Arc<Handover>) -> F>(&self, opens: &M)
         requires callable { M.IsAlwaysCallable opens.now }
         requires opened { GivesPollable (M.post opens.now) F.can_poll }
     {
         let rt = self.serving.rt;
-        let mut executor = None;
+        let Ok(mut executor) = Executor::new(rt) else {
+            self.roster.not_started(rt, Work::Accepting);
+            return;
+        };
         for _ in rt.forever() {
-            match self.roster.may_accept(rt) {
-                Admission::IsOver => return,
-                Admission::IsFull => self.make_room(),
-                Admission::Waits => self.roster.wait_for_room(rt),
-                Admission::Accepts => self.accept(opens, &mut executor),
+            if !self.accept_next(opens, &mut executor) {
+                return;
             }
         }
     }
 
-    /// What one thread does: it goes on with connections that were parked, until each has ended.
+    /// What one thread does: it goes on with connections that were parked, until each has ended. Without an executor it
+    /// counts as not started.
     pub(crate) fn resume_all(&self) {
         let rt = self.serving.rt;
-        let mut executor = None;
+        let Ok(mut executor) = Executor::new(rt) else {
+            self.roster.not_started(rt, Work::Resuming);
+            return;
+        };
         for _ in rt.forever() {
             if self.roster.is_done(rt) {
                 return;
@@ -112,27 +129,51 @@ where
         }
     }
 
-    /// What the calling thread does where no other can be started: it serves one connection after another.
-    pub(crate) fn serve_alone<M: Fn(A::Io, Arc<Handover>) -> F>(&self, opens: &M)
+    /// What whoever starts threads does of the work for which there are none: it accepts and serves one connection, and
+    /// goes on with one that was parked. Waits for either for a moment only, so that its caller may do something else, and
+    /// where it has no executor, for the next try to make one.
+    pub(crate) fn stand_in<M>(&self, opens: &M, executor: &mut Option<Executor>)
+    where
+        M: Fn(A::Io, Arc<Handover>) -> F,
         requires callable { M.IsAlwaysCallable opens.now }
         requires opened { GivesPollable (M.post opens.now) F.can_poll }
     {
         let rt = self.serving.rt;
-        let mut executor = None;
-        for _ in rt.forever() {
-            self.tick();
-            if !self.roster.is_empty(rt) {
-                self.resume(&mut executor);
-            } else if self.roster.may_accept(rt) == Admission::Accepts {
-                self.accept(opens, &mut executor);
-            } else {
-                return;
-            }
+        if executor.is_none() {
+            *executor = Executor::new(rt).ok();
+        }
+        let Some(executor) = executor else {
+            self.roster.wait_for_room(rt);
+            return;
+        };
+        if self.roster.lacks(rt, Work::Accepting) && self.acceptor.has_client(rt) {
+            self.accept_next(opens, executor);
+        }
+        if self.roster.lacks(rt, Work::Resuming) {
+            self.resume(executor);
         }
     }
 
+    // Accepts a connection and serves it, or waits for a moment where it may not. Returns false where no more accepts are
+    // begun.
+    fn accept_next<M>(&self, opens: &M, executor: &mut Executor) -> bool
+    where
+        M: Fn(A::Io, Arc<Handover>) -> F,
+        requires callable { M.IsAlwaysCallable opens.now }
+        requires opened { GivesPollable (M.post opens.now) F.can_poll }
+    {
+        let rt = self.serving.rt;
+        match self.roster.may_accept(rt) {
+            Admission::IsOver => return false,
+            Admission::IsFull => self.make_room(),
+            Admission::Waits => self.roster.wait_for_room(rt),
+            Admission::Accepts => self.accept(opens, executor),
+        }
+        true
+    }
+
     // Accepts a connection, and serves it.
-    fn accept<M>(&self, opens: &M, executor: &mut Option<Executor>)
+    fn accept<M>(&self, opens: &M, executor: &mut Executor)
     where
         M: Fn(A::Io, Arc<Handover>) -> F,
         requires callable { M.IsAlwaysCallable opens.now }
@@ -148,7 +189,7 @@ where
         let client = self.acceptor.client(&io);
         let signals = self.acceptor.signals(&io);
         match self.serving.session(opens, io, client, signals) {
-            Some(session) => self.go_on(session, executor),
+            Some(session) => self.go_on(session, executor, self.acceptor.may_wait()),
             None => self.ended(),
         }
         self.roster.served(rt, self.acceptor);
@@ -174,56 +215,89 @@ where
         }
     }
 
-    // Goes on with a connection that was parked, if one can go on within a moment.
-    fn resume(&self, executor: &mut Option<Executor>) {
-        let Some(session) = self.next() else {
+    // Goes on with what was parked, if something can go on within a moment.
+    fn resume(&self, executor: &mut Executor) {
+        let rt = self.serving.rt;
+        let Some(waiting) = self.next() else {
             return;
         };
-        self.roster.resumed(self.serving.rt);
-        self.go_on(session, executor);
-        self.roster.rested(self.serving.rt);
+        self.roster.resumed(rt);
+        match waiting {
+            Waiting::Connection(session) => {
+                self.serving.journal.unparked();
+                self.go_on(session, executor, false);
+            }
+            Waiting::Fetches(fetches) => {
+                if let Some(left) = fetches.go_on() {
+                    self.park_fetches(left);
+                }
+            }
+        }
+        self.roster.rested(rt);
     }
 
-    // One whose client's time is over, which it finds out by itself; or one whose socket is ready.
-    fn next(&self) -> Option<Session<F>> {
+    // What has no time left, which it finds out by itself; or what waits for a socket that is ready.
+    fn next(&self) -> Option<Parked<F, R, S>> {
         let rt = self.serving.rt;
         let now = Instant::now(rt).ok()?;
-        let session = match self.parked.take_late(rt, now) {
-            Some(late) => late,
+        match self.parked.take_late(rt, now) {
+            Some(late) => Some(late),
             None => {
                 let key = self.acceptor.ready(rt)?;
-                self.parked.take(rt, key)?
+                self.parked.take(rt, key)
             }
-        };
-        self.serving.journal.unparked();
-        Some(session)
+        }
     }
 
     // Serves a connection until it has ended or is parked. Without room for that, it ends.
-    fn go_on(&self, session: Session<F>, executor: &mut Option<Executor>) {
+    fn go_on(&self, session: Session<F, R, S>, executor: &mut Executor, may_linger: bool) {
         let rt = self.serving.rt;
-        if executor.is_none() {
-            *executor = Executor::new(rt).ok();
+        let mut owed = Vec::new(rt.alloc());
+        match self.serving.serve(session, executor, may_linger, &mut owed) {
+            Some((session, pause)) => self.park_connection(session, pause),
+            None => self.ended(),
         }
-        let waits = match executor {
-            Some(executor) => self.serving.serve(session, executor),
-            None => None,
+        for fetches in owed {
+            self.park_fetches(fetches);
+        }
+    }
+
+    // Parks a connection. Without room for that, it ends.
+    fn park_connection(&self, session: Session<F, R, S>, pause: Pause) {
+        let rt = self.serving.rt;
+        let waiting = Waiting::Connection(session);
+        // The journal is told before another thread can take the connection out.
+        let parked = self.parked.park(rt, waiting, pause, |key| {
+            let is_watched = self.acceptor.watch(key, &pause);
+            if is_watched {
+                self.serving.journal.parked();
+            }
+            is_watched
+        });
+        match parked {
+            Ok(()) => self.roster.parked(rt),
+            Err(left) => {
+                drop(left);
+                self.ended();
+            }
+        }
+    }
+
+    // Parks fetches that others wait for. Without room for that, this thread sees them through.
+    fn park_fetches(&self, fetches: Owed<R, S>) {
+        let rt = self.serving.rt;
+        let Some(awaited) = fetches.awaited() else {
+            return self.serving.see_through(fetches);
         };
-        let is_parked = match waits {
-            // The journal is told before another thread can take the connection out.
-            Some((session, pause)) => self.parked.park(rt, session, pause, |key| {
-                let is_watched = self.acceptor.watch(key, &pause);
-                if is_watched {
-                    self.serving.journal.parked();
-                }
-                is_watched
-            }),
-            None => false,
-        };
-        if is_parked {
-            self.roster.parked(rt);
-        } else {
-            self.ended();
+        let pause = Pause::for_fetches(awaited, None);
+        let waiting = Waiting::Fetches(fetches);
+        match self
+            .parked
+            .park(rt, waiting, pause, |key| self.acceptor.watch(key, &pause))
+        {
+            Ok(()) => self.roster.parked(rt),
+            Err(Some(Waiting::Fetches(fetches))) => self.serving.see_through(fetches),
+            Err(_) => {}
         }
     }
 
@@ -246,22 +320,24 @@ where
         let Some(idle) = self.parked.take_idle(rt) else {
             return false;
         };
-        self.end_one(idle);
+        self.end_waiting(idle);
         true
     }
 
-    // Ends each connection that is parked.
+    // Ends each connection that is parked, and gives up what is fetched for others.
     fn end_parked(&self) {
         let rt = self.serving.rt;
         for (_, parked) in self.parked.take_all(rt, rt.alloc()) {
-            self.end_one(parked.session);
+            self.end_waiting(parked.session);
         }
     }
 
-    // Ends a connection that was parked.
-    fn end_one(&self, session: Session<F>) {
-        self.serving.journal.unparked();
-        self.serving.end(session);
-        self.ended();
+    // Ends what was parked.
+    fn end_waiting(&self, waiting: Parked<F, R, S>) {
+        if let Waiting::Connection(session) = waiting {
+            self.serving.journal.unparked();
+            self.serving.end(session);
+            self.ended();
+        }
     }
 }

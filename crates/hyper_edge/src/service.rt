@@ -10,11 +10,11 @@ ghost use Rattle.hyper_edge.specs.Lines.{line, lines_of};
 ghost use Rattle.hyper_edge.specs.Methods.{answered_as};
 
 use crate::date::DateClock;
-use crate::departure::watch_of;
+use crate::departure::{ClientWatch, watch_of};
 use crate::exchange::deadline;
 use crate::forwarded::client_of;
 use crate::page_time::WithinTime;
-use crate::responding::{RequestHead, Responded, no_room, refused, respond_with_log};
+use crate::responding::{Begun, RequestHead, begin_response, no_room, refused};
 use access_log::Reason;
 use edge_types::NoMemory;
 use fetch_workers::{Assembling, ConcurrentSource, OnBehalf};
@@ -150,71 +150,71 @@ impl<S: Drop, R: Drop> EdgeService<S, R> {
     }
 }
 
+/// What answers a request: the response at once, or the page that is to be gone on with.
+pub(crate) type Begins<R, S> = Begun<R, WithinTime<S>>;
+
 impl<S, R> EdgeService<S, R>
 where
-    S: ConcurrentSource<R> + OnBehalf<R> + Sync + Drop,
-    R: Wait + Threads + Clock + Sync,
+    S: ConcurrentSource<R> + OnBehalf<R> + Send + Sync + Drop,
+    R: Wait + Threads + Clock + Clone + Sync + Drop,
 {
-    /// The response to a request, from a copy of its head, to a client with this socket, where that is known; 503 if there
-    /// is no room for the copy.
-    pub(crate) fn answer<B>(
+    /// Begins the response to a request, from a copy of its head, to a client with this socket, where that is known; 503 if
+    /// there is no room for the copy.
+    pub(crate) fn begin<B>(
         &self,
         request: &Request<B>,
         socket: Option<RawFd>,
-    ) -> Result<Responded, NoMemory> {
+    ) -> Result<Begins<R, S>, NoMemory> {
         let alloc = self.alloc;
         let Ok(fields) = fields_of(alloc, request.headers()) else {
-            return no_room(alloc);
+            return Ok(Ok(no_room(alloc)?));
         };
         let name = self.name.as_deref();
         let Ok(passed) = passed_by(alloc, name, fields.as_slice()) else {
-            return no_room(alloc);
+            return Ok(Ok(no_room(alloc)?));
         };
         if is_circle(name, fields.as_slice(), passed.as_slice()) {
-            return refused(alloc, 508, Reason::Loop);
+            return Ok(Ok(refused(alloc, 508, Reason::Loop)?));
         }
         let Ok(target) = target_of(alloc, request.uri()) else {
-            return no_room(alloc);
+            return Ok(Ok(no_room(alloc)?));
         };
         let head = RequestHead {
             method: answered_as(request.method().as_str().as_bytes(), self.answers_head),
             target: target.as_bytes(),
             fields: fields.as_slice(),
         };
-        let Ok(own) = self.source_for(passed.as_slice()) else {
-            return no_room(alloc);
+        let Ok(source) = self.source_for(passed.as_slice()) else {
+            return Ok(Ok(no_room(alloc)?));
         };
-        match &own {
-            Some(source) => self.answer_from(source, &head, socket),
-            None => self.answer_from(&*self.source, &head, socket),
-        }
-    }
-
-    // A source of its own for a request that has passed these edges, where it needs one.
-    fn source_for(&self, passed: &[u8]) -> Result<Option<S>, NoMemory> {
-        if passed.is_empty() {
-            return Ok(None);
-        }
-        self.source.on_behalf(self.alloc, passed)
-    }
-
-    // The response to the head of a request, from this source.
-    fn answer_from(
-        &self,
-        source: &S,
-        head: &RequestHead<'_>,
-        socket: Option<RawFd>,
-    ) -> Result<Responded, NoMemory> {
         let source = WithinTime {
             source,
             until: deadline(&self.rt, self.limit).ok().flatten(),
-            client: watch_of(self.limit, self.aborts_on_close, socket),
+            client: self.watch(socket),
         };
-        respond_with_log(&self.rt, self.alloc, &source, head, self.how)
+        let Ok(rt) = self.rt.clone() else {
+            return Ok(Ok(no_room(alloc)?));
+        };
+        begin_response(rt, alloc, source, &head, self.how)
+    }
+
+    // The source for a request that has passed these edges: one of its own, where it needs one.
+    fn source_for(&self, passed: &[u8]) -> Result<Arc<S>, NoMemory> {
+        if !passed.is_empty() {
+            if let Some(own) = self.source.on_behalf(self.alloc, passed)? {
+                return Ok(Arc::new(self.alloc, own)?);
+            }
+        }
+        Ok(Arc::try_clone(&self.source)?)
     }
 }
 
 impl<S, R> EdgeService<S, R> {
+    /// What is looked at of a client with this socket while a page is made for it.
+    pub(crate) fn watch(&self, socket: Option<RawFd>) -> Option<ClientWatch> {
+        watch_of(self.limit, self.aborts_on_close, socket)
+    }
+
     /// The client of a request over a connection from this peer.
     pub(crate) fn client_of<B>(
         &self,

@@ -3,12 +3,16 @@
 ghost use Rattle.hyper_edge.specs.Opening.{GivesPollable};
 
 use crate::connection::{Connection, Stop, Went, http_of};
+use crate::departure::ClientWatch;
 use crate::executor::Executor;
 use crate::handover::{Answered, Asked, Handover, HandsOver};
 use crate::journal::{Journal, NoJournal, Unreported, refused_head};
+use crate::page_time::WithinTime;
+use crate::responding::{Responded, Told, go_on_with};
 use crate::service::EdgeService;
 use crate::signals::{Pause, Signals};
-use fetch_workers::{ConcurrentSource, OnBehalf};
+use edge_types::NoMemory;
+use fetch_workers::{ConcurrentSource, OnBehalf, OwedFetches, PageInProgress};
 use futures::Future;
 use http::header::HeaderValue;
 use http::{Response, header};
@@ -19,8 +23,11 @@ use std::net::IpAddr;
 use std::os::fd::RawFd;
 use std::sync::{Arc, Wait};
 use std::thread::Threads;
-use std::time::{Clock, Instant};
+use std::time::{Clock, Duration, Instant};
 use tokio::io::{AsyncRead, AsyncWrite};
+
+// For how many milliseconds a page holds its thread while it waits for its fetches, where there are threads to spare.
+const MOMENT_MILLIS: u64 = 2;
 
 /// Serves one request over one stream, and ends the connection. Anything that goes wrong ends it too: a fault
 /// of the stream, a head that isn't HTTP/1, and running out of memory for the response.
@@ -33,7 +40,7 @@ pub fn serve_io<R, I, S>(rt: &R, executor: &mut Executor, io: I, service: EdgeSe
 where
     R: Wait + Threads + Clock + Clone + Sync + Drop,
     I: AsyncRead + AsyncWrite,
-    S: ConcurrentSource<R> + OnBehalf<R> + Sync + Drop,
+    S: ConcurrentSource<R> + OnBehalf<R> + Send + Sync + Drop,
 {
     let serving = Serving {
         rt,
@@ -46,12 +53,48 @@ where
     serving.serve_one(&opens, io, executor);
 }
 
-/// A connection, and what is to be reported of its requests.
+/// A connection, the page that is being assembled for its request, if one is, and what is to be reported of its requests.
 #[derive(Drop)]
-pub(crate) struct Session<F: Future> {
+pub(crate) struct Session<F, R, S>
+where
+    F: Future,
+    R: Wait + Clock + Drop,
+    S: ConcurrentSource<R> + Drop,
+    WithinTime<S>: ConcurrentSource<R> + Drop,
+{
     connection: Connection<F>,
+    page: Option<PageAsked<R, S>>,
     client: Option<IpAddr>,
     unreported: Vec<Unreported>,
+}
+
+// A page that is being assembled, and the request that asked for it, whose head had come at `begun`.
+#[derive(Drop)]
+struct PageAsked<R, S>
+where
+    R: Wait + Clock + Drop,
+    S: ConcurrentSource<R> + Drop,
+    WithinTime<S>: ConcurrentSource<R> + Drop,
+{
+    page: PageInProgress<R, WithinTime<S>>,
+    asked: Asked,
+    begun: Option<Instant>,
+    // The client's socket, where it is looked at.
+    client: Option<ClientWatch>,
+}
+
+/// Fetches of a page that has ended, for which others wait.
+pub(crate) type Owed<R, S> = OwedFetches<R, WithinTime<S>>;
+
+impl<R, S> PageAsked<R, S>
+where
+    R: Wait + Clock + Drop,
+    S: ConcurrentSource<R> + Drop,
+{
+    // Why the page can't go on now; `None` where only a wait would tell when it can.
+    fn pause(&self) -> Option<Pause> {
+        Some(Pause::for_fetches(self.page.awaited()?, self.client))
+    }
 }
 
 /// What answers the requests of connections.
@@ -67,7 +110,7 @@ pub(crate) struct Serving<'a, R, S, J> {
 impl<'a, R, S, J> Serving<'a, R, S, J>
 where
     R: Wait + Threads + Clock + Clone + Sync + Drop,
-    S: ConcurrentSource<R> + OnBehalf<R> + Sync + Drop,
+    S: ConcurrentSource<R> + OnBehalf<R> + Send + Sync + Drop,
     J: Journal<R>,
 {
     // Serves a connection over a stream that tells no signals.
@@ -79,8 +122,12 @@ where
         requires callable { M.IsAlwaysCallable opens.now }
         requires opened { GivesPollable (M.post opens.now) F.can_poll }
     {
+        let mut owed = Vec::new(self.service.alloc());
         if let Some(session) = self.session(opens, io, None, None) {
-            let _ = self.serve(session, executor);
+            let _ = self.serve(session, executor, false, &mut owed);
+        }
+        for fetches in owed {
+            self.see_through(fetches);
         }
     }
 
@@ -91,7 +138,7 @@ where
         io: I,
         client: Option<IpAddr>,
         signals: Option<Arc<Signals>>,
-    ) -> Option<Session<F>>
+    ) -> Option<Session<F, R, S>>
     where
         I: Drop,
         F: Future<Output = hyper::Result<()>>,
@@ -104,87 +151,248 @@ where
         let future = opens(io, handover.clone().ok()?);
         Some(Session {
             connection: Connection::new(alloc, future, handover, signals).ok()?,
+            page: None,
             client,
             unreported: Vec::new(alloc),
         })
     }
 
-    /// Serves a connection until it has ended, or its client lets it wait: then it is given back, with the reason.
+    /// Serves a connection until it has ended, or has to wait for its client, or for fetches: then it is given back, with
+    /// the reason. Fetches are first waited for in the thread, where that may linger for a moment. What its pages owe to
+    /// others is added.
     pub(crate) fn serve<F>(
         &self,
-        session: Session<F>,
+        session: Session<F, R, S>,
         executor: &mut Executor,
-    ) -> Option<(Session<F>, Pause)>
+        may_linger: bool,
+        owed: &mut Vec<Owed<R, S>>,
+    ) -> Option<(Session<F, R, S>, Pause)>
     where
         F: Future<Output = hyper::Result<()>>,
     {
-        let Session {
-            mut connection,
-            client,
-            mut unreported,
-        } = session;
+        let mut session = session;
         for _ in self.rt.forever() {
-            let stop = match connection.go_on(self.rt, executor) {
-                Went::Stopped(stopped, stop) => {
-                    connection = stopped;
-                    stop
-                }
+            session = match self.paged(session, may_linger, owed) {
+                Ok(paged) => paged,
+                Err(waiting) => return Some(waiting),
+            };
+            let Session {
+                connection,
+                page: _,
+                client,
+                mut unreported,
+            } = session;
+            let (connection, stop) = match connection.go_on(self.rt, executor) {
+                Went::Stopped(stopped, stop) => (stopped, stop),
                 Went::Ended(refusal) => {
                     self.report(&mut unreported);
                     self.report_refusal(client, refusal);
                     return None;
                 }
             };
-            match stop {
-                Stop::Asked(asked) => {
-                    let socket = connection.socket();
-                    let answered = self.answered(asked, client, socket, &mut unreported);
-                    connection.handover().answer(answered);
+            let page = match stop {
+                Stop::Asked(asked) => self.begun(asked, &connection, client, &mut unreported),
+                Stop::Written => {
+                    self.report(&mut unreported);
+                    None
                 }
-                Stop::Written => self.report(&mut unreported),
                 Stop::Paused(pause) => {
                     let session = Session {
                         connection,
+                        page: None,
                         client,
                         unreported,
                     };
                     return Some((session, pause));
                 }
-            }
+            };
+            session = Session {
+                connection,
+                page,
+                client,
+                unreported,
+            };
         }
         unreachable!()
     }
 
-    /// Ends a connection that was given back, and reports what is to be reported of it.
-    pub(crate) fn end<F>(&self, session: Session<F>)
+    // The session once no page is being assembled for it, whose response was given to the connection; or, where that has
+    // to wait for fetches, with the reason.
+    fn paged<F>(
+        &self,
+        session: Session<F, R, S>,
+        may_linger: bool,
+        owed: &mut Vec<Owed<R, S>>,
+    ) -> Result<Session<F, R, S>, (Session<F, R, S>, Pause)>
     where
         F: Future<Output = hyper::Result<()>>,
     {
         let Session {
             connection,
+            mut page,
+            client,
+            mut unreported,
+        } = session;
+        let lingers = Moment::begun(self.rt, may_linger && page.is_some());
+        for _ in self.rt.forever() {
+            let Some(asked) = page else {
+                let session = Session {
+                    connection,
+                    page: None,
+                    client,
+                    unreported,
+                };
+                return Ok(session);
+            };
+            let left = self.gone_on(asked, &connection, client, &mut unreported, owed);
+            let Some(mut waiting) = left else {
+                page = None;
+                continue;
+            };
+            let pause = match connection.may_pause() {
+                true => waiting.pause(),
+                false => None,
+            };
+            match pause {
+                Some(_) if lingers.lasts(self.rt) => waiting.page.wait(Some(one_moment())),
+                Some(pause) => {
+                    let session = Session {
+                        connection,
+                        page: Some(waiting),
+                        client,
+                        unreported,
+                    };
+                    return Err((session, pause));
+                }
+                None => waiting.page.wait(None),
+            }
+            page = Some(waiting);
+        }
+        unreachable!()
+    }
+
+    /// Goes on with fetches that others wait for until nobody does.
+    pub(crate) fn see_through(&self, fetches: Owed<R, S>) {
+        let mut left = Some(fetches);
+        for _ in self.rt.forever() {
+            let Some(mut fetches) = left else {
+                return;
+            };
+            fetches.wait(None);
+            left = fetches.go_on();
+        }
+        unreachable!()
+    }
+
+    /// Ends a connection that was given back, and reports what is to be reported of it.
+    pub(crate) fn end<F>(&self, session: Session<F, R, S>)
+    where
+        F: Future<Output = hyper::Result<()>>,
+    {
+        let Session {
+            connection,
+            page,
             client: _,
             mut unreported,
         } = session;
+        drop(page);
         drop(connection);
         self.report(&mut unreported);
+    }
+
+    // Begins the response to a request. The page that is to be assembled for it, if it is none that is there at once.
+    fn begun<F>(
+        &self,
+        asked: Asked,
+        connection: &Connection<F>,
+        client: Option<IpAddr>,
+        unreported: &mut Vec<Unreported>,
+    ) -> Option<PageAsked<R, S>>
+    where
+        F: Future<Output = hyper::Result<()>>,
+    {
+        let begun = match self.journal.is_kept() {
+            true => Instant::now(self.rt).ok(),
+            false => None,
+        };
+        let socket = connection.socket();
+        match self.service.begin(&asked.head, socket) {
+            Ok(Err(page)) => {
+                let client = self.service.watch(socket);
+                return Some(PageAsked {
+                    page,
+                    asked,
+                    begun,
+                    client,
+                });
+            }
+            Ok(Ok(responded)) => {
+                let answered = self.answered(responded, &asked, begun, client, unreported);
+                connection.handover().answer(answered);
+            }
+            Err(NoMemory) => connection.handover().answer(Err(AllocError)),
+        }
+        None
+    }
+
+    // Goes on with a page. It comes back if it has to wait; else its response is given to the connection, and what it owes
+    // to others is added.
+    fn gone_on<F>(
+        &self,
+        asked: PageAsked<R, S>,
+        connection: &Connection<F>,
+        client: Option<IpAddr>,
+        unreported: &mut Vec<Unreported>,
+        owed: &mut Vec<Owed<R, S>>,
+    ) -> Option<PageAsked<R, S>>
+    where
+        F: Future<Output = hyper::Result<()>>,
+    {
+        let PageAsked {
+            page,
+            asked,
+            begun,
+            client: watch,
+        } = asked;
+        match go_on_with(self.service.alloc(), page) {
+            Ok(Err(page)) => {
+                return Some(PageAsked {
+                    page,
+                    asked,
+                    begun,
+                    client: watch,
+                });
+            }
+            Ok(
+                Ok(
+                    Told {
+                        responded,
+                        owed: left,
+                    },
+                ),
+            ) => {
+                let answered = self.answered(responded, &asked, begun, client, unreported);
+                connection.handover().answer(answered);
+                if let Some(left) = left {
+                    // Without room for them they are given up.
+                    let _ = owed.push(left);
+                }
+            }
+            Err(NoMemory) => connection.handover().answer(Err(AllocError)),
+        }
+        None
     }
 
     // The response to a request. Over a connection that is kept it says that it is the last one, where something of the
     // request's body is left, which nobody reads.
     fn answered(
         &self,
-        asked: Asked,
+        responded: Responded,
+        asked: &Asked,
+        begun: Option<Instant>,
         client: Option<IpAddr>,
-        socket: Option<RawFd>,
         unreported: &mut Vec<Unreported>,
     ) -> Answered {
-        let begun = match self.journal.is_kept() {
-            true => Instant::now(self.rt).ok(),
-            false => None,
-        };
-        let Ok(responded) = self.service.answer(&asked.head, socket) else {
-            return Err(AllocError);
-        };
         if let Some(begun) = begun {
             let alloc = self.service.alloc();
             let client = self.service.client_of(&asked.head, client);
@@ -222,6 +430,38 @@ where
             left.report(self.rt, self.journal);
         }
     }
+}
+
+// Until when a thread may linger; `None` means that it may not.
+#[derive(Clone, Copy)]
+struct Moment {
+    until: Option<Instant>,
+}
+
+impl Moment {
+    // One that begins now, if there is one.
+    fn begun(clock: &impl Clock, is_there: bool) -> Moment {
+        if !is_there {
+            return Moment { until: None };
+        }
+        match Instant::now(clock) {
+            Ok(now) => Moment {
+                until: now.checked_add(one_moment()),
+            },
+            Err(_) => Moment { until: None },
+        }
+    }
+
+    fn lasts(self, clock: &impl Clock) -> bool {
+        match (self.until, Instant::now(clock)) {
+            (Some(until), Ok(now)) => now < until,
+            _ => false,
+        }
+    }
+}
+
+fn one_moment() -> Duration {
+    Duration::from_millis(MOMENT_MILLIS)
 }
 
 // Says of a response that it is the last one of its connection.

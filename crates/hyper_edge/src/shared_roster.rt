@@ -13,6 +13,8 @@ const TICK_MILLIS: u64 = 100;
 pub(crate) enum Wanted {
     /// One more thread is wanted, and counted.
     Thread(Work),
+    /// There is no thread for some of the work, and none can be started yet.
+    Hands,
     /// Nothing yet: a moment has passed.
     Nothing,
     /// No thread ever will be wanted.
@@ -96,16 +98,17 @@ impl SharedRoster {
         self.room.notify_one();
     }
 
-    pub(crate) fn not_started(&self, rt: &impl Wait, work: Work) -> bool {
-        self.roster.lock(rt).not_started(work)
+    pub(crate) fn not_started<R: Wait + Clock>(&self, rt: &R, work: Work) {
+        let now = millisecond(rt);
+        self.roster.lock(rt).not_started(work, now);
+    }
+
+    pub(crate) fn lacks(&self, rt: &impl Wait, work: Work) -> bool {
+        self.roster.lock(rt).lacks(work)
     }
 
     pub(crate) fn is_done(&self, rt: &impl Wait) -> bool {
         self.roster.lock(rt).is_done()
-    }
-
-    pub(crate) fn is_empty(&self, rt: &impl Wait) -> bool {
-        self.roster.lock(rt).is_empty()
     }
 
     /// Waits until there may be room for a connection, or a moment has passed.
@@ -114,14 +117,19 @@ impl SharedRoster {
         let _ = self.room.wait_timeout(rt, roster, tick());
     }
 
-    /// Waits until one more thread is wanted, and counts it; or until none ever will be, or a moment has passed.
+    /// Waits until one more thread is wanted, and counts it; or until none ever will be, or a moment has passed. Doesn't
+    /// wait where whoever starts threads has work to do.
     pub(crate) fn wait_for_wanted<R: Wait + Clock>(&self, rt: &R) -> Wanted {
+        let now = millisecond(rt);
         let mut roster = self.roster.lock(rt);
         if roster.is_done() {
             return Wanted::Nobody;
         }
-        if let Some(work) = roster.take_wanted() {
+        if let Some(work) = roster.take_wanted(now) {
             return Wanted::Thread(work);
+        }
+        if roster.lacks(Work::Accepting) || roster.lacks(Work::Resuming) {
+            return Wanted::Hands;
         }
         let _ = self.moved.wait_timeout(rt, roster, tick());
         Wanted::Nothing
@@ -137,8 +145,8 @@ impl SharedRoster {
     }
 
     /// How the server has ended.
-    pub(crate) fn end(self) -> ServeEnd {
-        self.roster.into_inner().end()
+    pub(crate) fn end(&self, rt: &impl Wait) -> ServeEnd {
+        self.roster.lock(rt).end()
     }
 
     // Wakes who starts threads, if there is a reason.
@@ -151,4 +159,12 @@ impl SharedRoster {
 
 fn tick() -> Duration {
     Duration::from_millis(TICK_MILLIS)
+}
+
+// The millisecond of the machine's monotonic clock; 0 where it can't be read, so that no pause ends before it can.
+fn millisecond(clock: &impl Clock) -> u64 {
+    match clock.monotonic() {
+        Ok(since_start) => u64::try_from(since_start.as_millis()).unwrap_or(u64::MAX),
+        Err(_) => 0,
+    }
 }

@@ -2,6 +2,8 @@
 
 ghost use Rattle.std.specs.Prelude.{◌≡◌, Some};
 
+use crate::departure::ClientWatch;
+use fetch_workers::Awaited;
 use std::os::fd::RawFd;
 use std::sync::Mutex;
 use std::sync::atomic::{AtomicBool, Ordering};
@@ -16,17 +18,32 @@ pub enum Readiness {
     Writable,
 }
 
-/// Why a connection can't go on now.
+/// Why a connection, or what is fetched for one, can't go on now.
 #[derive(Clone, Copy)]
 pub struct Pause {
     /// The socket that it waits for.
     pub socket: RawFd,
     /// What that has to be ready for.
     pub readiness: Readiness,
-    /// When the client's time is over; `None` means never.
+    /// When the client's time, or that of the fetches, is over; `None` means never.
     pub until: Option<Instant>,
     /// Whether the connection is kept, and nothing of a further request has come.
     pub is_idle: bool,
+    /// The client who ends the wait by leaving, where that is looked at.
+    pub(crate) client: Option<ClientWatch>,
+}
+
+impl Pause {
+    /// What fetches wait for, for a client where there is one.
+    pub(crate) fn for_fetches(awaited: Awaited, client: Option<ClientWatch>) -> Pause {
+        Pause {
+            socket: awaited.descriptor,
+            readiness: Readiness::Readable,
+            until: awaited.until,
+            is_idle: false,
+            client,
+        }
+    }
 }
 
 /// What a connection's stream tells whoever serves it. One thread at a time does, so the lock is free.

@@ -5,13 +5,14 @@ use crate::client_stream::{ClientStream, PATIENCE_MILLIS, Shared};
 use crate::exchange::Limits;
 use crate::signals::{Pause, Readiness, Signals};
 use libc::net::{
-    EPOLL_CTL_ADD, EPOLL_CTL_MOD, EPOLLIN, EPOLLONESHOT, EPOLLOUT, EPOLLRDHUP, listen,
+    EPOLL_CTL_ADD, EPOLL_CTL_MOD, EPOLLIN, EPOLLONESHOT, EPOLLOUT, EPOLLRDHUP, POLLIN, listen, poll,
 };
+use libc::types::pollfd;
 use mio::Poll;
 use os::EpollEvent;
 use std::alloc::AllocGlobal;
 use std::net::{IpAddr, Net, Shutdown, TcpListener, TcpStream};
-use std::os::fd::{AsRawFd, OwnedFd};
+use std::os::fd::{AsRawFd, OwnedFd, RawFd};
 use std::sync::Arc;
 use std::sync::atomic::Ordering;
 use std::time::{Clock, Duration};
@@ -19,6 +20,9 @@ use std::{io, thread};
 
 // For how many milliseconds at most a thread waits for one of the sockets that are watched.
 const TICK_MILLIS: i32 = 100;
+
+// For how many milliseconds at most whoever starts threads waits for a client. Meanwhile it does nothing else.
+const MOMENT_MILLIS: i32 = 10;
 
 // How many clients may wait to be accepted, unless the system's own limit is lower.
 const QUEUE: i32 = 1_024;
@@ -76,15 +80,12 @@ impl<Q: Drop> Sockets<Q> {
 }
 
 impl<Q> Sockets<Q> {
-    // Asks for one event of a socket, under a key.
-    fn control(&self, operation: i32, key: usize, pause: &Pause) -> bool {
-        let events = EPOLLONESHOT
-            | match pause.readiness {
-                Readiness::Readable => EPOLLIN | EPOLLRDHUP,
-                Readiness::Writable => EPOLLOUT,
-            };
+    // Asks for one event of a descriptor, under a key. One that was watched before is known already.
+    fn watches(&self, descriptor: RawFd, key: usize, events: u32) -> bool {
         let set = self.watched.as_raw_fd();
-        os::epoll_ctl(set, operation, pause.socket, events, key as u64) == 0
+        let events = EPOLLONESHOT | events;
+        os::epoll_ctl(set, EPOLL_CTL_MOD, descriptor, events, key as u64) == 0
+            || os::epoll_ctl(set, EPOLL_CTL_ADD, descriptor, events, key as u64) == 0
     }
 }
 
@@ -100,6 +101,15 @@ where
         let rt = rt.clone().ok()?;
         let shared = self.shared.clone().ok()?;
         ClientStream::new(rt.alloc(), socket, address.ip(), rt, self.limits, shared).ok()
+    }
+
+    fn has_client(&self, _rt: &R) -> bool {
+        let mut watched = [pollfd {
+            fd: self.listener.as_raw_fd(),
+            events: POLLIN,
+            revents: 0,
+        }];
+        0 < poll(&mut watched, MOMENT_MILLIS)
     }
 
     fn rest(&self, rt: &R, pause: Duration) {
@@ -122,9 +132,20 @@ where
         self.shared.may_wait.store(may_wait, Ordering::SeqCst);
     }
 
-    // A socket that was watched before is known already.
+    fn may_wait(&self) -> bool {
+        self.shared.may_wait.load(Ordering::SeqCst)
+    }
+
+    // A client who can't be watched is looked at whenever his page goes on.
     fn watch(&self, key: usize, pause: &Pause) -> bool {
-        self.control(EPOLL_CTL_MOD, key, pause) || self.control(EPOLL_CTL_ADD, key, pause)
+        if let Some(client) = &pause.client {
+            let _ = self.watches(client.socket, key, client.events());
+        }
+        let events = match pause.readiness {
+            Readiness::Readable => EPOLLIN | EPOLLRDHUP,
+            Readiness::Writable => EPOLLOUT,
+        };
+        self.watches(pause.socket, key, events)
     }
 
     fn ready(&self, _rt: &R) -> Option<usize> {

@@ -3,6 +3,9 @@
 ghost use Rattle.std.specs.Prelude.{◌≡◌, ◌↔◌, false, true, IsTrue, MatchBool};
 ghost use Rattle.hyper_edge.specs.Staff as spec;
 
+// For how many milliseconds no thread is started after one couldn't be.
+const PAUSE: u64 = 1_000;
+
 /// How many threads do one kind of work, and whether one more is to be started.
 #[derive(Clone, Copy)]
 pub(crate) struct Staff {
@@ -12,6 +15,8 @@ pub(crate) struct Staff {
     busy: u16,
     // One more thread is to be started.
     wanted: bool,
+    // In which millisecond the last one couldn't be started.
+    failed_at: Option<u64>,
 }
 
 impl Staff {
@@ -24,6 +29,7 @@ impl Staff {
             most,
             busy: 0,
             wanted,
+            failed_at: None,
         }
     }
 
@@ -54,27 +60,35 @@ impl Staff {
         true
     }
 
-    /// Counts one more thread, exactly if one was asked for.
-    pub(crate) fn take_wanted(&mut self) -> bool
+    /// Counts one more thread, exactly if one was asked for and no pause after a failed start is under way.
+    pub(crate) fn take_wanted(&mut self, now: u64) -> bool
         ensures { MatchBool result
-            (IsTrue self.old.wanted × (self.new ≡ spec.counted self.old))
-            ((self.old.wanted ≡ false) × (self.new ≡ self.old)) }
+            (spec.IsDue self.old now × (self.new ≡ spec.counted self.old))
+            (¬ (spec.IsDue self.old now) × (self.new ≡ self.old)) }
     {
-        if !self.wanted {
+        if !self.is_due(now) {
             return false;
         }
         self.wanted = false;
         self.threads = self.threads.saturating_add(1);
+        self.failed_at = None;
         true
     }
 
-    /// Called when a thread could not be started. Returns true if there is none.
-    pub(crate) fn not_started(&mut self) -> bool
-        ensures uncounted { self.new ≡ spec.uncounted self.old }
-        ensures none { IsTrue result ↔ (self.new.threads ≡ 0) }
+    /// A thread that was counted could not be started: it is wanted again once a pause is over.
+    pub(crate) fn not_started(&mut self, now: u64)
+        ensures { self.new ≡ spec.uncounted self.old now }
     {
+        self.wanted = true;
         self.threads = self.threads.saturating_sub(1);
-        self.threads == 0
+        self.failed_at = Some(now);
+    }
+
+    /// Whether there is no thread, and one is wanted.
+    pub(crate) fn lacks(&self) -> bool
+        ensures { IsTrue result ↔ spec.Lacks self.now }
+    {
+        self.wanted && self.threads == 0
     }
 
     /// Whether not all threads that there may be are at work.
@@ -82,6 +96,16 @@ impl Staff {
         ensures { IsTrue result ↔ spec.HasSpare self.now }
     {
         self.busy < self.most
+    }
+
+    fn is_due(&self, now: u64) -> bool
+        ensures { IsTrue result ↔ spec.IsDue self.now now }
+    {
+        let has_rested = match self.failed_at {
+            Some(at) => PAUSE <= now.saturating_sub(at),
+            None => true,
+        };
+        self.wanted && has_rested
     }
 
     fn wants_thread(&self) -> bool

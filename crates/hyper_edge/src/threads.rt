@@ -22,10 +22,12 @@ use tokio::io::{AsyncRead, AsyncWrite};
 /// ended.
 ///
 /// Each thread accepts for itself, and serves what it accepted. One more is started only once all existing ones are
-/// serving, up to `capacity.threads`, and at least one; if it can't be started, the existing ones go on, and if there
-/// are none the calling thread serves alone. A connection that can't go on, since its client sends or receives nothing,
-/// is parked, and holds no thread: as soon as it can, one of as many further threads goes on with it, which are
+/// serving, up to `capacity.threads`, and at least one. A connection that can't go on, since its client sends or receives
+/// nothing, is parked, and holds no thread: as soon as it can, one of as many further threads goes on with it, which are
 /// started in the same way.
+///
+/// A thread that can't be started is tried again after a second. Until then the existing ones go on; for work that has
+/// none, the calling thread accepts and serves one connection after another, and goes on with those that were parked.
 ///
 /// No more than `capacity.connections` connections are accepted that haven't ended. Where there is no room for one
 /// more, the one that has been kept without a further request for longest is ended.
@@ -58,6 +60,7 @@ where
     A: Accept<R> + Sync,
     A::Io: AsyncRead + AsyncWrite,
     S: ConcurrentSource<R> + OnBehalf<R> + Send + Sync + Drop,
+    S::InFlight: Send,
     J: Journal<R> + Sync,
 {
     let keeps = acceptor.keeps();
@@ -87,6 +90,7 @@ where
     R: ServerRuntime + Send + Sync,
     A: Accept<R> + Sync,
     S: ConcurrentSource<R> + OnBehalf<R> + Send + Sync + Drop,
+    S::InFlight: Send,
     J: Journal<R> + Sync,
     F: Future<Output = hyper::Result<()>> + Send,
     M: Fn(A::Io, Arc<Handover>) -> F + Sync,
@@ -99,33 +103,41 @@ where
     server.end()
 }
 
-// Starts threads as they are wanted, and joins them.
+// Starts threads as they are wanted, and joins them. Does some of the work for which none can be started, in small steps,
+// since it also looks for a stop.
 fn start_all<R, A, S, J, F, M>(rt: &R, server: &Server<'_, R, A, S, J, F>, opens: &M)
 where
     R: ServerRuntime + Send + Sync,
     A: Accept<R> + Sync,
     S: ConcurrentSource<R> + OnBehalf<R> + Send + Sync + Drop,
+    S::InFlight: Send,
     J: Journal<R> + Sync,
     F: Future<Output = hyper::Result<()>> + Send,
     M: Fn(A::Io, Arc<Handover>) -> F + Sync,
     requires callable { M.IsAlwaysCallable opens.now }
     requires opened { GivesPollable (M.post opens.now) F.can_poll }
 {
-    let is_alone = thread::scope(
+    thread::scope(
         thread::scope_env(),
         rt,
         |scope|
             requires callable { M.IsAlwaysCallable opens.now }
             requires opened { GivesPollable (M.post opens.now) F.can_poll }
         {
+            let mut executor = None;
             for _ in rt.forever() {
                 let work = match server.roster.wait_for_wanted(rt) {
                     Wanted::Thread(work) => work,
+                    Wanted::Hands => {
+                        server.tick();
+                        server.stand_in(opens, &mut executor);
+                        continue;
+                    }
                     Wanted::Nothing => {
                         server.tick();
                         continue;
                     }
-                    Wanted::Nobody => return false,
+                    Wanted::Nobody => return,
                 };
                 let started = match work {
                     Work::Accepting => scope
@@ -138,17 +150,10 @@ where
                         .is_ok(),
                     Work::Resuming => scope.spawn(move || server.resume_all()).is_ok(),
                 };
-                if !started && server.roster.not_started(rt, work) {
-                    match work {
-                        Work::Accepting => return true,
-                        Work::Resuming => server.resume_all(),
-                    }
+                if !started {
+                    server.roster.not_started(rt, work);
                 }
             }
-            unreachable!()
         },
     );
-    if is_alone {
-        server.serve_alone(opens);
-    }
 }

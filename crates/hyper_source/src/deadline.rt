@@ -22,9 +22,24 @@ impl Deadline {
         }
     }
 
+    /// Until when a fetch that is asked for now, and may take this long, may wait for its turn: half of the time is left
+    /// for the fetch itself. Where more is asked for than an origin can answer, those who wait come to their turn as late as
+    /// they may; with all of the time none of them would be answered.
+    pub(crate) fn of_turn(clock: &impl Clock, limit: Option<Duration>) -> io::Result<Deadline> {
+        match limit {
+            Some(limit) => Deadline::after(clock, Some(half_of(limit))),
+            None => Ok(Deadline::never()),
+        }
+    }
+
     /// A fetch that may take as long as it likes.
     pub(crate) fn never() -> Deadline {
         Deadline { at: None }
+    }
+
+    /// When it is over; `None` means never.
+    pub(crate) fn instant(self) -> Option<Instant> {
+        self.at
     }
 
     /// The earlier of two.
@@ -66,4 +81,9 @@ impl Deadline {
         }
         Ok(Some(left))
     }
+}
+
+// Half as long, in whole milliseconds.
+fn half_of(limit: Duration) -> Duration {
+    Duration::from_millis(u64::try_from(limit.as_millis() / 2).unwrap_or(u64::MAX))
 }

@@ -1,4 +1,4 @@
-//! A fetch among others of its thread.
+//! A fetch among others of its page.
 
 ghost use Rattle.std.specs.Prelude.{IsSome, IfOk};
 ghost use Rattle.hyper_source.specs.Heads.{StaysOpen};
@@ -28,6 +28,8 @@ pub(crate) struct Flight {
     pub(crate) deadline: Deadline,
     // What new connections tell of the origin.
     reach: Reach,
+    // Whether its latest connection was made.
+    is_connected: bool,
     // Its connection; `None` once that has ended.
     leg: Option<Leg>,
     // Whether it goes on without its socket being ready.
@@ -70,6 +72,7 @@ impl Flight {
             origin,
             deadline,
             reach,
+            is_connected: leg.is_kept,
             leg: Some(leg),
             goes_on: false,
         }
@@ -93,6 +96,11 @@ impl Flight {
         self.reach.share()
     }
 
+    /// Whether the connection was made over which it was tried last.
+    pub(crate) fn is_connected(&self) -> bool {
+        self.is_connected
+    }
+
     /// Tries the fetch once more, over another connection.
     pub(crate) fn retries(&mut self, leg: Leg) {
         self.leg = Some(leg);
@@ -111,6 +119,7 @@ impl Flight {
             return Turn::Ended(Err(Lost::Fault(FetchFault::Cut)), None);
         };
         let progress = leg.exchange.go_on(alloc, poller.task());
+        self.is_connected = leg.is_kept || self.reach.is_connected();
         match progress {
             Progress::Ended => return self.ended(poller, leg),
             Progress::GoesOn => self.goes_on = true,
@@ -129,11 +138,14 @@ impl Flight {
         }
     }
 
-    fn ended(&self, poller: &Poller, leg: Leg) -> Turn {
+    fn ended(&mut self, poller: &Poller, leg: Leg) -> Turn {
         let may_retry = leg.is_kept && !leg.exchange.has_heard();
         let (came, socket) = leg.into_response(poller);
         match came {
-            Err(Lost::Fault(_)) if may_retry => Turn::Unheard,
+            Err(Lost::Fault(_)) if may_retry => {
+                self.is_connected = false;
+                Turn::Unheard
+            }
             came => Turn::Ended(self.reach.judged(came), socket),
         }
     }

@@ -1,4 +1,4 @@
-//! The fetches that one thread has in flight.
+//! The fetches that one page has in flight.
 
 ghost use Rattle.std.specs.Prelude.{◌≡◌, ◌<◌, [], length, IfSome};
 
@@ -6,17 +6,19 @@ use crate::bounded::OriginGate;
 use crate::deadline::Deadline;
 use crate::flight::{Flight, Turn};
 use crate::gathered::Lost;
+use crate::origin::Chosen;
 use crate::poller::Poller;
 use edge_types::{Answer, NoMemory, PageUrl};
+use fetch_workers::{Awaited, Bell};
 use origin_health::{FetchEnd, Permit};
+use origin_queue::Place;
 use slab::Slab;
 use std::alloc::Global;
 use std::collections::VecDeque;
-use std::net::SocketAddr;
 use std::sync::{Arc, Wait};
-use std::time::{Clock, Instant};
+use std::time::{Clock, Duration, Instant};
 
-/// The fetches of a `HyperSource` that one thread has in flight.
+/// The fetches of a `HyperSource` that one page has in flight.
 pub struct FetchesInFlight {
     // `None` before the first fetch.
     pub(crate) poller: Option<Poller>,
@@ -26,10 +28,50 @@ pub struct FetchesInFlight {
     pub(crate) due: VecDeque<usize>,
     // Answers that were there at once.
     pub(crate) answers: VecDeque<Arc<Answer>>,
-    // What is to be fetched once another of these fetches from the same address has ended.
-    held_back: VecDeque<PageUrl>,
-    // How many permits were given back since one of those was looked at.
-    freed: usize,
+    // What is to be fetched once its address lets it through.
+    queued: VecDeque<Queued>,
+}
+
+/// A fetch that is to be made.
+#[derive(Drop)]
+pub(crate) struct Wanted {
+    /// What is fetched.
+    pub(crate) url: PageUrl,
+    /// The origin that is asked.
+    pub(crate) origin: Chosen,
+    /// Until when the fetch may take, its wait included.
+    pub(crate) deadline: Deadline,
+    /// Until when it may wait for its turn.
+    pub(crate) turn: Deadline,
+}
+
+/// A fetch that waits at a place in the queue of its gate. It can't be dropped, since the gate has to be told that it
+/// leaves.
+pub(crate) struct Queued {
+    pub(crate) wanted: Wanted,
+    pub(crate) gate: OriginGate,
+    pub(crate) place: Place,
+}
+
+impl Queued {
+    /// Whether it has waited as long as it may; so also where the clock can't be read.
+    pub(crate) fn is_late(&self, now: Option<Instant>) -> bool {
+        match now {
+            Some(now) => self.wanted.turn.is_over(now),
+            None => true,
+        }
+    }
+
+    /// Gives the place up.
+    pub(crate) fn leave<R: Wait>(self, rt: &R) -> Wanted {
+        let Queued {
+            wanted,
+            gate,
+            place,
+        } = self;
+        gate.leave(rt, place);
+        wanted
+    }
 }
 
 /// The leave to make a fetch, of a gate that has to be told its end.
@@ -60,19 +102,19 @@ impl FetchesInFlight {
             permits: Vec::new(alloc),
             due: VecDeque::new(alloc),
             answers: VecDeque::new(alloc),
-            held_back: VecDeque::new(alloc),
-            freed: 0,
+            queued: VecDeque::new(alloc),
         }
     }
 
     /// Makes room for one more fetch, of which a wait may tell twice: that it is ready, and that it is late.
     pub(crate) fn reserve(&mut self) -> Result<(), NoMemory> {
-        let count = self.flights.len();
-        self.flights.reserve(1)?;
-        self.permits.reserve(1)?;
-        self.answers.reserve(1)?;
-        self.held_back.reserve(1)?;
-        self.due.reserve(count.saturating_mul(2).saturating_add(2))?;
+        let more = self.queued.len().saturating_add(1);
+        let count = self.flights.len().saturating_add(more);
+        self.flights.reserve(more)?;
+        self.permits.reserve(more)?;
+        self.answers.reserve(more)?;
+        self.queued.reserve(1)?;
+        self.due.reserve(count.saturating_mul(2))?;
         Ok(())
     }
 
@@ -105,32 +147,29 @@ impl FetchesInFlight {
     ) -> Option<Flight> {
         if let Some(place) = place_of(self.permits.as_slice(), key) {
             self.permits.swap_remove(place).ended(rt, end);
-            self.freed = self.freed.saturating_add(1);
         }
         self.flights.try_remove(key)
     }
 
-    /// Whether one of these fetches is from this address, where fetches are bounded.
-    pub(crate) fn asks(&self, address: SocketAddr) -> bool {
-        self.permits.iter().any(|held| held.gate.is_of(address))
-    }
-
-    /// Holds a fetch back until another one has ended.
-    pub(crate) fn hold_back(&mut self, url: PageUrl) -> Result<(), Lost> {
-        match self.held_back.push_back(url) {
+    /// Has a fetch wait behind the others. Without room for it, it gives its place up.
+    pub(crate) fn queue<R: Wait>(&mut self, rt: &R, queued: Queued) -> Result<(), Lost> {
+        match self.queued.push_back(queued) {
             Ok(()) => Ok(()),
-            Err(_) => Err(Lost::NoMemory),
+            Err(failed) => {
+                let _ = failed.value.leave(rt);
+                Err(Lost::NoMemory)
+            }
         }
     }
 
-    /// A fetch that was held back, if one has ended since, so that it may be let through. Once none is left in flight
-    /// each is looked at.
-    pub(crate) fn released(&mut self) -> Option<PageUrl> {
-        if self.freed == 0 && !self.flights.is_empty() {
-            return None;
-        }
-        self.freed = self.freed.saturating_sub(1);
-        self.held_back.pop_front()
+    /// How many fetches wait.
+    pub(crate) fn count_queued(&self) -> usize {
+        self.queued.len()
+    }
+
+    /// Takes out the fetch that has waited longest, to look at it.
+    pub(crate) fn first_queued(&mut self) -> Option<Queued> {
+        self.queued.pop_front()
     }
 
     /// Gives the fetch of a key its turn, if it is there.
@@ -141,11 +180,21 @@ impl FetchesInFlight {
         }
     }
 
-    /// Waits until fetches are to have a turn: sockets are ready, or the first fetch is late.
-    pub(crate) fn wait(&mut self, clock: &impl Clock) -> Result<(), NoMemory> {
-        let patience = self.patience(clock);
+    /// Waits until fetches are to have a turn: sockets are ready, the first fetch is late, or the bell is rung; or for
+    /// `most`, where there is one.
+    pub(crate) fn wait(
+        &mut self,
+        clock: &impl Clock,
+        most: Option<Duration>,
+    ) -> Result<(), NoMemory> {
+        let patience = at_most(self.patience(clock), most);
+        self.look(clock, patience)
+    }
+
+    /// The same, for at most so many milliseconds, or as long as it takes if below 0.
+    pub(crate) fn look(&mut self, clock: &impl Clock, millis: i32) -> Result<(), NoMemory> {
         if let Some(poller) = &self.poller {
-            poller.wait(patience, &mut self.due)?;
+            poller.wait(millis, &mut self.due)?;
         }
         let now = Instant::now(clock).ok();
         for (key, flight) in self.flights.iter() {
@@ -158,45 +207,108 @@ impl FetchesInFlight {
 
     // For how many milliseconds a wait may take; below 0, for as long as it takes.
     fn patience(&self, clock: &impl Clock) -> i32 {
+        if self.goes_on() || !self.answers.is_empty() || !self.due.is_empty() {
+            return 0;
+        }
+        self.first_deadline().millis_left(clock)
+    }
+
+    /// Whether one of the fetches goes on without its socket being ready.
+    pub(crate) fn goes_on(&self) -> bool {
+        self.flights.iter().any(|(_, flight)| flight.goes_on())
+    }
+
+    fn first_deadline(&self) -> Deadline {
         let mut first = Deadline::never();
         for (_, flight) in self.flights.iter() {
-            if flight.goes_on() {
-                return 0;
-            }
             first = first.or_earlier(flight.deadline);
         }
-        first.millis_left(clock)
+        first.or_earlier(self.first_of_queued())
     }
 
-    /// Tells the gates that their fetches have ended otherwise.
-    pub(crate) fn end_permits<R: Wait + Clock>(&mut self, rt: &R)
-        ensures { self.new.permits.items ≡ [] }
-    {
-        for _ in rt.forever() {
-            match self.permits.pop() {
-                Some(held) => held.ended(rt, FetchEnd::Other),
-                None => return,
-            }
+    fn first_of_queued(&self) -> Deadline {
+        let mut first = Deadline::never();
+        for queued in &self.queued {
+            first = first.or_earlier(queued.wanted.turn);
         }
-        unreachable!()
+        first
     }
 
-    /// Closes the sockets, and gives the poller back, once all permits are ended.
-    pub(crate) fn into_poller(self) -> Option<Poller>
-        requires { self.permits.items ≡ [] }
-    {
+    /// What is waited for, where there is anything to wait in.
+    pub(crate) fn awaited(&self) -> Option<Awaited> {
+        match &self.poller {
+            Some(poller) => Some(Awaited {
+                descriptor: poller.descriptor(),
+                until: self.first_deadline().instant(),
+            }),
+            None => None,
+        }
+    }
+
+    /// What rings whoever waits for these fetches.
+    pub(crate) fn bell(&self) -> Option<Bell> {
+        self.poller.as_ref()?.bell()
+    }
+
+    /// Whether nothing is in flight.
+    pub(crate) fn is_idle(&self) -> bool {
+        self.flights.is_empty() && self.answers.is_empty() && self.queued.is_empty()
+    }
+
+    /// Gives all up: tells the gates, closes the sockets, and gives the poller back.
+    pub(crate) fn into_poller<R: Wait + Clock>(self, rt: &R) -> Option<Poller> {
         let FetchesInFlight {
             poller,
             flights: _,
-            permits,
+            mut permits,
             due: _,
             answers: _,
-            held_back: _,
-            freed: _,
+            mut queued,
         } = self;
+        // Before the permits, which would call them.
+        leave_each(rt, &mut queued);
+        queued.destroy_empty();
+        end_each(rt, &mut permits);
         permits.destroy_empty();
         poller
     }
+}
+
+// Gives up the places of fetches that wait.
+fn leave_each<R: Wait>(rt: &R, queued: &mut VecDeque<Queued>)
+    ensures { queued.new.items ≡ [] }
+{
+    for _ in rt.forever() {
+        match queued.pop_front() {
+            Some(waiting) => {
+                let _ = waiting.leave(rt);
+            }
+            None => return,
+        }
+    }
+    unreachable!()
+}
+
+// Tells the gates that their fetches have ended otherwise.
+fn end_each<R: Wait + Clock>(rt: &R, permits: &mut Vec<HeldPermit>)
+    ensures { permits.new.items ≡ [] }
+{
+    for _ in rt.forever() {
+        match permits.pop() {
+            Some(held) => held.ended(rt, FetchEnd::Other),
+            None => return,
+        }
+    }
+    unreachable!()
+}
+
+// So many milliseconds, below 0 for as long as it takes, but no more than `most`.
+fn at_most(millis: i32, most: Option<Duration>) -> i32 {
+    let Some(most) = most else {
+        return millis;
+    };
+    let most = i32::try_from(most.as_nanos().div_ceil(1_000_000)).unwrap_or(i32::MAX);
+    if millis < 0 { most } else { millis.min(most) }
 }
 
 fn place_of(permits: &[HeldPermit], key: usize) -> Option<usize>

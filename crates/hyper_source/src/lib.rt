@@ -13,6 +13,7 @@ mod executors;
 mod fetch_counts;
 mod fields;
 mod flight;
+mod gate;
 mod gathered;
 mod head;
 mod in_flight;
@@ -30,9 +31,9 @@ mod source;
 mod stream_signals;
 
 pub use edge_name::{EdgeName, MAX_NAME};
+pub use gate::Bounds;
 pub use in_flight::FetchesInFlight;
 pub use latest_faults::MAX_FAULTS;
 pub use notes::{FetchNotes, OriginTally};
 pub use origin::Origin;
-pub use origin_health::Bounds;
 pub use source::HyperSource;

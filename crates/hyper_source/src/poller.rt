@@ -1,4 +1,4 @@
-//! What a thread waits in for the sockets of its fetches.
+//! What a page waits in for the sockets of its fetches.
 
 ghost use Rattle.std.specs.Prelude.{◌≡◌, ◌≢◌};
 ghost use Rattle.hyper_source.specs.declared.poller.Watched.TheVariants as tells;
@@ -6,11 +6,12 @@ ghost use Rattle.hyper_source.specs.declared.stream_signals.Readiness.TheVariant
 
 use crate::stream_signals::Readiness;
 use edge_types::NoMemory;
+use fetch_workers::Bell;
 use futures::task::{Doorbell, Solo};
 use libc::net::{
     EPOLL_CTL_ADD, EPOLL_CTL_DEL, EPOLL_CTL_MOD, EPOLLET, EPOLLIN, EPOLLOUT, EPOLLRDHUP,
 };
-use mio::Poll;
+use mio::{Poll, Token, Waker};
 use os::EpollEvent;
 use std::alloc::{AllocGlobal, Global};
 use std::collections::VecDeque;
@@ -18,15 +19,23 @@ use std::io;
 use std::net::Net;
 use std::os::fd::{AsRawFd, RawFd};
 use std::random::RandomSource;
-use std::sync::{Mutex, Wait};
+use std::sync::{Arc, Mutex, Wait};
 
 // How many sockets one wait tells of.
 const AT_ONCE: usize = 32;
 
-/// Waits for the sockets of one thread's fetches, and polls their futures.
+// What a wait tells of the bell: no fetch has this key.
+const RUNG: usize = usize::MAX;
+
+// How many pollers are kept that no page needs: each holds two descriptors.
+const MOST_IDLE: usize = 256;
+
+/// Waits for the sockets of one page's fetches, and polls their futures.
 #[derive(Drop)]
 pub(crate) struct Poller {
     watched: Poll,
+    // By which a wait is ended from outside.
+    bell: Bell,
     task: Solo,
 }
 
@@ -66,10 +75,23 @@ impl Watched {
 
 impl Poller {
     fn new<R: Net + RandomSource + AllocGlobal>(rt: &R) -> io::Result<Poller> {
+        let watched = Poll::new(rt)?;
+        let waker = Waker::new(watched.registry(), Token(RUNG))?;
         Ok(Poller {
-            watched: Poll::new(rt)?,
+            watched,
+            bell: Bell::new(Arc::new(rt.alloc(), waker)?),
             task: Solo::new(rt, Doorbell::spinning())?,
         })
+    }
+
+    /// What rings it; `None` where one more handle can't be made.
+    pub(crate) fn bell(&self) -> Option<Bell> {
+        self.bell.share().ok()
+    }
+
+    /// What is readable once a wait would end.
+    pub(crate) fn descriptor(&self) -> RawFd {
+        self.watched.as_raw_fd()
     }
 
     /// The task as which futures are polled.
@@ -113,7 +135,10 @@ impl Poller {
         let mut events = [EpollEvent { events: 0, data: 0 }; AT_ONCE];
         let count = os::epoll_wait(self.watched.as_raw_fd(), &mut events, millis);
         for event in &events[..count] {
-            ready.push_back(event.data as usize)?;
+            let key = event.data as usize;
+            if key != RUNG {
+                ready.push_back(key)?;
+            }
         }
         Ok(())
     }
@@ -146,6 +171,9 @@ impl IdlePollers {
 
     /// Leaves a poller that watches no socket to the next page, where there is room to keep it.
     pub(crate) fn leave<R: Wait>(&self, rt: &R, poller: Poller) {
-        let _ = self.free.lock(rt).push(poller);
+        let mut free = self.free.lock(rt);
+        if free.len() < MOST_IDLE {
+            let _ = free.push(poller);
+        }
     }
 }

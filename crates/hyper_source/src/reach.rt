@@ -1,6 +1,6 @@
 //! Whether an origin can be reached.
 
-ghost use Rattle.std.specs.Prelude.{◌≡◌, ◌⊎◌, Ok, Err};
+ghost use Rattle.std.specs.Prelude.{◌≡◌, ◌<◌, ◌⊎◌, ◌↔◌, Ok, Err, IsTrue, MatchResult};
 ghost use Rattle.std.specs.IoError.{error_kind};
 ghost use Rattle.fetch_outcomes.specs.declared.fetch_fault.FetchFault.{FetchFault};
 ghost use Rattle.fetch_outcomes.specs.declared.fetch_fault.FetchFault.TheVariants as faults;
@@ -36,6 +36,17 @@ pub(crate) fn lost_by(error: &io::Error) -> Lost
     Lost::Fault(fault_of(error.kind()))
 }
 
+// Whether a read or a write shows that the connection was made. One that is still being made is refused instead of
+// reset.
+fn shows_connection(came: &io::Result<usize>) -> bool
+    ensures { MatchResult came.now (λ count. IsTrue result ↔ (0 < count)) (λ e. IsTrue result ↔ (error_kind e ≡ ErrorKind.ConnectionReset)) }
+{
+    match came {
+        Ok(count) => *count > 0,
+        Err(error) => matches!(error.kind(), ErrorKind::ConnectionReset),
+    }
+}
+
 /// What a stream tells of the origin, in the middle of a round trip whose errors keep no kind.
 #[derive(Drop)]
 pub(crate) struct Reach {
@@ -44,6 +55,7 @@ pub(crate) struct Reach {
 
 #[derive(Drop)]
 struct Told {
+    is_connected: AtomicBool,
     is_lost: AtomicBool,
     is_late: AtomicBool,
 }
@@ -52,6 +64,7 @@ impl Reach {
     /// Nothing is told yet.
     pub(crate) fn new(alloc: Global) -> Result<Reach, Lost> {
         let told = Told {
+            is_connected: AtomicBool::new(false),
             is_lost: AtomicBool::new(false),
             is_late: AtomicBool::new(false),
         };
@@ -73,6 +86,9 @@ impl Reach {
     pub(crate) fn told(&self, came: io::Result<usize>) -> io::Result<usize>
         ensures { result ≡ came }
     {
+        if shows_connection(&came) {
+            self.connects();
+        }
         if let Err(error) = &came {
             self.tell(fault_of(error.kind()));
         }
@@ -85,6 +101,16 @@ impl Reach {
             FetchFault::Timeout => self.told.is_late.store(true, Ordering::SeqCst),
             _ => {}
         }
+    }
+
+    /// Tells that the connection was made.
+    pub(crate) fn connects(&self) {
+        self.told.is_connected.store(true, Ordering::SeqCst);
+    }
+
+    /// Whether it was told that the connection was made.
+    pub(crate) fn is_connected(&self) -> bool {
+        self.told.is_connected.load(Ordering::SeqCst)
     }
 
     /// What a fetch results in whose stream told this.

@@ -10,6 +10,7 @@ use crate::bounded::{OriginGate, end_of, gate_of, gates_of};
 use crate::deadline::Deadline;
 use crate::edge_name::{EdgeName, device_of, way_through};
 use crate::executors::IdleExecutors;
+use crate::gate::Bounds;
 use crate::gathered::Lost;
 use crate::notes::FetchNotes;
 use crate::origin::{Chosen, Origin, origin_for};
@@ -22,7 +23,6 @@ use crate::round_trip::{Response, round_trip};
 use edge_types::{Answer, NoMemory, PageUrl};
 use fetch_outcomes::FetchFault;
 use fetch_workers::{Given, OnBehalf, Source};
-use origin_health::Bounds;
 use std::alloc::{AllocGlobal, Global};
 use std::hash::RandomState;
 use std::io;
@@ -124,7 +124,8 @@ impl HyperSource {
     }
 
     /// The same source with these bounds for the fetches to each address. A fetch that is one too many, or is to
-    /// an origin that rests, isn't made: its answer is a failed one at once.
+    /// an origin that rests, isn't made: its answer is a failed one at once. Before that as many wait as may, each until
+    /// all who asked before have gone, and no longer than half the time that a fetch may take.
     pub fn bounded(self, alloc: Global, bounds: Bounds) -> Result<HyperSource, NoMemory> {
         let mut source = self;
         let gates = gates_of(alloc, source.shared.origins.as_slice(), bounds)?;
@@ -152,14 +153,20 @@ impl HyperSource {
         let Some(Chosen { place: _, address }) = origin else {
             return Err(Lost::Fault(FetchFault::NoOrigin));
         };
+        let Ok(deadline) = Deadline::after(rt, self.limit) else {
+            return Err(Lost::Fault(FetchFault::Cut));
+        };
         let reach = Reach::new(alloc)?;
         let told = reach.share()?;
         let Some(gate) = gate_of(self.gates.as_slice(), address) else {
-            return reach.judged(self.fetched(rt, alloc, url, address, told));
+            return reach.judged(self.fetched(rt, alloc, url, address, deadline, told));
         };
-        let permit = gate.permit(rt)?;
-        let got = reach.judged(self.fetched(rt, alloc, url, address, told));
-        gate.ended(rt, permit, end_of(&got));
+        let Ok(turn) = Deadline::of_turn(rt, self.limit) else {
+            return Err(Lost::Fault(FetchFault::Cut));
+        };
+        let permit = gate.permit(rt, turn)?;
+        let got = reach.judged(self.fetched(rt, alloc, url, address, deadline, told));
+        gate.ended(rt, permit, end_of(reach.is_connected(), &got));
         got
     }
 
@@ -170,25 +177,27 @@ impl HyperSource {
         alloc: Global,
         url: &PageUrl,
         address: SocketAddr,
+        deadline: Deadline,
         reach: Reach,
     ) -> Response
     where
         R: Wait + Net<Stream = TcpStream> + Clock + RandomSource + AllocGlobal + Clone + Drop,
     {
-        let Ok(deadline) = Deadline::after(rt, self.limit) else {
-            return Err(Lost::Fault(FetchFault::Cut));
-        };
         if let Some(came) = self.asked_over_idle(rt, alloc, url, address, deadline) {
+            reach.connects();
             return came;
         }
         match OriginStream::connected(rt, address, deadline) {
-            Ok(io) => self.asked_over(rt, alloc, url, address, io.telling(reach)),
+            Ok(io) => {
+                reach.connects();
+                self.asked_over(rt, alloc, url, address, io.telling(reach))
+            }
             Err(error) => Err(lost_by(&error)),
         }
     }
 
     // The same over a connection that was kept: nothing if there is none, or if it ends before the first byte of
-    // the response, as one that the origin closes while the request is on its way.
+    // the response, as one that the origin closes while the request is on its way, and there is time for another.
     fn asked_over_idle<R>(
         &self,
         rt: &R,
@@ -205,10 +214,13 @@ impl HyperSource {
         let told = Arc::try_clone(&heard).ok()?;
         let io = OriginStream::over(rt, idle.socket, deadline, Some(told)).ok()?;
         let came = self.asked_over(rt, alloc, url, address, io);
-        if matches!(came, Err(Lost::Fault(_))) && !heard.load(Ordering::SeqCst) {
-            return None;
+        if !matches!(came, Err(Lost::Fault(_))) || heard.load(Ordering::SeqCst) {
+            return Some(came);
         }
-        Some(came)
+        match deadline.left(rt) {
+            Ok(_) => None,
+            Err(late) => Some(Err(lost_by(&late))),
+        }
     }
 
     // The same over this connection, which is kept if it may be.

@@ -8,53 +8,54 @@ use Rattle.origin_health.specs.declared.health.Leave.{Leave}
 use Rattle.origin_health.specs.declared.health.Leave.TheVariants.{Granted, TooMany, Rests}
 use Rattle.origin_health.specs.declared.health.OriginHealth.{OriginHealth}
 use Rattle.origin_health.specs.declared.standing.FetchEnd.{FetchEnd}
-use Rattle.origin_health.specs.declared.standing.FetchEnd.TheVariants.{Answered, Unreachable, Other}
+use Rattle.origin_health.specs.declared.standing.FetchEnd.TheVariants.{Reached, Unreachable, Other}
 use Rattle.origin_health.specs.declared.standing.Standing.{Standing}
 use Rattle.origin_health.specs.declared.standing.Standing.TheVariants as standing
 use Rattle.origin_health.specs.Standing as spec
 use Rattle.origin_health.specs.Health.{fresh, is_below, Asks, ended}
-use Rattle.origin_health.specs.Law.{Event, Sought, Ended, History, Step, Run, in_flight, failures, is_tried, rest_began, has_failed, is_resting, Follows, Keeps, AreBounds, HealthLaw, NeverMore, IsQuiet, BeginsRest, RestsWhole, AnswerEndsRest, UnboundedGrants}
+use Rattle.origin_health.specs.Law.{Event, Sought, Ended, History, Step, Run, in_flight, failures, is_tried, tried_at, rest_began, has_failed, is_resting, Follows, Keeps, AreBounds, HealthLaw, NeverMore, IsQuiet, BeginsRest, RestsWhole, TrialsGoOn, ReachEndsRest, UnboundedGrants}
 
--- ---- what a standing says of the failures, of a trial, and of when the latest rest began
+-- ---- what a standing says of the failures, of the latest trial, and of when the latest rest began
 
-abbrev pub Stands : ℕ → ℕ → Bool → ℕ → Standing → Type 0
-Stands rest f tried began (standing.Asked n) = (tried ≡ false) × (((rest ≡ 0) × (n ≡ 0)) ⊎ ((0 < rest) × (n ≡ f) × (f < 5)))
-Stands rest f tried began (standing.Rests since) = (tried ≡ false) × (0 < rest) × (5 ≤ f) × (began ≡ since)
-Stands rest f tried began (standing.Tried since) = (tried ≡ true) × (0 < rest) × (5 ≤ f) × (began ≡ since)
+abbrev pub Stands : ℕ → ℕ → Bool → ℕ → ℕ → Standing → Type 0
+Stands rest f tried at began (standing.Asked n) = (tried ≡ false) × (((rest ≡ 0) × (n ≡ 0)) ⊎ ((0 < rest) × (n ≡ f) × (f < 5)))
+Stands rest f tried at began (standing.Rests since) = (tried ≡ false) × (0 < rest) × (5 ≤ f) × (began ≡ since)
+Stands rest f tried at began (standing.Tried since) = (tried ≡ true) × (0 < rest) × (5 ≤ f) × (at ≡ since)
 
 -- with no rests, or some
 some_rest : (rest : ℕ) → ((rest ≡ 0) × (nat_lt 0 rest ≡ false)) ⊎ ((0 < rest) × (nat_lt 0 rest ≡ true))
 some_rest zero = inl (refl, refl)
 some_rest (suc rest) = inr (omega arith, grind (arith, nat_tests))
 
-stands_resting : (rest f : ℕ) (tried : Bool) (began : ℕ) (s : Standing) (now : ℕ) → Stands rest f tried began s
-    → spec.is_resting rest s now ≡ ((nat_lt 0 rest && nat_le 5 f) && (tried || nat_lt (now - began) rest))
-stands_resting rest f tried began (standing.Asked n) now (quiet, inl is) = grind (arith, nat_tests)
-stands_resting rest f tried began (standing.Asked n) now (quiet, inr is) = grind (arith, nat_tests)
-stands_resting rest f tried began (standing.Rests since) now is = grind (arith, nat_tests)
-stands_resting rest f tried began (standing.Tried since) now is = grind (arith, nat_tests)
+stands_resting : (rest f : ℕ) (tried : Bool) (at began : ℕ) (s : Standing) (now : ℕ) → Stands rest f tried at began s
+    → spec.is_resting rest s now ≡ ((nat_lt 0 rest && nat_le 5 f) && (if tried then nat_lt (now - at) 200 else nat_lt (now - began) rest))
+stands_resting rest f tried at began (standing.Asked n) now (quiet, inl is) = grind (arith, nat_tests)
+stands_resting rest f tried at began (standing.Asked n) now (quiet, inr is) = grind (arith, nat_tests)
+stands_resting rest f tried at began (standing.Rests since) now is = grind (arith, nat_tests)
+stands_resting rest f tried at began (standing.Tried since) now is = grind (arith, nat_tests)
 
 -- who is let through is a trial exactly if the origin has failed
-stands_trial : (rest f : ℕ) (tried : Bool) (began : ℕ) (s : Standing) (now : ℕ) → Stands rest f tried began s → spec.is_resting rest s now ≡ false
+stands_trial : (rest f : ℕ) (tried : Bool) (at began : ℕ) (s : Standing) (now : ℕ) → Stands rest f tried at began s → spec.is_resting rest s now ≡ false
     → spec.has_rested s ≡ (nat_lt 0 rest && nat_le 5 f)
-stands_trial rest f tried began (standing.Asked n) now (quiet, inl is) free = grind (arith, nat_tests)
-stands_trial rest f tried began (standing.Asked n) now (quiet, inr is) free = grind (arith, nat_tests)
-stands_trial rest f tried began (standing.Rests since) now is free = grind (arith, nat_tests)
-stands_trial rest f tried began (standing.Tried since) now is free = absurd (true≢false free)
+stands_trial rest f tried at began (standing.Asked n) now (quiet, inl is) free = grind (arith, nat_tests)
+stands_trial rest f tried at began (standing.Asked n) now (quiet, inr is) free = grind (arith, nat_tests)
+stands_trial rest f tried at began (standing.Rests since) now is free = grind (arith, nat_tests)
+stands_trial rest f tried at began (standing.Tried since) now is free = grind (arith, nat_tests)
 
-stands_let_through : (rest f : ℕ) (tried : Bool) (began : ℕ) (s : Standing) → Stands rest f tried began s → Stands rest f (spec.has_rested s || tried) began (spec.let_through s)
-stands_let_through rest f tried began (standing.Asked n) is = is
-stands_let_through rest f tried began (standing.Rests since) is = (refl, is.1, is.2, is.3)
-stands_let_through rest f tried began (standing.Tried since) is = is
+stands_let_through : (rest f : ℕ) (tried : Bool) (at began now : ℕ) (s : Standing) → Stands rest f tried at began s
+    → Stands rest f (spec.has_rested s || tried) (if spec.has_rested s then now else at) began (spec.let_through s now)
+stands_let_through rest f tried at began now (standing.Asked n) is = is
+stands_let_through rest f tried at began now (standing.Rests since) is = (refl, is.1, is.2, refl)
+stands_let_through rest f tried at began now (standing.Tried since) is = (refl, is.1, is.2, refl)
 
-stands_answered : (rest began : ℕ) → Stands rest 0 false began (standing.Asked 0)
-stands_answered zero began = (refl, inl (refl, refl))
-stands_answered (suc rest) began = (refl, inr (omega arith, refl, omega arith))
+stands_reached : (rest at began : ℕ) → Stands rest 0 false at began (standing.Asked 0)
+stands_reached zero at began = (refl, inl (refl, refl))
+stands_reached (suc rest) at began = (refl, inr (omega arith, refl, omega arith))
 
 -- one more failure
-stands_failed : (rest f : ℕ) (tried is_trial : Bool) (began now : ℕ) (s : Standing) → Stands rest f tried began s
-    → Stands rest (f + 1) (not is_trial && tried) (if nat_eq f 4 || (is_trial && tried) then now else began) (spec.after_failure rest s is_trial now)
-stands_failed rest f tried is_trial began now (standing.Asked n) is = by_rest (some_rest rest) is.1
+stands_failed : (rest f : ℕ) (tried is_trial : Bool) (at began now : ℕ) (s : Standing) → Stands rest f tried at began s
+    → Stands rest (f + 1) (not is_trial && tried) at (if nat_eq f 4 || (is_trial && tried) then now else began) (spec.after_failure rest s is_trial now)
+stands_failed rest f tried is_trial at began now (standing.Asked n) is = by_rest (some_rest rest) is.1
   where
     quiet : (not is_trial && tried) ≡ false
     quiet = none is_trial is.0
@@ -67,62 +68,49 @@ stands_failed rest f tried is_trial began now (standing.Asked n) is = by_rest (s
     begins n same below few = let four : nat_eq f 4 ≡ true = grind (arith, nat_tests) in grind (arith, nat_tests)
 
     by_count : 0 < rest → (few : Bool) → nat_lt (n + 1) 5 ≡ few → n ≡ f → f < 5
-        → Stands rest (f + 1) (not is_trial && tried) (if nat_eq f 4 || (is_trial && tried) then now else began) (if few then standing.Asked (n + 1) else standing.Rests now)
+        → Stands rest (f + 1) (not is_trial && tried) at (if nat_eq f 4 || (is_trial && tried) then now else began) (if few then standing.Asked (n + 1) else standing.Rests now)
     by_count some true few same below = (quiet, inr (some, ap (λ (k : ℕ). k + 1) same, grind (arith, nat_tests)))
     by_count some false few same below = (quiet, some, grind (arith, nat_tests), begins n same below few)
 
     by_rest : ((rest ≡ 0) × (nat_lt 0 rest ≡ false)) ⊎ ((0 < rest) × (nat_lt 0 rest ≡ true)) → ((rest ≡ 0) × (n ≡ 0)) ⊎ ((0 < rest) × (n ≡ f) × (f < 5))
-        → Stands rest (f + 1) (not is_trial && tried) (if nat_eq f 4 || (is_trial && tried) then now else began) (spec.one_more_failure n rest now)
+        → Stands rest (f + 1) (not is_trial && tried) at (if nat_eq f 4 || (is_trial && tried) then now else began) (spec.one_more_failure n rest now)
     by_rest (inl none) (inl is) =
-        subst (λ (b : Bool). Stands rest (f + 1) (not is_trial && tried) (if nat_eq f 4 || (is_trial && tried) then now else began) (if b then (if nat_lt (n + 1) 5 then standing.Asked (n + 1) else standing.Rests now) else standing.Asked n))
+        subst (λ (b : Bool). Stands rest (f + 1) (not is_trial && tried) at (if nat_eq f 4 || (is_trial && tried) then now else began) (if b then (if nat_lt (n + 1) 5 then standing.Asked (n + 1) else standing.Rests now) else standing.Asked n))
         (sym none.1) (quiet, inl is)
     by_rest (inl none) (inr is) = let some = is.0 in let zero = none.0 in absurd (omega arith)
     by_rest (inr some) (inl is) = let more = some.0 in let zero = is.0 in absurd (omega arith)
     by_rest (inr some) (inr is) =
-        subst (λ (b : Bool). Stands rest (f + 1) (not is_trial && tried) (if nat_eq f 4 || (is_trial && tried) then now else began) (if b then (if nat_lt (n + 1) 5 then standing.Asked (n + 1) else standing.Rests now) else standing.Asked n))
+        subst (λ (b : Bool). Stands rest (f + 1) (not is_trial && tried) at (if nat_eq f 4 || (is_trial && tried) then now else began) (if b then (if nat_lt (n + 1) 5 then standing.Asked (n + 1) else standing.Rests now) else standing.Asked n))
         (sym some.1) (by_count is.0 (nat_lt (n + 1) 5) refl is.1 is.2)
-stands_failed rest f tried true began now (standing.Rests since) is = (refl, is.1, grind arith, same (nat_eq f 4) refl)
+stands_failed rest f tried true at began now (standing.Rests since) is = (refl, is.1, grind arith, same (nat_eq f 4) refl)
   where
     same : (b : Bool) → nat_eq f 4 ≡ b → (if b || tried then now else began) ≡ since
     same true four = let most = is.2 in absurd (grind (arith, nat_tests))
     same false e = subst (λ (t : Bool). (if t then now else began) ≡ since) (sym is.0) is.3
-stands_failed rest f tried false began now (standing.Rests since) is = (is.0, is.1, grind arith, same (nat_eq f 4) refl)
+stands_failed rest f tried false at began now (standing.Rests since) is = (is.0, is.1, grind arith, same (nat_eq f 4) refl)
   where
     same : (b : Bool) → nat_eq f 4 ≡ b → (if b || false then now else began) ≡ since
     same true four = let most = is.2 in absurd (grind (arith, nat_tests))
     same false e = is.3
-stands_failed rest f tried true began now (standing.Tried since) is = (refl, is.1, grind arith, same (nat_eq f 4))
+stands_failed rest f tried true at began now (standing.Tried since) is = (refl, is.1, grind arith, same (nat_eq f 4))
   where
     same : (b : Bool) → (if b || tried then now else began) ≡ now
     same true = refl
     same false = subst (λ (t : Bool). (if t then now else began) ≡ now) (sym is.0) refl
-stands_failed rest f tried false began now (standing.Tried since) is = (is.0, is.1, grind arith, same (nat_eq f 4) refl)
-  where
-    same : (b : Bool) → nat_eq f 4 ≡ b → (if b || false then now else began) ≡ since
-    same true four = let most = is.2 in absurd (grind (arith, nat_tests))
-    same false e = is.3
-
--- an end that says nothing
-stands_other : (rest f : ℕ) (tried is_trial : Bool) (began : ℕ) (s : Standing) → Stands rest f tried began s → Stands rest f (not is_trial && tried) began (spec.after_other s is_trial)
-stands_other rest f tried true began (standing.Asked n) is = (refl, is.1)
-stands_other rest f tried false began (standing.Asked n) is = is
-stands_other rest f tried true began (standing.Rests since) is = (refl, is.1, is.2, is.3)
-stands_other rest f tried false began (standing.Rests since) is = is
-stands_other rest f tried true began (standing.Tried since) is = (refl, is.1, is.2, is.3)
-stands_other rest f tried false began (standing.Tried since) is = is
+stands_failed rest f tried false at began now (standing.Tried since) is = (is.0, is.1, grind arith, is.3)
 
 -- ---- what a history tells of the state after it
 
 record Told (h : History) (s : OriginHealth) : Type 0 where
   bounds : AreBounds s.bounds
   counted : (most : ℕ) → s.bounds.most_in_flight ≡ Some most → (s.in_flight ≡ in_flight h) × (in_flight h ≤ most)
-  stands : Stands s.bounds.rest (failures h) (is_tried h) (rest_began h) s.standing
+  stands : Stands s.bounds.rest (failures h) (is_tried h) (tried_at h) (rest_began h) s.standing
 
 told_fresh : (bounds : Bounds) → AreBounds bounds → Told [] (fresh bounds)
 told_fresh bounds are = record {
   bounds = are;
   counted = λ most is. (refl, omega arith);
-  stands = stands_answered bounds.rest 0;
+  stands = stands_reached bounds.rest 0 0;
 }
 
 told_granted : (h : History) (old : OriginHealth) (now : ℕ) (permit : Permit) (new : OriginHealth) → Told h old → Asks old now (Granted permit) new
@@ -130,7 +118,7 @@ told_granted : (h : History) (old : OriginHealth) (now : ℕ) (permit : Permit) 
 told_granted h old now permit new told step = ((free, below, trial), subst (Told (Sought now (Granted permit) ∷ h)) (sym step.3) after)
   where
     free : is_resting old.bounds h now ≡ false
-    free = sym (stands_resting old.bounds.rest (failures h) (is_tried h) (rest_began h) old.standing now told.stands) ∙ step.0
+    free = sym (stands_resting old.bounds.rest (failures h) (is_tried h) (tried_at h) (rest_began h) old.standing now told.stands) ∙ step.0
 
     below : (most : ℕ) → old.bounds.most_in_flight ≡ Some most → in_flight h < most
     below most is =
@@ -139,7 +127,7 @@ told_granted h old now permit new told step = ((free, below, trial), subst (Told
         grind (arith, nat_tests)
 
     trial : permit.is_trial ≡ has_failed old.bounds h
-    trial = step.2 ∙ stands_trial old.bounds.rest (failures h) (is_tried h) (rest_began h) old.standing now told.stands step.0
+    trial = step.2 ∙ stands_trial old.bounds.rest (failures h) (is_tried h) (tried_at h) (rest_began h) old.standing now told.stands step.0
 
     one_more : (most : ℕ) → old.bounds.most_in_flight ≡ Some most → (min (old.in_flight + 1) (2 ^ 32 - 1) ≡ in_flight h + 1) × (in_flight h + 1 ≤ most)
     one_more most is =
@@ -148,11 +136,12 @@ told_granted h old now permit new told step = ((free, below, trial), subst (Told
         let fits = told.bounds most is in
         (omega arith, omega arith)
 
-    after : Told (Sought now (Granted permit) ∷ h) (record old { in_flight = min (old.in_flight + 1) (2 ^ 32 - 1); standing = spec.let_through old.standing })
+    after : Told (Sought now (Granted permit) ∷ h) (record old { in_flight = min (old.in_flight + 1) (2 ^ 32 - 1); standing = spec.let_through old.standing now })
     after = record {
       bounds = told.bounds;
       counted = one_more;
-      stands = subst (λ (t : Bool). Stands old.bounds.rest (failures h) (t || is_tried h) (rest_began h) (spec.let_through old.standing)) (sym step.2) (stands_let_through old.bounds.rest (failures h) (is_tried h) (rest_began h) old.standing told.stands);
+      stands = subst (λ (t : Bool). Stands old.bounds.rest (failures h) (t || is_tried h) (if t then now else tried_at h) (rest_began h) (spec.let_through old.standing now))
+          (sym step.2) (stands_let_through old.bounds.rest (failures h) (is_tried h) (tried_at h) (rest_began h) now old.standing told.stands);
     }
 
 told_too_many : (h : History) (old : OriginHealth) (now : ℕ) (new : OriginHealth) → Told h old → Asks old now TooMany new
@@ -160,7 +149,7 @@ told_too_many : (h : History) (old : OriginHealth) (now : ℕ) (new : OriginHeal
 told_too_many h old now new told step = ((free, (full old.bounds.most_in_flight refl).0, (full old.bounds.most_in_flight refl).1, (full old.bounds.most_in_flight refl).2), subst (Told (Sought now TooMany ∷ h)) (sym step.2) (record { bounds = told.bounds; counted = told.counted; stands = told.stands }))
   where
     free : is_resting old.bounds h now ≡ false
-    free = sym (stands_resting old.bounds.rest (failures h) (is_tried h) (rest_began h) old.standing now told.stands) ∙ step.0
+    free = sym (stands_resting old.bounds.rest (failures h) (is_tried h) (tried_at h) (rest_began h) old.standing now told.stands) ∙ step.0
 
     full : (o : Option ℕ) → old.bounds.most_in_flight ≡ o → (most : ℕ) × (old.bounds.most_in_flight ≡ Some most) × (in_flight h ≡ most)
     full None is = absurd (true≢false (sym (ap (is_below old.in_flight) is) ∙ step.1))
@@ -173,7 +162,7 @@ told_too_many h old now new told step = ((free, (full old.bounds.most_in_flight 
 told_rests : (h : History) (old : OriginHealth) (now : ℕ) (new : OriginHealth) → Told h old → Asks old now Rests new
     → Follows old.bounds h (Sought now Rests) × Told (Sought now Rests ∷ h) new
 told_rests h old now new told step = (
-  sym (stands_resting old.bounds.rest (failures h) (is_tried h) (rest_began h) old.standing now told.stands) ∙ step.0,
+  sym (stands_resting old.bounds.rest (failures h) (is_tried h) (tried_at h) (rest_began h) old.standing now told.stands) ∙ step.0,
   subst (Told (Sought now Rests ∷ h)) (sym step.1) (record { bounds = told.bounds; counted = told.counted; stands = told.stands }),
 )
 
@@ -186,10 +175,10 @@ told_ended h old permit end now told = record { bounds = told.bounds; counted = 
         let below = (told.counted most is).1 in
         (omega arith, omega arith)
 
-    stands : (end : FetchEnd) → Stands old.bounds.rest (failures (Ended permit end now ∷ h)) (is_tried (Ended permit end now ∷ h)) (rest_began (Ended permit end now ∷ h)) (spec.after old.bounds.rest old.standing permit.is_trial end now)
-    stands Answered = stands_answered old.bounds.rest (rest_began h)
-    stands Unreachable = stands_failed old.bounds.rest (failures h) (is_tried h) permit.is_trial (rest_began h) now old.standing told.stands
-    stands Other = stands_other old.bounds.rest (failures h) (is_tried h) permit.is_trial (rest_began h) old.standing told.stands
+    stands : (end : FetchEnd) → Stands old.bounds.rest (failures (Ended permit end now ∷ h)) (is_tried (Ended permit end now ∷ h)) (tried_at h) (rest_began (Ended permit end now ∷ h)) (spec.after old.bounds.rest old.standing permit.is_trial end now)
+    stands Reached = stands_reached old.bounds.rest (tried_at h) (rest_began h)
+    stands Unreachable = stands_failed old.bounds.rest (failures h) (is_tried h) permit.is_trial (tried_at h) (rest_began h) now old.standing told.stands
+    stands Other = told.stands
 
 -- ---- every step, and every run
 
@@ -231,11 +220,21 @@ failed_parts rest f more is =
     let five = failed.1 in
     (grind (arith, nat_tests), grind (arith, nat_tests))
 
-pub answer_ends_rest : AnswerEndsRest
-answer_ends_rest bounds are now leave earlier health run few rests =
+pub reach_ends_rest : ReachEndsRest
+reach_ends_rest bounds are now leave earlier health run few rests =
     let resting : is_resting bounds earlier now ≡ true = subst (λ (l : Leave). Follows bounds earlier (Sought now l)) rests (health_law bounds are (Sought now leave ∷ earlier) health run).0 in
-    let five = (failed_parts bounds.rest (failures earlier) (is_tried earlier || nat_lt (now - rest_began earlier) bounds.rest) resting).1 in
+    let five = (failed_parts bounds.rest (failures earlier) (if is_tried earlier then nat_lt (now - tried_at earlier) 200 else nat_lt (now - rest_began earlier) bounds.rest) resting).1 in
     omega arith
+
+-- with a trial that has taken its time, an origin doesn't rest
+trial_is_over : (failed tried : Bool) (at now : ℕ) (rests : Bool) → tried ≡ true → at + 200 ≤ now → (failed && (if tried then nat_lt (now - at) 200 else rests)) ≡ true → ⊥
+trial_is_over failed false at now rests is over resting = true≢false (sym is)
+trial_is_over failed true at now rests is over resting = let early : nat_lt (now - at) 200 ≡ true = (and_parts failed (nat_lt (now - at) 200) resting).1 in grind (arith, nat_tests)
+
+pub trials_go_on : TrialsGoOn
+trials_go_on bounds are now leave earlier health run tried over rests =
+    let resting : is_resting bounds earlier now ≡ true = subst (λ (l : Leave). Follows bounds earlier (Sought now l)) rests (health_law bounds are (Sought now leave ∷ earlier) health run).0 in
+    trial_is_over (has_failed bounds earlier) (is_tried earlier) (tried_at earlier) now (nat_lt (now - rest_began earlier) bounds.rest) tried over resting
 
 pub unbounded_grants : UnboundedGrants
 unbounded_grants bounds are now leave earlier health most rest run = by_leave leave (health_law bounds are (Sought now leave ∷ earlier) health run).0
@@ -247,14 +246,14 @@ unbounded_grants bounds are now leave earlier health most rest run = by_leave le
     by_leave (Granted permit) follows = ap (λ (b : Bool). Granted (record { is_trial = b })) (follows.2 ∙ no_rest bounds.rest (failures earlier) rest)
     by_leave TooMany follows = let bound : None ≡ Some follows.1 = sym most ∙ follows.2 in absurd (cc)
     by_leave Rests follows =
-        let some = (failed_parts bounds.rest (failures earlier) (is_tried earlier || nat_lt (now - rest_began earlier) bounds.rest) follows).0 in
+        let some = (failed_parts bounds.rest (failures earlier) (if is_tried earlier then nat_lt (now - tried_at earlier) 200 else nat_lt (now - rest_began earlier) bounds.rest) follows).0 in
         absurd (omega (arith, rest, some))
 
 -- a trial is under way only once five have failed
-tried_failed : (rest f : ℕ) (tried : Bool) (began : ℕ) (s : Standing) → Stands rest f tried began s → tried ≡ true → 5 ≤ f
-tried_failed rest f tried began (standing.Asked n) is some = absurd (true≢false (sym some ∙ is.0))
-tried_failed rest f tried began (standing.Rests since) is some = is.2
-tried_failed rest f tried began (standing.Tried since) is some = is.2
+tried_failed : (rest f : ℕ) (tried : Bool) (at began : ℕ) (s : Standing) → Stands rest f tried at began s → tried ≡ true → 5 ≤ f
+tried_failed rest f tried at began (standing.Asked n) is some = absurd (true≢false (sym some ∙ is.0))
+tried_failed rest f tried at began (standing.Rests since) is some = is.2
+tried_failed rest f tried at began (standing.Tried since) is some = is.2
 
 untried : (f : ℕ) (tried : Bool) → (tried ≡ true → 5 ≤ f) → f ≡ 4 → tried ≡ false
 untried f false failed four = refl
@@ -294,20 +293,18 @@ rests_since permit began [] earlier failed begins quiet = rests_begun permit beg
 rests_since permit began (Sought now (Granted p) ∷ since) earlier failed begins quiet = absurd quiet
 rests_since permit began (Sought now TooMany ∷ since) earlier failed begins quiet = rests_since permit began since earlier failed begins quiet
 rests_since permit began (Sought now Rests ∷ since) earlier failed begins quiet = rests_since permit began since earlier failed begins quiet
-rests_since permit began (Ended p Answered now ∷ since) earlier failed begins quiet = absurd quiet
+rests_since permit began (Ended p Reached now ∷ since) earlier failed begins quiet = absurd quiet
 rests_since permit began (Ended p Unreachable now ∷ since) earlier failed begins quiet = fails (since ++ Ended permit Unreachable began ∷ earlier) (rests_since permit began since earlier failed begins quiet)
   where
     fails : (h : History) → RestsSince began h → RestsSince began (Ended p Unreachable now ∷ h)
     fails h is = (let five = is.0 in omega arith, none_after p.is_trial (is_tried h) is.1, rests_on p.is_trial now began (rest_began h) (failures h) (is_tried h) is.0 is.1 is.2)
-rests_since permit began (Ended p Other now ∷ since) earlier failed begins quiet = ends (since ++ Ended permit Unreachable began ∷ earlier) (rests_since permit began since earlier failed begins quiet)
-  where
-    ends : (h : History) → RestsSince began h → RestsSince began (Ended p Other now ∷ h)
-    ends h is = (is.0, none_after p.is_trial (is_tried h) is.1, is.2)
+rests_since permit began (Ended p Other now ∷ since) earlier failed begins quiet = rests_since permit began since earlier failed begins quiet
 
 -- who is let through comes after the rest
-rest_is_over : (rest f : ℕ) (tried : Bool) (began now : ℕ) → 0 < rest → 5 ≤ f → ((nat_lt 0 rest && nat_le 5 f) && (tried || nat_lt (now - began) rest)) ≡ false → began + rest ≤ now
-rest_is_over rest f true began now some five free = absurd (grind (arith, nat_tests))
-rest_is_over rest f false began now some five free = grind (arith, nat_tests)
+rest_is_over : (rest f : ℕ) (tried : Bool) (at began now : ℕ) → 0 < rest → 5 ≤ f → tried ≡ false
+    → ((nat_lt 0 rest && nat_le 5 f) && (if tried then nat_lt (now - at) 200 else nat_lt (now - began) rest)) ≡ false → began + rest ≤ now
+rest_is_over rest f true at began now some five none free = absurd (true≢false none)
+rest_is_over rest f false at began now some five none free = grind (arith, nat_tests)
 
 pub rests_whole : RestsWhole
 rests_whole bounds are permit trial began now since earlier health some run begins quiet =
@@ -315,6 +312,6 @@ rests_whole bounds are permit trial began now since earlier health some run begi
     let free : is_resting bounds h now ≡ false = (health_law bounds are (Sought now (Granted trial) ∷ h) health run).0.0 in
     let fifth = run_of_tail bounds since (Ended permit Unreachable began ∷ earlier) run.0 run.1 in
     let before = told_run bounds are earlier fifth.1.0 fifth.1.1 in
-    let failed = tried_failed fifth.1.0.bounds.rest (failures earlier) (is_tried earlier) (rest_began earlier) fifth.1.0.standing before.0.stands in
+    let failed = tried_failed fifth.1.0.bounds.rest (failures earlier) (is_tried earlier) (tried_at earlier) (rest_began earlier) fifth.1.0.standing before.0.stands in
     let is = rests_since permit began since earlier failed begins quiet in
-    subst (λ (b : ℕ). b + bounds.rest ≤ now) is.2 (rest_is_over bounds.rest (failures h) (is_tried h) (rest_began h) now some is.0 free)
+    subst (λ (b : ℕ). b + bounds.rest ≤ now) is.2 (rest_is_over bounds.rest (failures h) (is_tried h) (tried_at h) (rest_began h) now some is.0 is.1 free)

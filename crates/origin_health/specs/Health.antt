@@ -28,7 +28,7 @@ rests_at health now = is_resting health.bounds.rest health.standing now
 abbrev pub Asks : OriginHealth → ℕ → Leave → OriginHealth → Type 0
 -- the origin doesn't rest, and fewer are in flight than may be: one more is
 Asks old now (Granted permit) new = IsFalse (rests_at old now) × IsTrue (has_room old) × (permit.is_trial ≡ has_rested old.standing)
-    × (new ≡ record old { in_flight = min (old.in_flight + 1) (2 ^ 32 - 1); standing = let_through old.standing })
+    × (new ≡ record old { in_flight = min (old.in_flight + 1) (2 ^ 32 - 1); standing = let_through old.standing now })
 -- as many are in flight as may be: nothing changes
 Asks old now TooMany new = IsFalse (rests_at old now) × IsFalse (has_room old) × (new ≡ old)
 -- the origin rests: nothing changes

@@ -28,7 +28,7 @@ pub enum Leave {
     Granted(Permit),
     /// Not now: as many are in flight as may be.
     TooMany,
-    /// Not now: the origin rests, or the one fetch after its rest is under way.
+    /// Not now: the origin rests, or a trial after its rest has been under way for less than `TRIAL_MILLIS`.
     Rests,
 }
 
@@ -37,9 +37,11 @@ pub enum Leave {
 /// ```text
 ///             five failures in succession
 ///     asked -------------------------------> rests <------+
-///       ^                                      | over     | the trial fails
-///       |          any fetch is answered       v          |
+///       ^                                      | over     | a trial fails
+///       |        any connection is made        v          |
 ///       +----------------------------------- tried -------+
+///                                            |   ^
+///                                            +---+ 200 ms are over: a further trial
 /// ```
 ///
 /// Our profile.
@@ -66,7 +68,7 @@ impl OriginHealth {
     pub fn may_fetch(&mut self, now: u64) -> Leave
         ensures { spec.Asks self.old now result self.new }
     {
-        if self.standing.is_resting(self.bounds.rest, now) {
+        if self.rests(now) {
             return Leave::Rests;
         }
         if !self.has_room() {
@@ -74,8 +76,15 @@ impl OriginHealth {
         }
         let is_trial = self.standing.has_rested();
         self.in_flight = self.in_flight.saturating_add(1);
-        self.standing = self.standing.let_through();
+        self.standing = self.standing.let_through(now);
         Leave::Granted(Permit { is_trial })
+    }
+
+    /// Whether a fetch that is asked for at this millisecond of the same clock fails because the origin rests.
+    pub fn rests(&self, now: u64) -> bool
+        ensures { result ≡ spec.rests_at self.now now }
+    {
+        self.standing.is_resting(self.bounds.rest, now)
     }
 
     /// A fetch has ended at this millisecond of the same clock. Takes no memory.

@@ -7,4 +7,4 @@ pub mod laws;
 mod standing;
 
 pub use health::{Bounds, Leave, OriginHealth, Permit};
-pub use standing::{FetchEnd, MAX_FAILURES};
+pub use standing::{FetchEnd, MAX_FAILURES, TRIAL_MILLIS};

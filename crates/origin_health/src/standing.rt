@@ -1,4 +1,4 @@
-//! Whether an origin is asked, rests, or is tried once after its rest.
+//! Whether an origin is asked, rests, or is tried after its rest.
 
 ghost use Rattle.std.specs.Prelude.{◌≡◌};
 ghost use Rattle.origin_health.specs.Standing as spec;
@@ -6,15 +6,19 @@ ghost use Rattle.origin_health.specs.Standing as spec;
 /// After this many fetches in succession that didn't reach it, an origin rests.
 pub const MAX_FAILURES: u32 = 5;
 
+/// For so many milliseconds after a trial is let through no further one is: an origin that is there has taken a
+/// connection by then, and one trial that waits for longer keeps nobody from it.
+pub const TRIAL_MILLIS: u64 = 200;
+
 /// How a fetch ended.
 #[derive(Clone, Copy, Debug, PartialEq, Eq)]
 pub enum FetchEnd {
-    /// The origin answered, with whatever status.
-    Answered,
-    /// The connection was refused or reset, or the time was up.
+    /// A connection to the origin was made, whatever came over it.
+    Reached,
+    /// The connection was refused, nothing leads to the origin, or the time was up before the connection was made.
     Unreachable,
     /// In another way, which says nothing of whether the origin can be reached: memory or descriptors ran out on
-    /// our side, or what came was no HTTP.
+    /// our side, or the fetch was given up.
     Other,
 }
 
@@ -25,7 +29,7 @@ pub(crate) enum Standing {
     Asked(u32),
     /// It has rested since this millisecond.
     Rests(u64),
-    /// It had rested since this millisecond, and now one fetch tries whether it answers.
+    /// It has rested, and since this millisecond the latest trial tries whether it can be reached.
     Tried(u64),
 }
 
@@ -37,7 +41,7 @@ impl Standing {
         match self {
             Standing::Asked(_) => false,
             Standing::Rests(since) => now.saturating_sub(since) < rest,
-            Standing::Tried(_) => true,
+            Standing::Tried(since) => now.saturating_sub(since) < TRIAL_MILLIS,
         }
     }
 
@@ -46,33 +50,34 @@ impl Standing {
         ensures { result ≡ spec.has_rested self }
     {
         match self {
-            Standing::Asked(_) | Standing::Tried(_) => false,
-            Standing::Rests(_) => true,
+            Standing::Asked(_) => false,
+            Standing::Rests(_) | Standing::Tried(_) => true,
         }
     }
 
     /// Once a fetch is let through.
-    pub(crate) fn let_through(self) -> Standing
-        ensures { result ≡ spec.let_through self }
+    pub(crate) fn let_through(self, now: u64) -> Standing
+        ensures { result ≡ spec.let_through self now }
     {
         match self {
-            Standing::Rests(since) => Standing::Tried(since),
-            other => other,
+            Standing::Asked(_) => self,
+            Standing::Rests(_) | Standing::Tried(_) => Standing::Tried(now),
         }
     }
 
-    /// Once a fetch, or the trial, has ended like that.
+    /// Once a fetch, or a trial, has ended like that.
     pub(crate) fn after(self, rest: u64, is_trial: bool, end: FetchEnd, now: u64) -> Standing
         ensures { result ≡ spec.after rest self is_trial end now }
     {
         match end {
-            FetchEnd::Answered => Standing::Asked(0),
+            FetchEnd::Reached => Standing::Asked(0),
             FetchEnd::Unreachable => self.after_failure(rest, is_trial, now),
-            FetchEnd::Other => self.after_other(is_trial),
+            FetchEnd::Other => self,
         }
     }
 
-    // A fetch that was let through before the rest, and fails only now, neither begins a rest nor makes it longer.
+    // A fetch that was let through before the rest, and fails only now, neither begins a rest nor makes it longer; nor
+    // does a trial once another one has failed.
     fn after_failure(self, rest: u64, is_trial: bool, now: u64) -> Standing
         ensures { result ≡ spec.after_failure rest self is_trial now }
     {
@@ -80,22 +85,6 @@ impl Standing {
             Standing::Asked(failures) => one_more_failure(failures, rest, now),
             Standing::Rests(_) => self,
             Standing::Tried(_) => { if is_trial { Standing::Rests(now) } else { self } }
-        }
-    }
-
-    // A trial that found nothing out leaves the rest over, so the next fetch is a trial again.
-    fn after_other(self, is_trial: bool) -> Standing
-        ensures { result ≡ spec.after_other self is_trial }
-    {
-        match self {
-            Standing::Asked(_) | Standing::Rests(_) => self,
-            Standing::Tried(since) => {
-                if is_trial {
-                    Standing::Rests(since)
-                } else {
-                    self
-                }
-            }
         }
     }
 }

@@ -1,11 +1,12 @@
-//! Fetches of one thread that are in flight at once.
+//! Fetches of one page that are in flight at once.
 
-use crate::bounded::{end_of, gate_of, granted};
+use crate::bounded::{OriginGate, end_of, gate_of};
 use crate::deadline::Deadline;
 use crate::exchange::Exchange;
 use crate::flight::{Flight, Leg, Turn};
+use crate::gate::{Caller, Chance};
 use crate::gathered::Lost;
-use crate::in_flight::{FetchesInFlight, HeldPermit};
+use crate::in_flight::{FetchesInFlight, HeldPermit, Queued, Wanted};
 use crate::origin::Chosen;
 use crate::poller::Watched;
 use crate::reach::{Reach, lost_by};
@@ -15,17 +16,15 @@ use crate::source::HyperSource;
 use crate::stream_signals::StreamSignals;
 use edge_types::{Answer, NoMemory, PageUrl};
 use fetch_outcomes::FetchFault;
-use fetch_workers::{ConcurrentSource, Given};
-use origin_health::Leave;
+use fetch_workers::{Awaited, Bell, ConcurrentSource, Given};
 use std::alloc::{AllocGlobal, Global};
 use std::net::{Net, SocketAddr, TcpStream};
 use std::random::RandomSource;
 use std::sync::{Arc, Wait};
-use std::time::Clock;
+use std::time::{Clock, Duration, Instant};
 
 impl HyperSource {
-    // Begins a fetch, if the URL has an origin that may be asked; gives its key. One that is too many, while others of the same
-    // thread are asked there, is held back until one of them has ended: they would make a page fail by itself.
+    // Begins a fetch, if the URL has an origin that may be asked; gives its key. One that has to wait has none yet.
     fn departed<R>(
         &self,
         rt: &R,
@@ -40,32 +39,126 @@ impl HyperSource {
         let Some(origin) = origin else {
             return Err(Lost::Fault(FetchFault::NoOrigin));
         };
+        let Ok(deadline) = Deadline::after(rt, self.limit) else {
+            return Err(Lost::Fault(FetchFault::Cut));
+        };
+        let Ok(turn) = Deadline::of_turn(rt, self.limit) else {
+            return Err(Lost::Fault(FetchFault::Cut));
+        };
         if !self.has_poller(rt, in_flight) {
             return Err(Lost::Fault(FetchFault::Cut));
         }
-        let reach = Reach::new(alloc)?;
+        let wanted = Wanted {
+            url,
+            origin,
+            deadline,
+            turn,
+        };
         let Some(gate) = gate_of(self.gates.as_slice(), origin.address) else {
-            let flight = self.flight(rt, alloc, url, origin, reach)?;
+            let flight = self.flight(rt, alloc, wanted)?;
             return Ok(Some(in_flight.admit(flight)?));
         };
         let gate = gate.share()?;
-        let permit = match gate.leave(rt) {
-            Leave::TooMany if in_flight.asks(origin.address) => {
-                in_flight.hold_back(url)?;
+        let bell = in_flight.bell().ok_or(Lost::NoMemory)?;
+        let chance = gate.ask(rt, Caller::Page(bell));
+        self.taken(rt, alloc, in_flight, wanted, gate, chance)
+    }
+
+    // Begins a fetch that is let through, and gives its key; or has it wait.
+    fn taken<R>(
+        &self,
+        rt: &R,
+        alloc: Global,
+        in_flight: &mut FetchesInFlight,
+        wanted: Wanted,
+        gate: OriginGate,
+        chance: Chance,
+    ) -> Result<Option<usize>, Lost>
+    where
+        R: Wait + Net<Stream = TcpStream> + Clock + RandomSource + AllocGlobal + Clone + Drop,
+    {
+        let permit = match chance {
+            Chance::Granted(permit) => permit,
+            Chance::Lost(lost) => return Err(lost),
+            Chance::Waits(place) => {
+                let queued = Queued {
+                    wanted,
+                    gate,
+                    place,
+                };
+                in_flight.queue(rt, queued)?;
                 return Ok(None);
             }
-            leave => granted(leave)?,
         };
-        let admitted = match self.flight(rt, alloc, url, origin, reach) {
+        let admitted = match self.flight(rt, alloc, wanted) {
             Ok(flight) => in_flight.admit(flight),
             Err(lost) => Err(lost),
         };
-        let end = end_of(&admitted);
+        let end = end_of(false, &admitted);
         match admitted {
             Ok(key) => in_flight.hold(rt, HeldPermit { key, gate, permit })?,
             Err(_) => gate.ended(rt, permit, end),
         }
         Ok(Some(admitted?))
+    }
+
+    // Looks at each fetch that waits, once rings were taken: so a call that comes later is heard later.
+    fn looked_at_queue<R>(
+        &self,
+        rt: &R,
+        alloc: Global,
+        in_flight: &mut FetchesInFlight,
+    ) -> Result<(), NoMemory>
+    where
+        R: Wait + Net<Stream = TcpStream> + Clock + RandomSource + AllocGlobal + Clone + Drop,
+    {
+        let now = Instant::now(rt).ok();
+        for _ in 0..in_flight.count_queued() {
+            if let Some(queued) = in_flight.first_queued() {
+                self.looked_at(rt, alloc, in_flight, queued, now)?;
+            }
+        }
+        Ok(())
+    }
+
+    // Begins a fetch that is called; it has failed if its time is over, or if its origin rests.
+    fn looked_at<R>(
+        &self,
+        rt: &R,
+        alloc: Global,
+        in_flight: &mut FetchesInFlight,
+        queued: Queued,
+        now: Option<Instant>,
+    ) -> Result<(), NoMemory>
+    where
+        R: Wait + Net<Stream = TcpStream> + Clock + RandomSource + AllocGlobal + Clone + Drop,
+    {
+        let origin = queued.wanted.origin;
+        let Ok(url) = queued.wanted.url.share() else {
+            let _ = queued.leave(rt);
+            return Err(NoMemory);
+        };
+        let began = if queued.is_late(now) {
+            let _ = queued.leave(rt);
+            Err(Lost::Fault(FetchFault::TooMany))
+        } else {
+            let Queued {
+                wanted,
+                gate,
+                place,
+            } = queued;
+            let chance = gate.look(rt, place);
+            self.taken(rt, alloc, in_flight, wanted, gate, chance)
+        };
+        match began {
+            Ok(Some(key)) => in_flight.due.push_back(key)?,
+            Ok(None) => {}
+            Err(lost) => {
+                let answer = self.noted(rt, alloc, &url, Some(origin), Err(lost))?;
+                in_flight.answers.push_back(answer)?;
+            }
+        }
+        Ok(())
     }
 
     // Whether the fetches have what they wait in, which the first one takes. Refused where descriptors run out.
@@ -80,20 +173,17 @@ impl HyperSource {
     }
 
     // A fetch over a connection that was kept, or a new one that may tell of the origin.
-    fn flight<R>(
-        &self,
-        rt: &R,
-        alloc: Global,
-        url: PageUrl,
-        origin: Chosen,
-        reach: Reach,
-    ) -> Result<Flight, Lost>
+    fn flight<R>(&self, rt: &R, alloc: Global, wanted: Wanted) -> Result<Flight, Lost>
     where
         R: Wait + Net<Stream = TcpStream> + Clock + RandomSource + AllocGlobal + Clone + Drop,
     {
-        let Ok(deadline) = Deadline::after(rt, self.limit) else {
-            return Err(Lost::Fault(FetchFault::Cut));
-        };
+        let Wanted {
+            url,
+            origin,
+            deadline,
+            turn: _,
+        } = wanted;
+        let reach = Reach::new(alloc)?;
         let leg = match self.pool.take_nonblocking(rt, origin.address) {
             Some(idle) => self.leg(alloc, &url, idle.socket, true, None)?,
             None => self.new_leg(rt, alloc, &url, origin.address, reach.share()?)?,
@@ -197,7 +287,11 @@ impl HyperSource {
     where
         R: Wait + Clock,
     {
-        let Some(flight) = in_flight.remove(rt, key, end_of(&came)) else {
+        let is_connected = match in_flight.flights.get_mut(key) {
+            Some(flight) => flight.is_connected(),
+            None => false,
+        };
+        let Some(flight) = in_flight.remove(rt, key, end_of(is_connected, &came)) else {
             return Ok(None);
         };
         if let Some(socket) = socket {
@@ -239,27 +333,25 @@ where
         Ok(())
     }
 
+    // It looks for what has moved, and takes a ring of the bell by that.
     fn next(
         &self,
         rt: &R,
         alloc: Global,
         in_flight: &mut FetchesInFlight,
     ) -> Result<Option<Given>, NoMemory> {
+        let mut has_looked = false;
         for _ in rt.forever() {
             if let Some(answer) = in_flight.answers.pop_front() {
                 return Ok(Some(Given::fetched(answer)));
             }
-            if let Some(url) = in_flight.released() {
-                self.begin(rt, alloc, in_flight, &url)?;
-                continue;
-            }
-            if in_flight.flights.is_empty() {
-                return Ok(None);
-            }
             let came = match in_flight.due.pop_front() {
                 Some(key) => self.turned(rt, alloc, in_flight, key)?,
+                None if has_looked && !in_flight.goes_on() => return Ok(None),
                 None => {
-                    in_flight.wait(rt)?;
+                    in_flight.look(rt, 0)?;
+                    self.looked_at_queue(rt, alloc, in_flight)?;
+                    has_looked = true;
                     None
                 }
             };
@@ -270,10 +362,33 @@ where
         unreachable!()
     }
 
+    fn is_idle(&self, in_flight: &FetchesInFlight) -> bool {
+        in_flight.is_idle()
+    }
+
+    fn wait(
+        &self,
+        rt: &R,
+        _alloc: Global,
+        in_flight: &mut FetchesInFlight,
+        most: Option<Duration>,
+    ) -> Result<(), NoMemory> {
+        in_flight.wait(rt, most)
+    }
+
+    fn awaited(&self, _rt: &R, in_flight: &FetchesInFlight) -> Option<Awaited> {
+        in_flight.awaited()
+    }
+
+    fn bell(&self, rt: &R, in_flight: &mut FetchesInFlight) -> Option<Bell> {
+        if !self.has_poller(rt, in_flight) {
+            return None;
+        }
+        in_flight.bell()
+    }
+
     fn give_up(&self, rt: &R, _alloc: Global, in_flight: FetchesInFlight) {
-        let mut in_flight = in_flight;
-        in_flight.end_permits(rt);
-        if let Some(poller) = in_flight.into_poller() {
+        if let Some(poller) = in_flight.into_poller(rt) {
             self.shared.pollers.leave(rt, poller);
         }
     }

@@ -107,6 +107,10 @@ impl<R> ConcurrentSource<R> for Flying<'_> {
         Ok(Some(self.table.fetch(rt, alloc, &url)?))
     }
 
+    fn is_idle(&self, in_flight: &Vec<PageUrl>) -> bool {
+        in_flight.is_empty()
+    }
+
     fn give_up(&self, _rt: &R, _alloc: Global, in_flight: Vec<PageUrl>) {
         let left = in_flight.len() as u64;
         self.seen.given_up.fetch_add(left, Ordering::SeqCst);
@@ -206,5 +210,110 @@ fn a_cache_and_any_source_are_flown_through(rt: HostRuntime) -> Result<(), Fail>
     let table = source_of(&rt, alloc, CASE)?;
     let out = body_of(&rt, &OneByOne { source: &table }, 8)?;
     assert!(rt; out.as_str() == "A1(2)34B", "{out}");
+    Ok(())
+}
+
+// A table whose fetches end once they are let.
+#[derive(Drop)]
+struct Held<'a> {
+    table: TableSource,
+    let_through: &'a AtomicU64,
+}
+
+impl<R> Source<R> for Held<'_> {
+    ghost use Rattle.std.specs.Prelude.{◌≡◌};
+
+    ghost gives = { λ it url answer. answer.url ≡ url };
+
+    ghost names_url = { λ it url answer given. given };
+
+    fn fetch(&self, rt: &R, alloc: Global, url: &PageUrl) -> Result<Given, NoMemory> {
+        self.table.fetch(rt, alloc, url)
+    }
+}
+
+impl<R> ConcurrentSource<R> for Held<'_> {
+    type InFlight = Vec<PageUrl>;
+
+    fn nothing_in_flight(&self, _rt: &R, alloc: Global) -> Vec<PageUrl> {
+        Vec::new(alloc)
+    }
+
+    fn begin(
+        &self,
+        _rt: &R,
+        _alloc: Global,
+        in_flight: &mut Vec<PageUrl>,
+        url: &PageUrl,
+    ) -> Result<(), NoMemory> {
+        in_flight.push(url.share()?)?;
+        Ok(())
+    }
+
+    fn next(
+        &self,
+        rt: &R,
+        alloc: Global,
+        in_flight: &mut Vec<PageUrl>,
+    ) -> Result<Option<Given>, NoMemory> {
+        if self.let_through.load(Ordering::SeqCst) == 0 {
+            return Ok(None);
+        }
+        let Some(url) = in_flight.pop() else {
+            return Ok(None);
+        };
+        self.let_through.fetch_sub(1, Ordering::SeqCst);
+        Ok(Some(self.table.fetch(rt, alloc, &url)?))
+    }
+
+    fn is_idle(&self, in_flight: &Vec<PageUrl>) -> bool {
+        in_flight.is_empty()
+    }
+
+    fn give_up(&self, _rt: &R, _alloc: Global, _in_flight: Vec<PageUrl>) {}
+}
+
+// Goes on with a page until it is made, each time once one more fetch has ended. How often it waited.
+fn waits_of<R>(rt: &R, fetches: u16) -> Result<(u64, String), NoMemory>
+where
+    R: Wait + Threads + Abort + AllocGlobal + Clone + Sync + Drop,
+{
+    let alloc = rt.alloc();
+    let let_through = AtomicU64::new(0);
+    let source = Held {
+        table: source_of(rt, alloc, CASE)?,
+        let_through: &let_through,
+    };
+    let how = Assembling::new(16, 1, 4).with_fetches(fetches.clamp(1, 256));
+    let mut page = how.begin(
+        rt.clone()?,
+        alloc,
+        source,
+        url(rt, alloc, "/p")?,
+        Request::empty(),
+    )?;
+    let mut out = String::new(alloc);
+    for waits in 0..1_000 {
+        page = match page.go_on() {
+            Ok(ended) => {
+                if let Ok(made) = &ended.made {
+                    push_outcome(&mut out, &made.outcome)?;
+                }
+                return Ok((waits, out));
+            }
+            Err(waiting) => waiting,
+        };
+        let_through.fetch_add(1, Ordering::SeqCst);
+    }
+    Ok((1_000, out))
+}
+
+#[test]
+fn a_page_waits_as_a_value(rt: HostRuntime) -> Result<(), Fail> {
+    for fetches in [1, 2, 256] {
+        let (waits, out) = waits_of(&rt, fetches)?;
+        assert!(rt; out.as_str() == "A1(2)34B", "{out}");
+        assert!(rt; waits == 6);
+    }
     Ok(())
 }

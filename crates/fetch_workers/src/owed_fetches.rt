@@ -1,0 +1,89 @@
+//! Fetches that a page owes to others.
+
+use crate::concurrent_source::{Awaited, ConcurrentSource};
+use std::alloc::Global;
+use std::sync::Wait;
+use std::time::Duration;
+
+/// Fetches of a page that needs them no longer, for which others wait, who have joined them. Whoever has them goes on with
+/// them, one thread at a time. They are given up where this is dropped: then who waits has a failed answer.
+pub struct OwedFetches<R: Wait + Drop, S: ConcurrentSource<R> + Drop> {
+    owing: Owing<R, S>,
+}
+
+/// What is in flight for a page that needs it no longer.
+pub(crate) struct Owing<R: Wait + Drop, S: ConcurrentSource<R> + Drop> {
+    pub(crate) rt: R,
+    pub(crate) alloc: Global,
+    pub(crate) source: S,
+    pub(crate) fetches: S::InFlight,
+}
+
+impl<R: Wait + Drop, S: ConcurrentSource<R> + Drop> Drop for OwedFetches<R, S> {
+    fn drop(self) {
+        let OwedFetches { owing } = self;
+        owing.give_up();
+    }
+}
+
+impl<R: Wait + Drop, S: ConcurrentSource<R> + Drop> OwedFetches<R, S> {
+    /// Goes on as far as it gets without waiting. They come back if somebody still waits for them.
+    pub fn go_on(self) -> Option<OwedFetches<R, S>> {
+        let OwedFetches { owing } = self;
+        owing.owed()
+    }
+
+    /// What they wait for; `None` where only `wait` tells.
+    pub fn awaited(&self) -> Option<Awaited> {
+        self.owing.awaited()
+    }
+
+    /// Waits until they may be gone on with, or for `most`, where there is one.
+    pub fn wait(&mut self, most: Option<Duration>) {
+        self.owing.wait(most);
+    }
+}
+
+impl<R: Wait + Drop, S: ConcurrentSource<R> + Drop> Owing<R, S> {
+    /// What others wait for. What nobody waits for ends.
+    pub(crate) fn owed(self) -> Option<OwedFetches<R, S>> {
+        let Owing {
+            rt,
+            alloc,
+            source,
+            mut fetches,
+        } = self;
+        if source.let_go(&rt, alloc, &mut fetches) {
+            source.give_up(&rt, alloc, fetches);
+            return None;
+        }
+        let owing = Owing {
+            rt,
+            alloc,
+            source,
+            fetches,
+        };
+        Some(OwedFetches { owing })
+    }
+
+    /// Ends all of it: who waits has a failed answer.
+    pub(crate) fn give_up(self) {
+        let Owing {
+            rt,
+            alloc,
+            source,
+            fetches,
+        } = self;
+        source.give_up(&rt, alloc, fetches);
+    }
+
+    fn awaited(&self) -> Option<Awaited> {
+        self.source.awaited(&self.rt, &self.fetches)
+    }
+
+    fn wait(&mut self, most: Option<Duration>) {
+        // Without memory for what is told, they are gone on with at once.
+        let source = &self.source;
+        let _ = source.wait(&self.rt, self.alloc, &mut self.fetches, most);
+    }
+}

@@ -1,5 +1,0 @@
-use Rattle.origin_health.proofs.LawLemmas.{answer_ends_rest}
-use Rattle.origin_health.proofs.laws.an_answer_ends_the_rest.Goals as goal
-
-pub returns : goal.returns
-returns c = answer_ends_rest

@@ -1,0 +1,3 @@
+pub mod Queued
+pub mod Queue
+pub mod Law
