@@ -223,6 +223,18 @@ def a_reader_that_stands_still_holds_nobody():
     same("some were lost, some weren't", (True, True), (lost > 0, told > (1 << 20) // 260))
 
 
+def no_target_wipes_a_line():
+    """--log: beside a target of thousands of letters that are no ASCII each line is whole, and that target has escapes."""
+    mine = wire("GET /p HTTP/1.1|host: a.test||")
+    for letter in ("", "a"):
+        other = ("PUT /%s%s HTTP/1.1\r\nHost: a.test\r\n\r\n" % (letter, "é" * 3000)).encode()
+        with Origin(PLAIN) as origin:
+            *lines, last = lines_of(origin, ("--log",), (mine, mine, mine, other, mine))
+        same("the end of the last line", "", last)
+        wanted = ["N GET http://a.test/p 200 10 2 N"] * 4 + ["N PUT /%s%s 405 20 0 N" % (letter, r"\xC3\xA9" * 3000)]
+        same("lines", wanted, sorted(re.sub(r"^\d+|\d+$", "N", line) for line in lines))
+
+
 def the_end_does_not_wait_for_a_reader():
     """A server whose log nobody reads ends by itself."""
     with Origin(PLAIN) as origin, before(origin, "--log", "--accept", "1", *KEPT) as edge:
@@ -239,5 +251,6 @@ TESTS = (
     line_is_the_format_without_a_name,
     clients_behind_a_proxy_are_told,
     a_reader_that_stands_still_holds_nobody,
+    no_target_wipes_a_line,
     the_end_does_not_wait_for_a_reader,
 )

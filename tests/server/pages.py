@@ -6,7 +6,9 @@ import os
 import subprocess
 import time
 
-from harness import ASKED, HERE, PAGE, PROGRAM, UNASSEMBLED, Origin, Wires, before, client, get, same, told, wire
+from harness import ASKED, HERE, PAGE, PROGRAM, UNASSEMBLED, Origin, Response, Wires, before, client, exchange, get, same, sized, told, wire
+
+ONE = sized("HTTP/1.1 200 OK", "1")
 
 
 def tables_of(kind):
@@ -235,6 +237,25 @@ def a_page_may_take_its_time():
         same("17 pieces", (2 + PIECE * 17, b"AB"), read_of(edge))
 
 
+def targets_have_bytes_of_targets():
+    """A byte before its query that no target may have is refused, and the origin isn't asked, as by a spelling that a server
+    in front takes for another folder; behind it such bytes go to the origin."""
+    strange = (b"\\", b'"', b"<", b">", b"^", b"`", b"{", b"|", b"}", b"\x01", b"\x7f", b"\x80", "é".encode())
+    with Wires({"/x?|": ONE, "/x?\\{^}`": ONE}) as origin, before(origin) as edge:
+        for mark in (*strange, b"y\\..\\internal/"):
+            for target in (b"/" + mark + b"x", b"http://a.test/" + mark + b"x?y"):
+                came = Response(exchange(edge, b"GET " + target + b" HTTP/1.1\r\nHost: a.test\r\n\r\n"))
+                same(repr(target), 400, came.status)
+        same("what was asked for", [], origin.asked())
+        same("behind the query", [(200, b"1")] * 2, [told(edge, "/x?|"), told(edge, "/x?\\{^}`")])
+
+
+def a_page_of_205_has_no_body():
+    """Nothing is sent under 205, whatever the origin sends: the page reaches its reader, as under 204."""
+    with Wires({"/p": sized("HTTP/1.1 205 Reset Content", "12345")}) as origin, before(origin) as edge:
+        same("the page", (205, b""), told(edge))
+
+
 TESTS = (
     pages_are_those_of_case,
     pages_are_what_origins_send,
@@ -244,4 +265,6 @@ TESTS = (
     each_piece_goes_out,
     a_response_has_to_be_read_in_time,
     a_page_may_take_its_time,
+    targets_have_bytes_of_targets,
+    a_page_of_205_has_no_body,
 )

@@ -32,9 +32,10 @@ version_text Http11 = codes "HTTP/1.1"
 
 -- ---- fields with spaces between them
 
--- when and what was asked
+-- when and what was asked, in the escapes of the Combined Log Format
 abbrev pub asked_fields : ℕ → RequestRecord → List ℕ
-asked_fields second request = field (decimal second) ++ field (or_dash request.method.items) ++ field (or_dash request.url.items)
+asked_fields second request =
+    field (decimal second) ++ field (log_escaped (or_dash request.method.items)) ++ field (log_escaped (or_dash request.url.items))
 
 -- and how that was answered
 abbrev pub answer_fields : RequestRecord → List ℕ

@@ -1,6 +1,7 @@
 //! The parts of lines.
 
 ghost use Rattle.std.specs.Prelude.{◌≡◌, ◌++◌, decimal, string_bytes, IfOk, OnOk};
+ghost use Rattle.access_log.specs.Escapes.{log_escaped};
 ghost use Rattle.access_log.specs.Lines as spec;
 
 use crate::escape::{IN_JSON, IN_LOG, push_escaped};
@@ -17,11 +18,11 @@ pub(crate) fn push_number(line: &mut Vec<u8>, number: u64) -> Result<(), AllocEr
     line.extend_from_slice(buffer.format(number).as_bytes())
 }
 
-/// Appends a text and a space.
+/// Appends a text of a client, as it stands between quotes, and a space.
 pub(crate) fn push_field(line: &mut Vec<u8>, text: &[u8]) -> Result<(), AllocError>
-    ensures { OnOk result (line.new.items ≡ line.old.items ++ spec.field text.now) }
+    ensures { OnOk result (line.new.items ≡ line.old.items ++ spec.field (log_escaped text.now)) }
 {
-    line.extend_from_slice(text)?;
+    push_escaped(line, IN_LOG, text)?;
     line.extend_from_slice(b" ")
 }
 

@@ -1,8 +1,8 @@
 -- What the head of a request asks for: a page's URL, and what templates may ask for of the request.
-use Rattle.std.specs.Prelude.{◌≡◌, IsTrue, ℕ, Bool, ◌&&◌, ◌||◌, ◌==◌, nat_lt, bytes_eq, List, [], ◌∷◌, ◌++◌, map, filter, length, codes, None, Some, if◌then◌else◌}
+use Rattle.std.specs.Prelude.{◌≡◌, IsTrue, ℕ, Bool, not, ◌&&◌, ◌||◌, ◌==◌, nat_lt, bytes_eq, List, [], ◌∷◌, ◌++◌, map, filter, length, codes, None, Some, if◌then◌else◌}
 use Rattle.std.specs.Str.{byte}
-use Rattle.std.specs.List.{join_by, list_all, list_any}
-use Rattle.std.specs.Char.{is_ascii_alphanumeric}
+use Rattle.std.specs.List.{before_first, join_by, list_all, list_any}
+use Rattle.std.specs.Char.{is_ascii_alphanumeric, is_ascii_graphic}
 use Rattle.edge_types.specs.Asked.{asked}
 use Rattle.edge_types.specs.Query.{query_of}
 use Rattle.edge_types.specs.Request.{line_name, request_saying}
@@ -40,6 +40,15 @@ is_host_byte b = is_ascii_alphanumeric b || list_any (λ mark. mark == b) (codes
 unfoldable pub is_host : List ℕ → Bool
 is_host text = nat_lt 0 (length text) && list_all is_host_byte text
 
+-- a byte that a target may have before its query: a printable one of ASCII other than these (RFC 3986, section 2)
+unfoldable pub is_target_byte : ℕ → Bool
+is_target_byte b = is_ascii_graphic b && not (list_any (λ mark. mark == b) (codes "\"<>\\^`{|}"))
+
+-- it has only such bytes before its first `?`: what reads it before the edge reads the same path (RFC 9112, section
+-- 3.2). Behind that bytes are what browsers send
+unfoldable pub is_target : List ℕ → Bool
+is_target target = list_all is_target_byte (before_first (λ b. b == byte "?") target)
+
 -- the target as a whole URL: one that begins with `/` comes after the scheme and the host,
 -- any other denotes itself (RFC 9112, sections 3.2 and 3.3)
 abbrev pub absolute_form : List ℕ → List ℕ → List ℕ
@@ -65,5 +74,6 @@ pub record NamesHost (fields : List Field) (host : List ℕ) : Type 0 where
 pub record Asks (target : List ℕ) (fields : List Field) (url : List ℕ) (request : Request) : Type 0 where
   pub host : List ℕ
   pub named : NamesHost fields host
+  pub spelled : IsTrue (is_target target)
   pub page : asked None (absolute_form host target) ≡ Some url
   pub says : request ≡ said host target fields

@@ -47,9 +47,9 @@ refusal status =
     if status == 508 then own 508 (codes "The request has passed this edge before, or too many edges.\n") [] else
     own 503 (codes "The edge has no room for the page.\n") []))
 
--- a status under which no body is sent (RFC 9110, sections 15.3.5 and 15.4.5)
+-- a status under which no body is sent (RFC 9110, sections 15.3.5, 15.3.6 and 15.4.5)
 abbrev pub is_bodiless : ℕ → Bool
-is_bodiless status = status == 204 || status == 304
+is_bodiless status = status == 204 || status == 205 || status == 304
 
 -- a page: its status, its type, and a frame for each piece of its body
 abbrev pub page : ℕ → List ℕ → List (List ℕ) → Sent

@@ -1,13 +1,16 @@
 //! What the head of a request asks for.
-ghost use Rattle.std.specs.Prelude.{◌≡◌, ◌≢◌, ◌↔◌, ◌∷◌, ◌++◌, [], List, ℕ, IsTrue, IfOk, IfSome, IsErrOf, IsNone, MatchOption};
-ghost use Rattle.std.specs.List.{flat_map, join_by};
+ghost use Rattle.std.specs.Prelude.{◌≡◌, ◌≢◌, ◌↔◌, ◌∷◌, ◌++◌, ◌==◌, [], List, ℕ, IsTrue, IfOk, IfSome, IsErrOf, IsNone, MatchOption};
+ghost use Rattle.std.specs.List.{before_first, flat_map, join_by};
+ghost use Rattle.std.specs.Str.{byte};
 ghost use Rattle.edge_types.specs.Asked.{asked};
 ghost use Rattle.edge_types.specs.declared.request.Request.{Request};
 ghost use Rattle.page_http.specs.declared.head.HeadFault.TheVariants as fault;
 ghost use Rattle.page_http.specs.Head as spec;
 
 use crate::field::{Field, first_value, joined_values, next_value};
-use edge_types::{NoMemory, PageUrl, Request, RequestField, SaysFields, SharedBytes, query_of};
+use edge_types::{
+    NoMemory, PageUrl, Request, RequestField, SaysFields, SharedBytes, around, query_of,
+};
 use std::alloc::Global;
 use thiserror::Error;
 
@@ -17,8 +20,8 @@ pub enum HeadFault {
     /// The method isn't `GET`.
     #[error("the method isn't GET: ask for pages by GET")]
     Method,
-    /// There isn't exactly one `Host`, or it isn't a host's, or the target doesn't name a URL that the edge
-    /// fetches.
+    /// There isn't exactly one `Host`, or it isn't a host's, or the target has a byte that none may have, or doesn't
+    /// name a URL that the edge fetches.
     #[error("the request names no page: send one Host, and a target that names an http URL")]
     Unreadable,
     /// An allocation failed.
@@ -44,11 +47,12 @@ impl From<NoMemory> for HeadFault {
 ///
 /// Refused in this order: a method other than `GET` (`Method`); not exactly one `Host`, one that is
 /// empty or has a byte other than letters, digits and `.-_:[]`, or a target that doesn't denote a URL
-/// that the edge fetches (`Unreadable`); out of memory (`NoMemory`), which comes after the test of method
-/// and `Host`.
+/// that the edge fetches, or has before its first `?` a byte that no target may have: a control, a space, one
+/// that isn't ASCII, a grave accent or any of `"<>\^{|}` (`Unreadable`); out of memory (`NoMemory`), which
+/// comes after the test of method and `Host`.
 ///
-/// Source: RFC 9112, "Request Line" and "Reconstructing the Target URI"; RFC 9110, "Host and
-/// :authority"; RFC 6265, "The Cookie Header"; our profile.
+/// Source: RFC 9112, "Request Line", "Request Target" and "Reconstructing the Target URI"; RFC 3986,
+/// "Characters"; RFC 9110, "Host and :authority"; RFC 6265, "The Cookie Header"; our profile.
 pub fn answer_head(
     alloc: Global,
     method: &[u8],
@@ -69,6 +73,9 @@ pub fn answer_head(
     let Some(host) = only_host(fields) else {
         return Err(HeadFault::Unreadable);
     };
+    if !is_target(target) {
+        return Err(HeadFault::Unreadable);
+    }
     let Some(url) = url_of(alloc, host, target)? else {
         return Err(HeadFault::Unreadable);
     };
@@ -145,6 +152,36 @@ fn is_host_byte(byte: u8) -> bool
     ensures { result ≡ spec.is_host_byte byte }
 {
     byte.is_ascii_alphanumeric() || HOST_MARKS.contains(&byte)
+}
+
+// Whether what stands before the query is spelled as a target may be.
+#[tactic(auto, unfolding(crate::specs::Head::is_target))]
+fn is_target(target: &[u8]) -> bool
+    ensures { result ≡ spec.is_target target.now }
+{
+    before_query(target)
+        .iter()
+        .all(|byte| is_target_byte(*byte))
+}
+
+#[tactic(auto, unfolding(edge_types::specs::Halves::around))]
+fn before_query(target: &[u8]) -> &[u8]
+    ensures { result.now ≡ before_first (λ b. b == byte "?") target.now }
+{
+    match around(b'?', target) {
+        Some((before, _)) => before,
+        None => target,
+    }
+}
+
+// The printable bytes of ASCII that no target has before its query.
+const NO_TARGET_MARKS: &[u8] = b"\"<>\\^`{|}";
+
+#[tactic(auto, unfolding(crate::specs::Head::is_target_byte))]
+fn is_target_byte(byte: u8) -> bool
+    ensures { result ≡ spec.is_target_byte byte }
+{
+    byte.is_ascii_graphic() && !NO_TARGET_MARKS.contains(&byte)
 }
 
 // The URL of the page that a target names at a host.

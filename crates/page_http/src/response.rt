@@ -14,7 +14,7 @@ use std::sync::Arc;
 /// Makes the response for an outcome.
 ///
 /// A page has its status, its content type if that isn't empty, and a frame for each piece of
-/// its body; with 204 and 304 none. A fault is sent as 502 with a text of the edge's own, and so
+/// its body; with 204, 205 and 304 none. A fault is sent as 502 with a text of the edge's own, and so
 /// is a page whose status isn't 200 to 599 or whose content type isn't valid in a field.
 ///
 /// The only refusal is out of memory; the outcome is dropped then.
@@ -149,5 +149,5 @@ fn final_status(status: u16) -> Option<StatusCode>
 fn is_bodiless(status: u16) -> bool
     ensures { result ≡ spec.is_bodiless status }
 {
-    status == 204 || status == 304
+    status == 204 || status == 205 || status == 304
 }

@@ -1,5 +1,5 @@
 -- The relation is put together of what each step found.
-use Rattle.std.proofs.Common.{rules, ◌≡◌, sym, ◌∙◌}
+use Rattle.std.proofs.Common.{rules, tests, ◌≡◌, sym, ◌∙◌}
 use Rattle.page_http.specs.Head as spec
 use Rattle.page_http.proofs.head.answer_head.Goals as goal
 
@@ -15,6 +15,7 @@ returns-clause-asks c =
       record {
         host = c.in-Some.host.now;
         named = c.in-Some.ensures.some;
+        spelled = search (rules, tests);
         page = sym c.in_ok-url.ensures ∙ c.in-Some-2.is;
         says = c.in_ok-request.ensures;
       },
