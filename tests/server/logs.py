@@ -176,11 +176,13 @@ def clients_behind_a_proxy_are_told():
         ("x-forwarded-for: 192.0.2.1|x-forwarded-for: 192.0.2.2|", "192.0.2.2"), ("x-forwarded-for: 192.0.2.1, unknown|", "127.0.0.1"),
         ("x-forwarded-for: 192.0.2.1,|", "127.0.0.1"), ("x-forwarded-for: 192.0.2.1:80|", "127.0.0.1"), ("forwarded: 192.0.2.1|", "127.0.0.1"),
     )
-    asked = [wire("GET /p HTTP/1.1|host: a.test|%s|" % field) for field, _ in fields]
+    asked = [wire("GET /%d HTTP/1.1|host: a.test|%s|" % (at, field)) for at, (field, _) in enumerate(fields)]
     for words, wanted in ((("--forwarded", "X-Forwarded-For"), [told for _, told in fields]), ((), ["127.0.0.1"] * len(fields))):
         with Origin(PLAIN) as origin:
             *lines, _ = lines_of(origin, ("--log-format", "combined", *words), asked)
-        same("clients with %s" % (words,), wanted, [of_combined(line)[0] for line in lines])
+        # In whichever order the lines come, as above.
+        came = sorted((request, who) for who, _, request, *_ in map(of_combined, lines))
+        same("clients with %s" % (words,), [("GET /%d HTTP/1.1" % at, told) for at, told in enumerate(wanted)], came)
 
 
 def ask_on(edge, count, target):

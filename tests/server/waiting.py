@@ -1,13 +1,16 @@
 """Pages that wait for their fetches, and hold no thread meanwhile."""
+import contextlib
 import os
 import random
+import resource
 import socket
 import threading
 import time
 
-from harness import ASKED, PAGE, PATIENCE, UNASSEMBLED, Edge, Wires, all_at_once, before, client, rest, same, sized, told, wire
+from harness import ASKED, PAGE, PATIENCE, UNASSEMBLED, Edge, Response, Wires, all_at_once, before, client, rest, same, sized, told, wire
 from bounding import soon, timed
 from leaving import reset
+from operating import ADMIN, Desk
 
 FLYING = ("--workers", "1", "--fetches", "64")
 # What is stored for ten minutes.
@@ -69,22 +72,50 @@ def pages_that_wait_hold_no_thread():
         same("the pages", [(200, b"late")] * MANY, came)
 
 
+@contextlib.contextmanager
+def many_files():
+    """How many files this process and an edge may have open: as many as the system lets them."""
+    soft, hard = resource.getrlimit(resource.RLIMIT_NOFILE)
+    resource.setrlimit(resource.RLIMIT_NOFILE, (hard, hard))
+    try:
+        yield hard
+    finally:
+        resource.setrlimit(resource.RLIMIT_NOFILE, (soft, hard))
+
+
+def crowd(edge, count, sent=ASKED):
+    """As many clients, each of whom waits, with two files by which its page does."""
+    open_before = files_of(edge)
+    clients = [client(edge, sent) for _ in range(count)]
+    # The files of a page that has ended may serve again.
+    soon("all wait", lambda: files_of(edge) - open_before > 3 * count - 8)
+    return clients
+
+
+def rest_of_all(clients):
+    """What each of these gets, to the end of its connection."""
+    came = []
+    for one in clients:
+        with one:
+            came.append(rest(one))
+    return came
+
+
 def equal_pages_that_wait_cost_one_fetch():
-    """Many clients ask for one page at once, whose two fragments take a while: the origin is asked once for each."""
-    held = Held(sized(KEPT, "x"))
-    with Wires({"/p": page("/x", "/y"), "/x": held, "/y": held}) as origin:
-        with before(origin, *FLYING, "--threads", "4", "--connections", "512") as edge:
-            came = []
-            asking = [threading.Thread(target=lambda: came.append(told(edge))) for _ in range(200)]
-            for one in asking:
-                one.start()
-            soon("both are asked for", lambda: held.asked == 2)
-            time.sleep(0.3)
-            held.released.set()
-            for one in asking:
-                one.join()
-            same("the pages", [(200, b"xx")] * 200, came)
-            same("times that the fragments were asked for", 2, held.asked)
+    """Many clients ask for one page at once, and thousands, whose two fragments take a while: the origin is asked once for
+    each, and eight threads serve them all."""
+    kept = sized('HTTP/1.1 200 OK|surrogate-control: content="ESI/1.0", max-age=600', "<esi:include src='/x'/><esi:include src='/y'/>")
+    with many_files() as files:
+        for count in (64, min(4000, files // 4 - 64)):
+            held = Held(sized(KEPT, "x"))
+            with Wires({"/p": kept, "/x": held, "/y": held}) as origin:
+                with before(origin, *FLYING, "--threads", "8", "--connections", str(count + 8)) as edge:
+                    clients = crowd(edge, count)
+                    same("threads", True, threads_of(edge) <= 18)
+                    held.released.set()
+                    came = [Response(one) for one in rest_of_all(clients)]
+                    same("the pages", [(200, b"xx")] * count, [(one.status, one.body) for one in came])
+                    same("times that the fragments were asked for", 2, held.asked)
 
 
 def who_joins_a_fetch_holds_no_thread():
@@ -174,7 +205,7 @@ def a_page_ends_at_its_time():
         first.join()
         got, taken = came["first"]
         same("the first page", (200, b"none"), got)
-        same("it took %.3f s" % taken, True, 1.9 < taken < 2.6)
+        same("it took %.3f s" % taken, True, 1.9 < taken < 2.9)
         held.released.set()
         second.join()
         same("the second page", (200, b"x"), came["second"])
@@ -264,6 +295,20 @@ def a_stop_lets_pages_that_wait_end():
         same("exit status", 0, edge.ends())
 
 
+def a_stop_without_grace_cuts_pages_that_wait():
+    """With 200 pages waiting a server is told to stop at once: none of them comes, and it ends."""
+    held = Held(sized("HTTP/1.1 200 OK", "late"))
+    with many_files(), Wires({"/p": page("/x"), "/x": held}) as origin:
+        with before(origin, *FLYING, *ADMIN, "--threads", "2", "--connections", "256") as edge:
+            desk = Desk(edge)
+            clients = crowd(edge, 200)
+            same("its answer", 200, desk.ask("/stop?grace=0", "POST").status)
+            status, taken = timed(edge.ends)
+            same("exit status, after %.3f s" % taken, (0, True), (status, taken < 3))
+            same("what the clients get", [b""] * 200, rest_of_all(clients))
+            held.released.set()
+
+
 def descriptors_that_run_out_fail_fragments_alone():
     """With fewer files than the pages need that wait, fragments fail, and the edge goes on: a later page is whole."""
     held = Held(sized("HTTP/1.1 200 OK", "late"))
@@ -295,5 +340,6 @@ TESTS = (
     a_page_that_owes_a_fetch_is_sent_at_once,
     pipelined_requests_wait_their_turn,
     a_stop_lets_pages_that_wait_end,
+    a_stop_without_grace_cuts_pages_that_wait,
     descriptors_that_run_out_fail_fragments_alone,
 )
