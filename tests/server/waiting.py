@@ -145,7 +145,13 @@ def who_joins_a_fetch_holds_no_thread():
 
 
 def who_joins_a_fetch_is_told_whenever_it_lands():
-    """A page joins another's fetch shortly before that lands, as it does, and after: it never waits for its time limit."""
+    """A page joins another's fetch shortly before that lands, as it does, and after: it never waits for its time limit. Of two
+    threads none waits with a page; of eight some do for 30 ms, so that pages are parked as the fetch lands."""
+    for threads, shortest, longest in (("2", 0.0, 0.004), ("8", 0.02, 0.05)):
+        joined_at_any_moment(threads, shortest, longest)
+
+
+def joined_at_any_moment(threads, shortest, longest):
     place = random.Random(7)
     wait = {}
 
@@ -155,14 +161,14 @@ def who_joins_a_fetch_is_told_whenever_it_lands():
 
     # Something else of the page is fetched beside it, so that the page may be parked at any moment.
     texts = {"/p": page("/x", "/z"), "/q": page("/z", "/x"), "/z": sized("HTTP/1.1 200 OK", "z")}
-    with Wires({**texts}) as origin, before(origin, *FLYING, "--threads", "2", "--timeout", "15000") as edge:
+    with Wires({**texts}) as origin, before(origin, *FLYING, "--threads", threads, "--timeout", "15000") as edge:
         for turn in range(100):
             path = "/x%d" % turn
             origin.texts[path] = fragment
             origin.texts["/p"] = page(path, "/z")
             origin.texts["/q"] = page("/z", path)
-            wait["fetch"] = place.uniform(0.0, 0.004)
-            second = place.uniform(0.0, 0.006)
+            wait["fetch"] = place.uniform(shortest, longest)
+            second = place.uniform(0.0, 0.006 + shortest)
             calls = [lambda: told(edge, "/p"), lambda: time.sleep(second) or told(edge, "/q")]
             came, taken = timed(lambda: all_at_once(calls))
             same("turn %d" % turn, [(200, b"xz"), (200, b"zx")], sorted(came))

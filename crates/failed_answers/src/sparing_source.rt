@@ -136,8 +136,13 @@ impl<R: Wait, S: ConcurrentSource<R>, C: Clock<R>> ConcurrentSource<R> for Spari
         self.source.wait(rt, alloc, &mut in_flight.fetches, most)
     }
 
-    fn awaited(&self, rt: &R, in_flight: &SparedFetches<S::InFlight>) -> Option<Awaited> {
-        self.source.awaited(rt, &in_flight.fetches)
+    fn awaited(
+        &self,
+        rt: &R,
+        alloc: Global,
+        in_flight: &mut SparedFetches<S::InFlight>,
+    ) -> Option<Awaited> {
+        self.source.awaited(rt, alloc, &mut in_flight.fetches)
     }
 
     fn bell(&self, rt: &R, in_flight: &mut SparedFetches<S::InFlight>) -> Option<Bell> {

@@ -19,6 +19,7 @@ use std::alloc::AllocGlobal;
 use std::io::Print;
 use std::sync::Wait;
 use std::thread::Threads;
+use std::time::Clock;
 
 // How many slots may be opened ahead, and how many levels of fragments there may be.
 const AHEAD: u16 = 2;
@@ -78,7 +79,7 @@ where
 /// more.
 pub fn assemble_with_flights<R>(rt: &R, name: &str) -> Option<()>
 where
-    R: Wait + Threads + AllocGlobal + Print + Sync,
+    R: Wait + Threads + Clock + AllocGlobal + Print + Sync,
 {
     let alloc = rt.alloc();
     let source = cache(alloc)?;
@@ -94,7 +95,7 @@ where
 /// Begins a page with two fetches in flight through a cache, and goes on with it.
 pub fn go_on_with_page<R>(rt: &R, name: &str) -> Option<()>
 where
-    R: Wait + AllocGlobal + Print + Clone + Drop,
+    R: Wait + Clock + AllocGlobal + Print + Clone + Drop,
 {
     let alloc = rt.alloc();
     let source = cache(alloc)?;

@@ -24,6 +24,7 @@ use Rattle.fetch_workers.proofs.shared_shard.SharedShard.TheSendSync as SharedSh
 use Rattle.fetch_workers.specs.contracts.desk.Desk as desk
 use Rattle.fetch_workers.specs.contracts.shared_desk.SharedDesk as shared_desk
 use Rattle.fetch_workers.specs.declared.source.Source.{Ghosts}
+use Rattle.fetch_workers.specs.contracts.page_in_progress.UnderWay as under_way
 use Rattle.fetch_workers.specs.contracts.page_in_progress.Work as work
 use Rattle.fetch_workers.specs.contracts.page_in_progress.PageInProgress as page_in_progress
 use Rattle.fetch_workers.proofs.concurrent_worker.Flights.TheSendSync as Flights
@@ -74,15 +75,26 @@ shared_desk_send = search (desk_send, Crossing.crosses, sendable) depth 60 fits 
 pub shared_desk_sync : IsSync shared_desk.the_row
 shared_desk_sync = search (desk_send, Crossing.crosses, sendable) depth 60 fits 20000
 
+ruleset under_way_crosses = (shared_desk_send, Flights.the_send, Flights.the_field_send, SetAside.the_send, Crossing.crosses, sendable)
+
+under_way_send : (F : RattleType) → IsSend F → IsSend (under_way.the_row F)
+under_way_send F f = declared_send (under_way.the_type F) (
+  search (under_way_crosses) depth 60 fits 20000,
+  (
+    search (under_way_crosses) depth 60 fits 20000,
+    (
+      search (under_way_crosses) depth 60 fits 20000,
+      tt,
+    ),
+  ),
+)
+
 ruleset works_cross = (
-  shared_desk_send,
+  under_way_send,
   Posted.the_send,
   Posted.the_field_send,
-  Flights.the_send,
-  Flights.the_field_send,
   PageUrl.the_send,
   Request.the_field_send,
-  SetAside.the_send,
   Crossing.crosses,
   sendable,
 )
@@ -102,13 +114,7 @@ work_send R S F source r s f = declared_send (work.the_type R S F source) (
             search (works_cross) depth 60 fits 20000,
             (
               search (works_cross) depth 60 fits 20000,
-              (
-                search (works_cross) depth 60 fits 20000,
-                (
-                  search (works_cross) depth 60 fits 20000,
-                  tt,
-                ),
-              ),
+              tt,
             ),
           ),
         ),

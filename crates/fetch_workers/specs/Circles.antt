@@ -3,8 +3,8 @@ use Rattle.std.specs.Prelude.{◌≡◌, ⊤, ℕ, Bool, false, ◌==◌, List}
 use Rattle.edge_types.specs.Answered.{Answered}
 use Rattle.edge_types.specs.declared.answer.Reply.{Reply}
 use Rattle.edge_types.specs.declared.answer.Reply.TheVariants.{Failed, Got}
-use Rattle.fetch_workers.specs.declared.cache.Look.{Look}
-use Rattle.fetch_workers.specs.declared.cache.Look.TheVariants.{Landed, Begun, Flying}
+use Rattle.fetch_workers.specs.declared.cache.concurrent.Look.{Look}
+use Rattle.fetch_workers.specs.declared.cache.concurrent.Look.TheVariants.{Landed, Begun, Flying}
 use Rattle.fetch_workers.specs.declared.given.Given.{Given}
 
 -- the request for it went in a circle, so it was refused (RFC 5842, section 7.2)
@@ -17,7 +17,7 @@ pub record IsForAll (url : List ℕ) (answer : Answered) : Type 0 where
   pub named : answer.url ≡ url
   pub no_circle : says_circle answer.reply ≡ false
 
--- what is given, if a look at the flights that others lead has found an answer
+-- what is given, if a look at a flight that another leads has found an answer
 abbrev pub IfLanded : Look → (Given → Type 0) → Type 0
 IfLanded (Landed given) holds = holds given
 IfLanded Begun holds = ⊤

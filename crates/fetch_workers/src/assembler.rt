@@ -256,7 +256,7 @@ impl Assembling {
         ensures levels { IfOk result (λ page. page.work.levels ≡ self.levels) }
     {
         let page = self.accept(alloc, &url, &request)?;
-        Ok(PageInProgress::new(
+        PageInProgress::new(
             rt,
             alloc,
             source,
@@ -265,7 +265,7 @@ impl Assembling {
             url,
             request,
             self.levels,
-        ))
+        )
     }
 
     // How many threads may work for a page: its own alone where that has several fetches in flight.

@@ -3,7 +3,6 @@
 ghost use Rattle.std.specs.Prelude.{◌≡◌, [], length, IfNone, IfSome, IsTrue};
 ghost use Rattle.std.specs.Arc.{arc_value};
 
-use crate::bell::Bell;
 use crate::given::Given;
 use edge_types::{Answer, NoMemory, PageUrl};
 use fragment_cache::Flight;
@@ -19,9 +18,7 @@ pub struct CacheFlights<F> {
     led: Vec<Led>,
     /// Flights that others lead.
     pub(crate) joined: VecDeque<Joined>,
-    /// What rings once one of those has landed, where that is possible.
-    pub(crate) bell: Option<Bell>,
-    /// Answers that were there at once.
+    /// Answers that are there.
     pub(crate) here: Vec<Given>,
 }
 
@@ -37,6 +34,19 @@ pub(crate) struct Led {
 pub(crate) struct Joined {
     pub(crate) url: PageUrl,
     pub(crate) number: u64,
+    /// Whether the page has left a bell there.
+    pub(crate) has_bell: bool,
+}
+
+impl Joined {
+    /// A flight that was joined just now.
+    pub(crate) fn new(url: PageUrl, number: u64) -> Joined {
+        Joined {
+            url,
+            number,
+            has_bell: false,
+        }
+    }
 }
 
 impl Led {
@@ -64,7 +74,6 @@ impl<F> CacheFlights<F> {
             fetches,
             led: Vec::new(alloc),
             joined: VecDeque::new(alloc),
-            bell: None,
             here: Vec::new(alloc),
         }
     }
@@ -73,7 +82,8 @@ impl<F> CacheFlights<F> {
     pub(crate) fn reserve(&mut self) -> Result<(), NoMemory> {
         self.led.reserve(1)?;
         self.joined.reserve(1)?;
-        self.here.reserve(1)?;
+        // All that were joined may have landed by the next look.
+        self.here.reserve(self.joined.len().saturating_add(1))?;
         Ok(())
     }
 
@@ -128,7 +138,6 @@ impl<F> CacheFlights<F> {
             fetches,
             led,
             joined: _,
-            bell: _,
             here: _,
         } = self;
         led.destroy_empty();

@@ -69,14 +69,14 @@ pub trait ConcurrentSource<R>: Source<R> {
         Ok(())
     }
 
-    /// What is waited for, after `next` had no answer; `None` where only `wait` tells, as by default.
-    fn awaited(&self, _rt: &R, _in_flight: &Self::InFlight) -> Option<Awaited> {
+    /// What is waited for, after `next` had no answer; `None` where only `wait` tells, as by default. Whatever has moved
+    /// since then, or moves later, is told there.
+    fn awaited(&self, _rt: &R, _alloc: Global, _in_flight: &mut Self::InFlight) -> Option<Awaited> {
         None
     }
 
-    /// By what a wait for what is in flight may be ended from outside; `None` where it can't be, as by default. A ring is
-    /// taken by the next `next`, so whoever rings does it after what it is about, and whoever waits looks for that after
-    /// `next`.
+    /// By what that is told from outside; `None` where it can't be, as by default. A ring is taken by the next `next`, so
+    /// whoever rings does it after what it is about, and `next` looks for that after it took the ring.
     fn bell(&self, _rt: &R, _in_flight: &mut Self::InFlight) -> Option<Bell> {
         None
     }

@@ -22,6 +22,17 @@ pub(crate) struct Flights<F> {
     pub(crate) tickets: Vec<SetAside>,
 }
 
+impl<F> Flights<F> {
+    /// The fetches, once nobody asks for their answers.
+    pub(crate) fn into_fetches(self) -> F {
+        let Flights {
+            fetches,
+            tickets: _,
+        } = self;
+        fetches
+    }
+}
+
 impl<'a, R: Wait, S: ConcurrentSource<R>, G: Gate<R>, D: Shared<R>> Worker<'a, R, S, G, D> {
     /// Works until the work has ended, with at most so many fetches in flight; those that are left then are given up.
     /// Returns what the worker posted.
@@ -34,10 +45,7 @@ impl<'a, R: Wait, S: ConcurrentSource<R>, G: Gate<R>, D: Shared<R>> Worker<'a, R
             tickets: Vec::new(self.alloc),
         };
         let worked = self.keep_working(most, &mut flights, &mut mine);
-        let Flights {
-            mut fetches,
-            tickets: _,
-        } = flights;
+        let mut fetches = flights.into_fetches();
         self.let_go(&mut fetches);
         self.source.give_up(self.rt, self.alloc, fetches);
         worked?;

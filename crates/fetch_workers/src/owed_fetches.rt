@@ -34,7 +34,7 @@ impl<R: Wait + Drop, S: ConcurrentSource<R> + Drop> OwedFetches<R, S> {
     }
 
     /// What they wait for; `None` where only `wait` tells.
-    pub fn awaited(&self) -> Option<Awaited> {
+    pub fn awaited(&mut self) -> Option<Awaited> {
         self.owing.awaited()
     }
 
@@ -77,8 +77,9 @@ impl<R: Wait + Drop, S: ConcurrentSource<R> + Drop> Owing<R, S> {
         source.give_up(&rt, alloc, fetches);
     }
 
-    fn awaited(&self) -> Option<Awaited> {
-        self.source.awaited(&self.rt, &self.fetches)
+    fn awaited(&mut self) -> Option<Awaited> {
+        let source = &self.source;
+        source.awaited(&self.rt, self.alloc, &mut self.fetches)
     }
 
     fn wait(&mut self, most: Option<Duration>) {

@@ -17,7 +17,7 @@ use crate::owed_fetches::{OwedFetches, Owing};
 use crate::shared_desk::SharedDesk;
 use crate::source::Source;
 use crate::worker::Worker;
-use edge_types::{PageUrl, Request};
+use edge_types::{NoMemory, PageUrl, Request};
 use plan_runner::Page;
 use std::alloc::Global;
 use std::marker::PhantomData;
@@ -57,15 +57,76 @@ impl<R, S: Source<R>> Posted<R, S> {
     {}
 }
 
+impl<R: Wait, S: ConcurrentSource<R>> Posted<R, S> {
+    // The same once nothing can be done without waiting, or the work has ended; and whether it has, and how.
+    fn worked(
+        self,
+        rt: &R,
+        alloc: Global,
+        under_way: &mut UnderWay<S::InFlight>,
+    ) -> (Posted<R, S>, Result<bool, AssembleFault>)
+        ensures { result.0.source ≡ self.source }
+    {
+        self.known();
+        let Posted {
+            source,
+            mut own,
+            runtime: _,
+        } = self;
+        let worker = Worker {
+            rt,
+            alloc,
+            source: &source,
+            gate: &OpenGate,
+            shared: &under_way.desk,
+        };
+        match worker.go_on(under_way.most, &mut under_way.flights, &mut own) {
+            Ok(has_ended) => {
+                let posted = Posted {
+                    source,
+                    own,
+                    runtime: PhantomData,
+                };
+                (posted, Ok(has_ended))
+            }
+            Err(fault) => {
+                let posted = Posted {
+                    source,
+                    own: Vec::new(alloc),
+                    runtime: PhantomData,
+                };
+                (posted, Err(fault))
+            }
+        }
+    }
+}
+
+// What a page has under way. It lies in a box, so that a page is moved at little cost.
+struct UnderWay<F> {
+    // The page, whose desk nobody else shares.
+    desk: SharedDesk,
+    flights: Flights<F>,
+    // How many fetches it may have in flight.
+    most: u16,
+}
+
+impl<F> UnderWay<F> {
+    fn into_fetches(self) -> F {
+        let UnderWay {
+            desk: _,
+            flights,
+            most: _,
+        } = self;
+        flights.into_fetches()
+    }
+}
+
 // The work for a page.
 pub(crate) struct Work<R: Wait + Drop, S: ConcurrentSource<R> + Drop> {
     rt: R,
     alloc: Global,
     posted: Posted<R, S>,
-    // The page, whose desk nobody else shares, and what it has in flight.
-    shared: SharedDesk,
-    flights: Flights<S::InFlight>,
-    most: u16,
+    under_way: Box<UnderWay<S::InFlight>>,
     // What was asked for.
     url: PageUrl,
     request: Request,
@@ -90,32 +151,42 @@ impl<R: Wait + Drop, S: ConcurrentSource<R> + Drop> PageInProgress<R, S> {
         url: PageUrl,
         request: Request,
         levels: u8,
-    ) -> PageInProgress<R, S>
-        ensures source { result.work.posted.source ≡ source }
-        ensures url { result.work.url ≡ url }
-        ensures request { result.work.request ≡ request }
-        ensures levels { result.work.levels ≡ levels }
+    ) -> Result<PageInProgress<R, S>, NoMemory>
+        ensures source { IfOk result (λ page. page.work.posted.source ≡ source) }
+        ensures url { IfOk result (λ page. page.work.url ≡ url) }
+        ensures request { IfOk result (λ page. page.work.request ≡ request) }
+        ensures levels { IfOk result (λ page. page.work.levels ≡ levels) }
     {
-        let flights = Flights {
-            fetches: source.nothing_in_flight(&rt, alloc),
-            tickets: Vec::new(alloc),
+        let under_way = UnderWay {
+            desk: SharedDesk::new(alloc, page, 1),
+            flights: Flights {
+                fetches: source.nothing_in_flight(&rt, alloc),
+                tickets: Vec::new(alloc),
+            },
+            most,
+        };
+        let under_way = match Box::new(alloc, under_way) {
+            Ok(under_way) => under_way,
+            Err(failed) => {
+                source.give_up(&rt, alloc, failed.value.into_fetches());
+                return Err(NoMemory);
+            }
+        };
+        let posted = Posted {
+            source,
+            own: Vec::new(alloc),
+            runtime: PhantomData,
         };
         let work = Work {
             rt,
             alloc,
-            posted: Posted {
-                source,
-                own: Vec::new(alloc),
-                runtime: PhantomData,
-            },
-            shared: SharedDesk::new(alloc, page, 1),
-            flights,
-            most,
+            posted,
+            under_way,
             url,
             request,
             levels,
         };
-        PageInProgress { work }
+        Ok(PageInProgress { work })
     }
 
     /// Goes on as far as it gets without waiting for a fetch. The page comes back if it is to be gone on with, once what
@@ -140,7 +211,12 @@ impl<R: Wait + Drop, S: ConcurrentSource<R> + Drop> PageInProgress<R, S> {
     }
 
     /// What it waits for; `None` where only `wait` tells.
-    pub fn awaited(&self) -> Option<Awaited> {
+    pub fn awaited(&mut self) -> Option<Awaited>
+        ensures source { self.new.work.posted.source ≡ self.old.work.posted.source }
+        ensures url { self.new.work.url ≡ self.old.work.url }
+        ensures request { self.new.work.request ≡ self.old.work.request }
+        ensures levels { self.new.work.levels ≡ self.old.work.levels }
+    {
         self.work.awaited()
     }
 
@@ -167,64 +243,22 @@ impl<R: Wait + Drop, S: ConcurrentSource<R> + Drop> Work<R, S> {
             rt,
             alloc,
             posted,
-            shared,
-            mut flights,
-            most,
+            mut under_way,
             url,
             request,
             levels,
         } = self;
-        posted.known();
-        let Posted {
-            source,
-            mut own,
-            runtime: _,
-        } = posted;
-        let worker = Worker {
-            rt: &rt,
+        let (posted, has_ended) = posted.worked(&rt, alloc, &mut *under_way);
+        let work = Work {
+            rt,
             alloc,
-            source: &source,
-            gate: &OpenGate,
-            shared: &shared,
+            posted,
+            under_way,
+            url,
+            request,
+            levels,
         };
-        match worker.go_on(most, &mut flights, &mut own) {
-            Ok(has_ended) => {
-                let work = Work {
-                    rt,
-                    alloc,
-                    posted: Posted {
-                        source,
-                        own,
-                        runtime: PhantomData,
-                    },
-                    shared,
-                    flights,
-                    most,
-                    url,
-                    request,
-                    levels,
-                };
-                (work, Ok(has_ended))
-            }
-            Err(fault) => {
-                let work = Work {
-                    rt,
-                    alloc,
-                    posted: Posted {
-                        source,
-                        own: Vec::new(alloc),
-                        runtime: PhantomData,
-                    },
-                    shared,
-                    flights,
-                    most,
-                    url,
-                    request,
-                    levels,
-                };
-                (work, Err(fault))
-            }
-        }
+        (work, has_ended)
     }
 
     // What has come of the page, once its work has ended.
@@ -238,30 +272,29 @@ impl<R: Wait + Drop, S: ConcurrentSource<R> + Drop> Work<R, S> {
             rt,
             alloc,
             posted,
-            shared,
-            flights,
-            most: _,
+            under_way,
             url,
             request,
             levels,
         } = self;
-        let Flights {
-            fetches,
-            tickets: _,
-        } = flights;
+        let UnderWay {
+            desk,
+            flights,
+            most: _,
+        } = Box::into_inner(under_way);
         posted.known();
         let Posted {
             source,
             own,
             runtime: _,
         } = posted;
-        let page = shared.into_page();
+        let page = desk.into_page();
         let made = put_together::<R, S>(alloc, &source, page, own, &url, &request, levels);
         let owing = Owing {
             rt,
             alloc,
             source,
-            fetches,
+            fetches: flights.into_fetches(),
         };
         Ended {
             made,
@@ -285,17 +318,11 @@ impl<R: Wait + Drop, S: ConcurrentSource<R> + Drop> Work<R, S> {
             rt,
             alloc,
             posted,
-            shared: _,
-            flights,
-            most: _,
+            under_way,
             url: _,
             request: _,
             levels: _,
         } = self;
-        let Flights {
-            fetches,
-            tickets: _,
-        } = flights;
         let Posted {
             source,
             own: _,
@@ -305,12 +332,21 @@ impl<R: Wait + Drop, S: ConcurrentSource<R> + Drop> Work<R, S> {
             rt,
             alloc,
             source,
-            fetches,
+            fetches: Box::into_inner(under_way).into_fetches(),
         }
     }
 
-    fn awaited(&self) -> Option<Awaited> {
-        self.posted.source.awaited(&self.rt, &self.flights.fetches)
+    fn awaited(&mut self) -> Option<Awaited>
+        ensures source { self.new.posted.source ≡ self.old.posted.source }
+        ensures url { self.new.url ≡ self.old.url }
+        ensures request { self.new.request ≡ self.old.request }
+        ensures levels { self.new.levels ≡ self.old.levels }
+    {
+        let posted = &self.posted;
+        let under_way = &mut *self.under_way;
+        posted
+            .source
+            .awaited(&self.rt, self.alloc, &mut under_way.flights.fetches)
     }
 
     fn wait(&mut self, most: Option<Duration>)
@@ -321,8 +357,9 @@ impl<R: Wait + Drop, S: ConcurrentSource<R> + Drop> Work<R, S> {
     {
         // Without memory for what is told, the page is gone on with at once.
         let posted = &self.posted;
+        let under_way = &mut *self.under_way;
         let _ = posted
             .source
-            .wait(&self.rt, self.alloc, &mut self.flights.fetches, most);
+            .wait(&self.rt, self.alloc, &mut under_way.flights.fetches, most);
     }
 }

@@ -8,7 +8,7 @@ ghost use Rattle.fragment_cache.specs.Shown.{begun_answer};
 ghost use Rattle.fragment_cache.specs.Sound.{IsSound, NamesUrl};
 
 use crate::bell::Bell;
-use crate::cache_flights::Led;
+use crate::cache_flights::{Joined, Led};
 use crate::given::{Given, Way};
 use crate::source::Found;
 use crate::tally::CacheTally;
@@ -17,6 +17,7 @@ use fragment_cache::{Begun, Flight, MAX_CAPACITY, Picked, Shard, is_failing};
 use std::alloc::Global;
 use std::collections::BTreeMap;
 use std::sync::{Arc, Condvar, Mutex, MutexGuard, Wait};
+use std::time::{Clock, Duration};
 
 #[derive(Drop)]
 pub(crate) struct SharedShard {
@@ -87,6 +88,11 @@ impl Shelf {
         Ok(found)
     }
 
+    // Whether a flight hasn't landed.
+    fn flies(&self, joined: &Joined) -> bool {
+        self.shard.under_way(&joined.url) == Some(joined.number)
+    }
+
     // How many wait for the flight with this number, apart from its leader.
     fn waiting(&self, number: u64) -> u64 {
         let left = self.left.get(&number).copied().unwrap_or(0);
@@ -101,16 +107,8 @@ impl Shelf {
         }
     }
 
-    // Has a bell rung once a flight has landed that was joined just now. Without room for it the flight is left again.
-    fn hangs(&mut self, alloc: Global, number: u64, bell: Bell) -> Result<(), NoMemory> {
-        if self.hung(alloc, number, bell).is_err() {
-            let _ = self.note_left(number);
-            return Err(NoMemory);
-        }
-        Ok(())
-    }
-
-    fn hung(&mut self, alloc: Global, number: u64, bell: Bell) -> Result<(), NoMemory> {
+    // Has a bell rung once a flight has landed.
+    fn hang(&mut self, alloc: Global, number: u64, bell: Bell) -> Result<(), NoMemory> {
         if let Some(bells) = self.bells.get_mut(&number) {
             bells.push(bell)?;
             return Ok(());
@@ -171,28 +169,9 @@ impl SharedShard {
         ensures { IfSome result (λ begun. NamesUrl url.now (begun_answer begun)) }
     {
         let mut shelf = self.lock(rt);
-        begun(&mut *shelf, url, now, most)
-    }
-
-    // The same, and if a flight is joined, the bell is rung once that has landed.
-    pub(crate) fn begin_told<R: Wait>(
-        &self,
-        rt: &R,
-        alloc: Global,
-        url: &PageUrl,
-        now: u64,
-        most: Option<u32>,
-        bell: Bell,
-    ) -> Result<Option<Begun>, NoMemory>
-        ensures { IfOk result (λ found. IfSome found (λ begun. NamesUrl url.now (begun_answer begun))) }
-    {
-        let mut shelf = self.lock(rt);
-        match begun(&mut *shelf, url, now, most) {
-            Some(Begun::Join(number)) => {
-                shelf.hangs(alloc, number, bell)?;
-                Ok(Some(Begun::Join(number)))
-            }
-            found => Ok(found),
+        match most {
+            Some(most) if shelf.is_crowded(url, most) => None,
+            _ => Some(shelf.begin(url, now)),
         }
     }
 
@@ -274,6 +253,38 @@ impl SharedShard {
         None
     }
 
+    // Has the bell rung once a flight has landed: at once, if it has.
+    pub(crate) fn ring_once_landed<R: Wait>(
+        &self,
+        rt: &R,
+        alloc: Global,
+        joined: &Joined,
+        bell: Bell,
+    ) -> Result<(), NoMemory> {
+        let mut shelf = self.lock(rt);
+        if shelf.flies(joined) {
+            return shelf.hang(alloc, joined.number, bell);
+        }
+        drop(shelf);
+        bell.ring();
+        Ok(())
+    }
+
+    // Waits until a flight has landed, or for `most`, where there is one.
+    pub(crate) fn wait_for<R: Wait + Clock>(
+        &self,
+        rt: &R,
+        joined: &Joined,
+        most: Option<Duration>,
+    ) {
+        let shelf = self.lock(rt);
+        let flies = |shelf: &mut Shelf| shelf.flies(joined);
+        let _ = match most {
+            Some(most) => self.landed.wait_timeout_while(rt, shelf, most, flies).0,
+            None => self.landed.wait_while(rt, shelf, flies),
+        };
+    }
+
     // Picks up the answer of the flight with this number, if it has landed.
     pub(crate) fn pick<R: Wait>(&self, rt: &R, number: u64) -> Picked {
         self.lock(rt).shard.pick(number)
@@ -307,15 +318,5 @@ impl SharedShard {
             }
         }
         unreachable!()
-    }
-}
-
-// Begins for a URL, unless as many as may already wait for its flight.
-fn begun(shelf: &mut Shelf, url: &PageUrl, now: u64, most: Option<u32>) -> Option<Begun>
-    ensures { IfSome result (λ begun. NamesUrl url.now (begun_answer begun)) }
-{
-    match most {
-        Some(most) if shelf.is_crowded(url, most) => None,
-        _ => Some(shelf.begin(url, now)),
     }
 }

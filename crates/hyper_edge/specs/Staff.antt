@@ -1,5 +1,5 @@
 -- When one more thread is wanted for one kind of work, and when it is started.
-use Rattle.std.specs.Prelude.{ℕ, Bool, ◌≡◌, ◌+◌, ◌-◌, ◌^◌, ◌<◌, ◌≤◌, min, true, false, None, Some, IfSome, IsTrue, IsFalse}
+use Rattle.std.specs.Prelude.{ℕ, Bool, ◌≡◌, ◌+◌, ◌-◌, ◌*◌, ◌^◌, ◌<◌, ◌≤◌, min, true, false, None, Some, IfSome, IsTrue, IsFalse}
 use Rattle.hyper_edge.specs.declared.staff.Staff.{Staff}
 
 -- no thread yet
@@ -17,6 +17,10 @@ ended staff = record staff { busy = staff.busy - 1 }
 -- not all threads that there may be are at work
 abbrev pub HasSpare : Staff → Type 0
 HasSpare staff = staff.busy < staff.most
+
+-- fewer than three quarters of the threads that there may be are at work
+abbrev pub HasReserve : Staff → Type 0
+HasReserve staff = staff.busy * 4 < staff.most * 3
 
 -- one more thread is wanted: all existing ones are at work, there may be more, and none was asked for
 pub record WantsThread (staff : Staff) : Type 0 where

@@ -41,11 +41,6 @@ pub trait Accept<R> {
     /// Whether streams may block for a moment from now on, since there are threads to spare.
     fn set_may_wait(&self, _may_wait: bool) {}
 
-    /// What was told by that last, false before. By default nothing is kept of it.
-    fn may_wait(&self) -> bool {
-        false
-    }
-
     /// Has `ready` tell a key, once, when the socket of a pause is ready, or its client leaves. Returns false if that isn't
     /// possible.
     fn watch(&self, _key: usize, _pause: &Pause) -> bool {

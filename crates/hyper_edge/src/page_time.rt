@@ -229,8 +229,13 @@ impl<R: Clock, S: ConcurrentSource<R>> ConcurrentSource<R> for WithinTime<S> {
         self.source.wait(rt, alloc, &mut in_flight.fetches, most)
     }
 
-    fn awaited(&self, rt: &R, in_flight: &FlightsInTime<S::InFlight>) -> Option<Awaited> {
-        let below = self.source.awaited(rt, &in_flight.fetches)?;
+    fn awaited(
+        &self,
+        rt: &R,
+        alloc: Global,
+        in_flight: &mut FlightsInTime<S::InFlight>,
+    ) -> Option<Awaited> {
+        let below = self.source.awaited(rt, alloc, &mut in_flight.fetches)?;
         Some(Awaited {
             descriptor: below.descriptor,
             until: earlier(below.until, self.time_of(in_flight)),

@@ -3,7 +3,7 @@
 
 ghost use Rattle.std.specs.Prelude.{◌≡◌, ◌↔◌, ◌<◌, not, None, Some, IsTrue, IsFalse, MatchBool};
 ghost use Rattle.hyper_edge.specs.Roster as spec;
-ghost use Rattle.hyper_edge.specs.Staff.{HasSpare, IsDue, Lacks, WantsThread};
+ghost use Rattle.hyper_edge.specs.Staff.{HasReserve, HasSpare, IsDue, Lacks, WantsThread};
 ghost use Rattle.hyper_edge.specs.declared.roster.Admission.TheVariants as admission;
 ghost use Rattle.hyper_edge.specs.declared.roster.AfterFailure.TheVariants as after;
 ghost use Rattle.hyper_edge.specs.declared.roster.ServeEnd.TheVariants as ended;
@@ -273,6 +273,14 @@ impl Roster {
         ensures { IsTrue result ↔ HasSpare self.now.accepting }
     {
         self.accepting.has_spare()
+    }
+
+    /// Whether a thread may wait for what is fetched for a page of a connection that it accepted: there are threads in
+    /// reserve.
+    pub(crate) fn may_linger(&self) -> bool
+        ensures { IsTrue result ↔ HasReserve self.now.accepting }
+    {
+        self.accepting.has_reserve()
     }
 
     /// Whether no more accepts are begun.

@@ -189,7 +189,7 @@ where
         let client = self.acceptor.client(&io);
         let signals = self.acceptor.signals(&io);
         match self.serving.session(opens, io, client, signals) {
-            Some(session) => self.go_on(session, executor, self.acceptor.may_wait()),
+            Some(session) => self.go_on(session, executor, Work::Accepting),
             None => self.ended(),
         }
         self.roster.served(rt, self.acceptor);
@@ -225,7 +225,7 @@ where
         match waiting {
             Waiting::Connection(session) => {
                 self.serving.journal.unparked();
-                self.go_on(session, executor, false);
+                self.go_on(session, executor, Work::Resuming);
             }
             Waiting::Fetches(fetches) => {
                 if let Some(left) = fetches.go_on() {
@@ -249,11 +249,16 @@ where
         }
     }
 
-    // Serves a connection until it has ended or is parked. Without room for that, it ends.
-    fn go_on(&self, session: Session<F, R, S>, executor: &mut Executor, may_linger: bool) {
+    // Serves a connection by a thread that does this work, until it has ended or is parked. Without room for that, it ends.
+    // Once it was parked, no thread waits for its fetches: they have taken long before.
+    fn go_on(&self, session: Session<F, R, S>, executor: &mut Executor, work: Work) {
         let rt = self.serving.rt;
         let mut owed = Vec::new(rt.alloc());
-        match self.serving.serve(session, executor, may_linger, &mut owed) {
+        let may_linger = || work == Work::Accepting && self.roster.may_linger(rt);
+        match self
+            .serving
+            .serve(session, executor, &may_linger, &mut owed)
+        {
             Some((session, pause)) => self.park_connection(session, pause),
             None => self.ended(),
         }
@@ -284,7 +289,7 @@ where
     }
 
     // Parks fetches that others wait for. Without room for that, this thread sees them through.
-    fn park_fetches(&self, fetches: Owed<R, S>) {
+    fn park_fetches(&self, mut fetches: Owed<R, S>) {
         let rt = self.serving.rt;
         let Some(awaited) = fetches.awaited() else {
             return self.serving.see_through(fetches);

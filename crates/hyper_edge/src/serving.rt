@@ -26,8 +26,12 @@ use std::thread::Threads;
 use std::time::{Clock, Duration, Instant};
 use tokio::io::{AsyncRead, AsyncWrite};
 
-// For how many milliseconds a page holds its thread while it waits for its fetches, where there are threads to spare.
-const MOMENT_MILLIS: u64 = 2;
+// For how many milliseconds at most a page holds its thread while it waits for its fetches, where there are threads in
+// reserve: longer than a near origin takes.
+const LINGERS_MILLIS: u64 = 30;
+
+// After how many of them it looks again whether there are.
+const STEP_MILLIS: u64 = 5;
 
 /// Serves one request over one stream, and ends the connection. Anything that goes wrong ends it too: a fault
 /// of the stream, a head that isn't HTTP/1, and running out of memory for the response.
@@ -91,8 +95,14 @@ where
     R: Wait + Clock + Drop,
     S: ConcurrentSource<R> + Drop,
 {
-    // Why the page can't go on now; `None` where only a wait would tell when it can.
-    fn pause(&self) -> Option<Pause> {
+    // Why the page can't go on now; `None` where only a wait in this thread would tell when it can.
+    fn pause<F>(&mut self, connection: &Connection<F>) -> Option<Pause>
+    where
+        F: Future<Output = hyper::Result<()>>,
+    {
+        if !connection.may_pause() {
+            return None;
+        }
         Some(Pause::for_fetches(self.page.awaited()?, self.client))
     }
 }
@@ -124,7 +134,7 @@ where
     {
         let mut owed = Vec::new(self.service.alloc());
         if let Some(session) = self.session(opens, io, None, None) {
-            let _ = self.serve(session, executor, false, &mut owed);
+            let _ = self.serve(session, executor, &|| false, &mut owed);
         }
         for fetches in owed {
             self.see_through(fetches);
@@ -158,31 +168,47 @@ where
     }
 
     /// Serves a connection until it has ended, or has to wait for its client, or for fetches: then it is given back, with
-    /// the reason. Fetches are first waited for in the thread, where that may linger for a moment. What its pages owe to
-    /// others is added.
-    pub(crate) fn serve<F>(
+    /// the reason. Fetches are first waited for in the thread, as long as that may linger. What its pages owe to others is
+    /// added.
+    pub(crate) fn serve<F, L>(
         &self,
         session: Session<F, R, S>,
         executor: &mut Executor,
-        may_linger: bool,
+        may_linger: &L,
         owed: &mut Vec<Owed<R, S>>,
     ) -> Option<(Session<F, R, S>, Pause)>
     where
         F: Future<Output = hyper::Result<()>>,
+        L: Fn() -> bool,
+        requires { L.IsAlwaysCallable may_linger.now }
     {
-        let mut session = session;
+        let Session {
+            mut connection,
+            mut page,
+            client,
+            mut unreported,
+        } = session;
         for _ in self.rt.forever() {
-            session = match self.paged(session, may_linger, owed) {
-                Ok(paged) => paged,
-                Err(waiting) => return Some(waiting),
-            };
-            let Session {
-                connection,
-                page: _,
-                client,
-                mut unreported,
-            } = session;
-            let (connection, stop) = match connection.go_on(self.rt, executor) {
+            if let Some(asked) = page {
+                let waits = self.paged(
+                    asked,
+                    &connection,
+                    client,
+                    &mut unreported,
+                    may_linger,
+                    owed,
+                );
+                if let Some((asked, pause)) = waits {
+                    let session = Session {
+                        connection,
+                        page: Some(asked),
+                        client,
+                        unreported,
+                    };
+                    return Some((session, pause));
+                }
+            }
+            let (stopped, stop) = match connection.go_on(self.rt, executor) {
                 Went::Stopped(stopped, stop) => (stopped, stop),
                 Went::Ended(refusal) => {
                     self.report(&mut unreported);
@@ -190,7 +216,8 @@ where
                     return None;
                 }
             };
-            let page = match stop {
+            connection = stopped;
+            page = match stop {
                 Stop::Asked(asked) => self.begun(asked, &connection, client, &mut unreported),
                 Stop::Written => {
                     self.report(&mut unreported);
@@ -206,67 +233,38 @@ where
                     return Some((session, pause));
                 }
             };
-            session = Session {
-                connection,
-                page,
-                client,
-                unreported,
-            };
         }
         unreachable!()
     }
 
-    // The session once no page is being assembled for it, whose response was given to the connection; or, where that has
-    // to wait for fetches, with the reason.
-    fn paged<F>(
+    // Goes on with a page until its response was given to the connection. It comes back, with the reason, where it has to
+    // wait for fetches for longer than the thread may linger.
+    fn paged<F, L>(
         &self,
-        session: Session<F, R, S>,
-        may_linger: bool,
+        asked: PageAsked<R, S>,
+        connection: &Connection<F>,
+        client: Option<IpAddr>,
+        unreported: &mut Vec<Unreported>,
+        may_linger: &L,
         owed: &mut Vec<Owed<R, S>>,
-    ) -> Result<Session<F, R, S>, (Session<F, R, S>, Pause)>
+    ) -> Option<(PageAsked<R, S>, Pause)>
     where
         F: Future<Output = hyper::Result<()>>,
+        L: Fn() -> bool,
+        requires { L.IsAlwaysCallable may_linger.now }
     {
-        let Session {
-            connection,
-            mut page,
-            client,
-            mut unreported,
-        } = session;
-        let lingers = Moment::begun(self.rt, may_linger && page.is_some());
+        let mut waiting = self.gone_on(asked, connection, client, unreported, owed)?;
+        let lingers = Lingers::begun(self.rt);
         for _ in self.rt.forever() {
-            let Some(asked) = page else {
-                let session = Session {
-                    connection,
-                    page: None,
-                    client,
-                    unreported,
-                };
-                return Ok(session);
-            };
-            let left = self.gone_on(asked, &connection, client, &mut unreported, owed);
-            let Some(mut waiting) = left else {
-                page = None;
-                continue;
-            };
-            let pause = match connection.may_pause() {
-                true => waiting.pause(),
-                false => None,
-            };
-            match pause {
-                Some(_) if lingers.lasts(self.rt) => waiting.page.wait(Some(one_moment())),
-                Some(pause) => {
-                    let session = Session {
-                        connection,
-                        page: Some(waiting),
-                        client,
-                        unreported,
-                    };
-                    return Err((session, pause));
+            if lingers.lasts(self.rt) && may_linger() {
+                waiting.page.wait(Some(Duration::from_millis(STEP_MILLIS)));
+            } else {
+                match waiting.pause(connection) {
+                    Some(pause) => return Some((waiting, pause)),
+                    None => waiting.page.wait(None),
                 }
-                None => waiting.page.wait(None),
             }
-            page = Some(waiting);
+            waiting = self.gone_on(waiting, connection, client, unreported, owed)?;
         }
         unreachable!()
     }
@@ -432,24 +430,20 @@ where
     }
 }
 
-// Until when a thread may linger; `None` means that it may not.
+// Until when a page may hold its thread; `None` where the clock can't be read, and it may not.
 #[derive(Clone, Copy)]
-struct Moment {
+struct Lingers {
     until: Option<Instant>,
 }
 
-impl Moment {
-    // One that begins now, if there is one.
-    fn begun(clock: &impl Clock, is_there: bool) -> Moment {
-        if !is_there {
-            return Moment { until: None };
-        }
-        match Instant::now(clock) {
-            Ok(now) => Moment {
-                until: now.checked_add(one_moment()),
-            },
-            Err(_) => Moment { until: None },
-        }
+impl Lingers {
+    // From now on.
+    fn begun(clock: &impl Clock) -> Lingers {
+        let until = match Instant::now(clock) {
+            Ok(now) => now.checked_add(Duration::from_millis(LINGERS_MILLIS)),
+            Err(_) => None,
+        };
+        Lingers { until }
     }
 
     fn lasts(self, clock: &impl Clock) -> bool {
@@ -458,10 +452,6 @@ impl Moment {
             _ => false,
         }
     }
-}
-
-fn one_moment() -> Duration {
-    Duration::from_millis(MOMENT_MILLIS)
 }
 
 // Says of a response that it is the last one of its connection.

@@ -107,6 +107,10 @@ impl SharedRoster {
         self.roster.lock(rt).lacks(work)
     }
 
+    pub(crate) fn may_linger(&self, rt: &impl Wait) -> bool {
+        self.roster.lock(rt).may_linger()
+    }
+
     pub(crate) fn is_done(&self, rt: &impl Wait) -> bool {
         self.roster.lock(rt).is_done()
     }

@@ -132,10 +132,6 @@ where
         self.shared.may_wait.store(may_wait, Ordering::SeqCst);
     }
 
-    fn may_wait(&self) -> bool {
-        self.shared.may_wait.load(Ordering::SeqCst)
-    }
-
     // A client who can't be watched is looked at whenever his page goes on.
     fn watch(&self, key: usize, pause: &Pause) -> bool {
         if let Some(client) = &pause.client {

@@ -98,6 +98,13 @@ impl Staff {
         self.busy < self.most
     }
 
+    /// Whether fewer than three quarters of the threads that there may be are at work.
+    pub(crate) fn has_reserve(&self) -> bool
+        ensures { IsTrue result ↔ spec.HasReserve self.now }
+    {
+        u32::from(self.busy) * 4 < u32::from(self.most) * 3
+    }
+
     fn is_due(&self, now: u64) -> bool
         ensures { IsTrue result ↔ spec.IsDue self.now now }
     {

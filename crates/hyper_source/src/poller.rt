@@ -19,7 +19,7 @@ use std::io;
 use std::net::Net;
 use std::os::fd::{AsRawFd, RawFd};
 use std::random::RandomSource;
-use std::sync::{Arc, Mutex, Wait};
+use std::sync::{Mutex, Wait};
 
 // How many sockets one wait tells of.
 const AT_ONCE: usize = 32;
@@ -79,7 +79,7 @@ impl Poller {
         let waker = Waker::new(watched.registry(), Token(RUNG))?;
         Ok(Poller {
             watched,
-            bell: Bell::new(Arc::new(rt.alloc(), waker)?),
+            bell: Bell::new(rt.alloc(), waker)?,
             task: Solo::new(rt, Doorbell::spinning())?,
         })
     }
@@ -134,6 +134,13 @@ impl Poller {
     pub(crate) fn wait(&self, millis: i32, ready: &mut VecDeque<usize>) -> Result<(), NoMemory> {
         let mut events = [EpollEvent { events: 0, data: 0 }; AT_ONCE];
         let count = os::epoll_wait(self.watched.as_raw_fd(), &mut events, millis);
+        // Before anything can fail: a bell that isn't heard stays silent.
+        if events[..count]
+            .iter()
+            .any(|event| event.data as usize == RUNG)
+        {
+            self.bell.heard();
+        }
         for event in &events[..count] {
             let key = event.data as usize;
             if key != RUNG {

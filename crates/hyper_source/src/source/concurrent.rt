@@ -376,7 +376,7 @@ where
         in_flight.wait(rt, most)
     }
 
-    fn awaited(&self, _rt: &R, in_flight: &FetchesInFlight) -> Option<Awaited> {
+    fn awaited(&self, _rt: &R, _alloc: Global, in_flight: &mut FetchesInFlight) -> Option<Awaited> {
         in_flight.awaited()
     }
 
