@@ -1,1 +1,4 @@
+pub mod Dates
+pub mod LogText
 pub mod Plain
+pub mod Printable

@@ -1,11 +1,12 @@
 -- Texts of clients between the quotes of a line.
-use Rattle.std.specs.Prelude.{ℕ, ◌+◌, ◌-◌, ◌/◌, ◌%◌, Bool, not, nat_le, nat_lt, ◌&&◌, ◌==◌, List, [], ◌∷◌, ◌++◌, codes, if◌then◌else◌}
+use Rattle.std.specs.Prelude.{ℕ, ◌+◌, ◌-◌, ◌/◌, ◌%◌, Bool, not, nat_lt, ◌&&◌, ◌==◌, List, [], ◌∷◌, ◌++◌, codes, if◌then◌else◌}
 use Rattle.std.specs.List.{flat_map}
 use Rattle.std.specs.Str.{byte}
+use Rattle.access_log.specs.Text.{is_printable}
 
 -- printable ASCII, but no quote and no backslash
 abbrev pub is_plain : ℕ → Bool
-is_plain b = nat_le 32 b && nat_lt b 127 && not (b == byte "\"") && not (b == byte "\\")
+is_plain b = is_printable b && not (b == byte "\"") && not (b == byte "\\")
 
 -- a digit of base 16, in upper case
 abbrev pub hex_digit : ℕ → ℕ

@@ -1,3 +1,4 @@
+pub mod Text
 pub mod Clock
 pub mod Faults
 pub mod Escapes

@@ -39,7 +39,7 @@ asked_fields second request =
 
 -- and how that was answered
 abbrev pub answer_fields : RequestRecord → List ℕ
-answer_fields request = field (decimal request.status) ++ field (decimal request.body) ++ field (decimal request.answers) ++ decimal request.micros ++ codes "\n"
+answer_fields request = field (decimal request.status) ++ field (decimal request.body) ++ field (decimal request.answers) ++ decimal request.micros
 
 abbrev pub plain_line : ℕ → RequestRecord → List ℕ
 plain_line second request = asked_fields second request ++ answer_fields request
@@ -53,13 +53,13 @@ quoted text = codes "\"" ++ log_escaped (or_dash text) ++ codes "\""
 abbrev pub request_line : RequestRecord → List ℕ
 request_line request = codes "\"" ++ log_escaped (or_dash request.method.items) ++ codes " " ++ log_escaped (or_dash request.target.items) ++ codes " " ++ version_text request.version ++ codes "\" "
 
--- who asked, and when
+-- who asked, in the escapes like every text, and when
 unfoldable pub log_head : List ℕ → Option IpAddr → List ℕ
-log_head date client = client_text client ++ codes " - - [" ++ log_time date ++ codes "] "
+log_head date client = log_escaped (client_text client) ++ codes " - - [" ++ log_time date ++ codes "] "
 
 -- what was sent, and what the client says of itself
 abbrev pub log_end : RequestRecord → List ℕ
-log_end request = field (decimal request.status) ++ field (decimal request.body) ++ quoted request.referer.items ++ codes " " ++ quoted request.agent.items ++ codes "\n"
+log_end request = field (decimal request.status) ++ field (decimal request.body) ++ quoted request.referer.items ++ codes " " ++ quoted request.agent.items
 
 abbrev pub combined_line : List ℕ → RequestRecord → List ℕ
 combined_line date request = log_head date request.client ++ request_line request ++ log_end request
@@ -109,9 +109,12 @@ way_members request =
     ++ number_member (codes "failed") request.failed
 
 abbrev pub json_line : List ℕ → RequestRecord → List ℕ
-json_line date request = time_member date ++ asked_members request ++ answer_members request ++ way_members request ++ fault_member request.fault ++ codes "}\n"
+json_line date request = time_member date ++ asked_members request ++ answer_members request ++ way_members request ++ fault_member request.fault ++ codes "}"
 
 -- ---- the line of a request, and the one that says how many were lost
+
+abbrev pub ended : List ℕ → List ℕ
+ended line = line ++ codes "\n"
 
 abbrev pub line : LogFormat → ℕ → List ℕ → RequestRecord → List ℕ
 line Line second date request = plain_line second request
@@ -119,16 +122,16 @@ line Combined second date request = combined_line date request
 line Json second date request = json_line date request
 
 abbrev pub IsLineOf : LogFormat → ℕ → RequestRecord → List ℕ → Type 0
-IsLineOf format second request text = (date : List ℕ) × IsDateOf second date × (text ≡ line format second date request)
+IsLineOf format second request text = (date : List ℕ) × IsDateOf second date × (text ≡ ended (line format second date request))
 
 abbrev pub plain_report : ℕ → ℕ → List ℕ
-plain_report second lost = field (decimal second) ++ codes "LOST " ++ decimal lost ++ codes " 0 0 0 0\n"
+plain_report second lost = field (decimal second) ++ codes "LOST " ++ decimal lost ++ codes " 0 0 0 0"
 
 abbrev pub combined_report : List ℕ → ℕ → List ℕ
-combined_report date lost = log_head date None ++ codes "\"-\" 0 0 \"-\" \"" ++ decimal lost ++ codes " lines lost\"\n"
+combined_report date lost = log_head date None ++ codes "\"-\" 0 0 \"-\" \"" ++ decimal lost ++ codes " lines lost\""
 
 abbrev pub json_report : List ℕ → ℕ → List ℕ
-json_report date lost = time_member date ++ number_member (codes "lost") lost ++ codes "}\n"
+json_report date lost = time_member date ++ number_member (codes "lost") lost ++ codes "}"
 
 abbrev pub report : LogFormat → ℕ → List ℕ → ℕ → List ℕ
 report Line second date lost = plain_report second lost
@@ -136,4 +139,4 @@ report Combined second date lost = combined_report date lost
 report Json second date lost = json_report date lost
 
 abbrev pub IsReportOf : LogFormat → ℕ → ℕ → List ℕ → Type 0
-IsReportOf format second lost text = (date : List ℕ) × IsDateOf second date × (text ≡ report format second date lost)
+IsReportOf format second lost text = (date : List ℕ) × IsDateOf second date × (text ≡ ended (report format second date lost))

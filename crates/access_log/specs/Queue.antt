@@ -33,6 +33,12 @@ abbrev pub Tells : LogFormat → ℕ → List ℕ → Queued → Queued → Type
 Tells format second line old new =
     (text : List ℕ) × IsTold format second old.lost line text × (new ≡ (if fits text old then kept text old else lost_one old))
 
+-- the line that says what was lost, if something was, waits if there is room for it
+abbrev pub TellsLost : LogFormat → ℕ → Queued → Queued → Type 0
+TellsLost format second old new =
+    ((old.lost ≡ 0) × (new ≡ old))
+    ⊎ ((0 < old.lost) × ((report : List ℕ) × IsReportOf format second old.lost report × (new ≡ (if fits report old then kept report old else lost_one old))))
+
 -- somebody writes
 abbrev pub begun : Queued → Queued
 begun queue = record queue { is_written = true }

@@ -2,7 +2,9 @@
 
 ghost use Rattle.std.specs.Prelude.{◌≡◌, ◌++◌, OnOk};
 ghost use Rattle.access_log.specs.Clock.{IsDateOf, internet_time, late_month, log_time, month_number};
+ghost use Rattle.access_log.specs.Text.{IsPrintable};
 
+use crate::text::OpenLine;
 use httpdate::HttpDate;
 use std::alloc::AllocError;
 
@@ -64,31 +66,33 @@ fn late_month(name: &[u8]) -> u8
 /// Appends a date as access logs write it, as in `26/Nov/2026:16:18:10 +0000`.
 ///
 /// Source: Apache's module mod_log_config, "%t".
-pub(crate) fn push_log_time(line: &mut Vec<u8>, date: &[u8; 29]) -> Result<(), AllocError>
-    ensures { OnOk result (line.new.items ≡ line.old.items ++ log_time date.now) }
+pub(crate) fn push_log_time(line: &mut OpenLine, date: &[u8; 29]) -> Result<(), AllocError>
+    requires { IsPrintable date.now }
+    ensures { OnOk result (line.new ≡ line.old ++ log_time date.now) }
 {
-    line.extend_from_slice(&date[5..7])?;
-    line.extend_from_slice(b"/")?;
-    line.extend_from_slice(&date[8..11])?;
-    line.extend_from_slice(b"/")?;
-    line.extend_from_slice(&date[12..16])?;
-    line.extend_from_slice(b":")?;
-    line.extend_from_slice(&date[17..25])?;
-    line.extend_from_slice(b" +0000")
+    line.push(&date[5..7])?;
+    line.push(b"/")?;
+    line.push(&date[8..11])?;
+    line.push(b"/")?;
+    line.push(&date[12..16])?;
+    line.push(b":")?;
+    line.push(&date[17..25])?;
+    line.push(b" +0000")
 }
 
 /// Appends a date as in `2026-11-26T16:18:10Z`.
 ///
 /// Source: RFC 3339, "Internet Date/Time Format".
 #[tactic(auto, unfolding(crate::specs::Clock::internet_time))]
-pub(crate) fn push_internet_time(line: &mut Vec<u8>, date: &[u8; 29]) -> Result<(), AllocError>
-    ensures { OnOk result (line.new.items ≡ line.old.items ++ internet_time date.now) }
+pub(crate) fn push_internet_time(line: &mut OpenLine, date: &[u8; 29]) -> Result<(), AllocError>
+    requires { IsPrintable date.now }
+    ensures { OnOk result (line.new ≡ line.old ++ internet_time date.now) }
 {
     let month = month_number(&date[8..11]);
-    line.extend_from_slice(&date[12..16])?;
-    line.extend_from_slice(&[b'-', b'0' + month / 10, b'0' + month % 10, b'-'])?;
-    line.extend_from_slice(&date[5..7])?;
-    line.extend_from_slice(b"T")?;
-    line.extend_from_slice(&date[17..25])?;
-    line.extend_from_slice(b"Z")
+    line.push(&date[12..16])?;
+    line.push(&[b'-', b'0' + month / 10, b'0' + month % 10, b'-'])?;
+    line.push(&date[5..7])?;
+    line.push(b"T")?;
+    line.push(&date[17..25])?;
+    line.push(b"Z")
 }

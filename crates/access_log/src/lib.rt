@@ -9,9 +9,11 @@ mod line;
 mod parts;
 mod queue;
 mod record;
+mod text;
 
 pub use clock::date_of;
 pub use format::LogFormat;
 pub use line::{line_of, report_of};
 pub use queue::LineQueue;
 pub use record::{Fault, Reason, RequestRecord, Version};
+pub use text::LogLine;

@@ -1,11 +1,14 @@
 //! The bytes of lines that wait until they are written.
 
-ghost use Rattle.std.specs.Prelude.{◌≡◌, min, not, length, take, OnOk, OnErr, if◌then◌else◌};
+ghost use Rattle.std.specs.Prelude.{◌≡◌, not, length, take, OnOk, OnErr, if◌then◌else◌};
+ghost use Rattle.access_log.specs.Text.{IsLogText};
 
 use crate::format::LogFormat;
 use crate::line::report_of;
+use crate::text::LogLine;
 use std::alloc::{AllocError, Global};
 use std::marker::Model;
+use std::str;
 
 // A write is due as soon as so many bytes wait,
 const CHUNK: usize = 4_096;
@@ -35,16 +38,17 @@ pub struct LineQueue {
 impl Model for LineQueue {
     ghost use Rattle.std.specs.Prelude.{vec_len, drop, ◌≤◌};
     ghost use Rattle.access_log.specs.Queued.{Queued};
+    ghost use Rattle.access_log.specs.Text.{IsLogText};
 
     ghost Value = { Queued };
 
     ghost view = { λ q. record { waiting = drop q.start q.bytes.items; most = q.most; lost = q.lost; lost_in_all = q.lost_in_all; is_written = q.is_written; begun_at = q.begun_at } };
 
-    ghost invariant = { λ q. q.start ≤ vec_len q.bytes };
+    ghost invariant = { λ q. (q.start ≤ vec_len q.bytes) × IsLogText (drop q.start q.bytes.items) };
 }
 
 impl LineQueue {
-    ghost use Rattle.access_log.specs.Queue.{Tells, begun, begun_at, empty, fits, is_due, kept, lost_one, may_begin, stopped, taken};
+    ghost use Rattle.access_log.specs.Queue.{Tells, TellsLost, begun, begun_at, empty, fits, is_due, kept, lost_one, may_begin, stopped, taken};
 
     /// A queue in which this many bytes may wait. Takes no memory.
     pub fn new(alloc: Global, most: usize) -> LineQueue
@@ -69,21 +73,41 @@ impl LineQueue {
         alloc: Global,
         format: LogFormat,
         second: u64,
-        line: &[u8],
+        line: &LogLine,
     ) -> Result<(), AllocError>
         ensures ok { OnOk result (Tells format second line.now self.old self.new) }
         ensures err { OnErr result (self.new ≡ self.old) }
     {
         if self.lost == 0 {
-            return self.keep(line);
+            return self.keep(line.as_bytes());
         }
-        let mut text = report_of(alloc, format, second, self.lost)?;
-        text.extend_from_slice(line)?;
+        let report = report_of(alloc, format, second, self.lost)?;
+        let mut text = Vec::from_slice(alloc, report.as_bytes())?;
+        text.extend_from_slice(line.as_bytes())?;
         self.keep(text.as_slice())
+    }
+
+    /// The line that says how many were lost is to be written, if some were. Where there is no room for it, it is lost
+    /// too. The only refusal is running out of memory, which changes nothing.
+    pub fn tell_lost(
+        &mut self,
+        alloc: Global,
+        format: LogFormat,
+        second: u64,
+    ) -> Result<(), AllocError>
+        ensures ok { OnOk result (TellsLost format second self.old self.new) }
+        ensures err { OnErr result (self.new ≡ self.old) }
+    {
+        if self.lost > 0 {
+            let report = report_of(alloc, format, second, self.lost)?;
+            return self.keep(report.as_bytes());
+        }
+        Ok(())
     }
 
     // Has bytes wait that tell of all that was lost, if there is room for them.
     fn keep(&mut self, text: &[u8]) -> Result<(), AllocError>
+        requires { IsLogText text.now }
         ensures ok { OnOk result (self.new ≡ (if fits text.now self.old then kept text.now self.old else lost_one self.old)) }
         ensures err { OnErr result (self.new ≡ self.old) }
     {
@@ -159,22 +183,22 @@ impl LineQueue {
         is_free
     }
 
-    /// Takes the first bytes that wait, as many as there are and as the chunk holds, and returns their number. Where
-    /// there are none, the caller has stopped writing.
-    pub fn take(&mut self, chunk: &mut [u8]) -> usize
-        ensures count { result ≡ min (length chunk.old) (length self.old.waiting) }
-        ensures bytes { take result chunk.new ≡ take result self.old.waiting }
-        ensures rest { self.new ≡ taken result self.old }
+    /// Takes the first bytes that wait, as many as there are and as the chunk holds, and returns them as a text, since
+    /// all that waits is ASCII. Where there are none, the caller has stopped writing.
+    pub fn take<'a>(&mut self, chunk: &'a mut [u8]) -> &'a str
+        ensures text { result.now ≡ take (length chunk.old) self.old.waiting }
+        ensures ascii { IsLogText result.now }
+        ensures rest { self.new ≡ taken (length result.now) self.old }
     {
         let count = chunk.len().min(self.bytes.len() - self.start);
         if count == 0 {
             self.stop();
-            return 0;
+            return "";
         }
         let end = self.start + count;
         chunk[..count].copy_from_slice(&self.bytes[self.start..end]);
         self.start = end;
-        count
+        as_text(&chunk[..count])
     }
 
     /// The caller writes no more.
@@ -183,4 +207,12 @@ impl LineQueue {
     {
         self.is_written = false;
     }
+}
+
+// ASCII is UTF-8.
+fn as_text(bytes: &[u8]) -> &str
+    requires { IsLogText bytes.now }
+    ensures { result.now ≡ bytes.now }
+{
+    str::from_utf8(bytes).unwrap()
 }

@@ -1,11 +1,10 @@
 //! The log of requests, on standard error.
 
 use crate::readiness::is_writable;
-use access_log::{LineQueue, LogFormat, line_of};
+use access_log::{LineQueue, LogFormat, LogLine, line_of};
 use hyper_edge::RequestRecord;
 use std::alloc::{AllocError, AllocGlobal, Global};
 use std::io::Eprint;
-use std::str;
 use std::sync::{Mutex, Wait};
 use std::time::Clock;
 
@@ -62,7 +61,7 @@ impl AccessLog {
         };
         let second = seconds(rt);
         let is_due = match line_of(rt.alloc(), format, second, record) {
-            Ok(line) => self.tell(rt, format, second, Ok(line.as_slice())),
+            Ok(line) => self.tell(rt, format, second, Ok(&line)),
             Err(_) => self.tell(rt, format, second, Err(AllocError)),
         };
         if is_due {
@@ -82,8 +81,8 @@ impl AccessLog {
         let Some(format) = self.format else {
             return;
         };
-        // With no line, only what was lost is told.
-        let _ = self.tell(rt, format, seconds(rt), Ok(&[]));
+        let second = seconds(rt);
+        let _ = self.queue.lock(rt).tell_lost(rt.alloc(), format, second);
         // Nobody else writes any longer.
         self.write(rt, PATIENCE_MILLIS);
     }
@@ -95,7 +94,7 @@ impl AccessLog {
         rt: &R,
         format: LogFormat,
         second: u64,
-        line: Result<&[u8], AllocError>,
+        line: Result<&LogLine, AllocError>,
     ) -> bool {
         let now = millis(rt);
         let mut queue = self.queue.lock(rt);
@@ -117,15 +116,13 @@ impl AccessLog {
             if !is_writable(patience) {
                 break;
             }
-            let count = self.queue.lock(rt).take(&mut chunk);
-            if count == 0 {
+            let text = self.queue.lock(rt).take(&mut chunk);
+            if text.is_empty() {
                 return;
             }
-            // Lines are ASCII. What can't be written is dropped, since nobody reads it.
-            if let Ok(text) = str::from_utf8(&chunk[..count]) {
-                let _ = eprint!(rt; "{text}");
-            }
-            if count < CHUNK {
+            // What can't be written is dropped, since nobody reads it.
+            let _ = eprint!(rt; "{text}");
+            if text.len() < CHUNK {
                 break;
             }
         }
