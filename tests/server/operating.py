@@ -28,7 +28,7 @@ class Desk:
         self.port = int(found.group(1))
 
     def ask(self, target, method="GET", **rest_of_it):
-        return get(self, target, method=method, **rest_of_it)
+        return get(self, target, method=method, **dict({"host": "127.0.0.1:%d" % self.port}, **rest_of_it))
 
 
 def health_is_told_while_all_threads_are_at_work():
@@ -68,6 +68,45 @@ def what_else_is_asked_is_refused():
         same("a long path", 404, desk.ask("/" + "x" * 4000).status)
         same("no HTTP", True, exchange(desk, b"nothing of HTTP\r\n\r\n").startswith(b"HTTP/1.1 400 "))
         same("it still runs", None, edge.process.poll())
+
+
+def what_another_site_has_a_browser_send_is_refused():
+    """What a page of another site makes the operator's browser send, and what comes by a name that isn't the server's, is answered
+    403 whatever it asks for, and does nothing; what programs send is answered, by any address of the server and by its names."""
+    with Edge(*ADMIN, "--admin-host", "edge.internal,Edge-1") as edge:
+        desk = Desk(edge)
+        here, evil = "127.0.0.1:%d" % desk.port, "evil.test:%d" % desk.port
+        cross = "sec-fetch-site: cross-site|"
+        foreign = (
+            ("a form", "POST", "/purge?prefix=http://", here, "origin: http://evil.test|" + cross),
+            ("a form that stops", "POST", "/stop?grace=0", here, "origin: http://evil.test|" + cross + "content-length: 0|"),
+            ("a browser without the second field", "POST", "/stop", here, "origin: http://evil.test|"),
+            ("a sandboxed frame", "POST", "/stop", here, "origin: null|" + cross),
+            ("a rebound name", "POST", "/stop", evil, "origin: http://%s|sec-fetch-site: same-origin|" % evil),
+            ("a rebound name that reads", "GET", "/metrics", evil, "sec-fetch-site: same-origin|"),
+            ("a name without other fields", "GET", "/metrics", "evil.test", ""),
+            ("an image", "GET", "/metrics", here, cross), ("a page of the same site", "GET", "/", here, "Sec-Fetch-Site: same-site|"),
+            ("a preflight", "OPTIONS", "/stop", here, "origin: http://evil.test|access-control-request-method: POST|"),
+            ("another path", "GET", "/x", here, cross),
+            ("an address within a name", "GET", "/health", "127.0.0.1.evil.test", ""), ("a name below localhost", "GET", "/health", "localhost.evil.test", ""),
+            ("a name in brackets", "GET", "/health", "[evil.test]", ""), ("half an address", "GET", "/health", "127.0.0", ""),
+            ("no host in the field", "GET", "/health", "", ""), ("half a list", "GET", "/health", "edge.internal,edge-1", ""),
+        )
+        for what, method, target, host, fields in foreign:
+            came = desk.ask(target, method, host=host, fields=wire(fields).decode())
+            same(what, (403, "text/plain", b"forbidden: "), (came.status, came.fields["content-type"], came.body[:11]))
+        hosts = (here, "127.0.0.1", "localhost:%d" % desk.port, "LocalHost", "[::1]:%d" % desk.port, "[::1]", "192.0.2.7:1", "edge.internal", "EDGE.internal:9081", "edge-1")
+        for host in hosts:
+            same(host, b"ok\n", desk.ask("/health", host=host).body)
+        for site in ("none", "same-origin"):
+            same(site, 200, desk.ask("/", fields="Sec-Fetch-Site: %s\r\n" % site).status)
+        same("no host, by HTTP/1.0", b"ok\n", Response(exchange(desk, b"GET /health HTTP/1.0\r\n\r\n")).body)
+        for hosts in (b"", b"host: 127.0.0.1\r\nhost: evil.test\r\n"):
+            same("none, or two, by HTTP/1.1", 400, Response(exchange(desk, b"GET /health HTTP/1.1\r\n%s\r\n" % hosts)).status)
+        same("it still runs", None, edge.process.poll())
+        same("a stop", b"stopping\n", desk.ask("/stop", "POST", host="edge-1").body)
+    with Edge(*ADMIN) as edge:
+        same("no name", 403, Desk(edge).ask("/health", host="edge.internal").status)
 
 
 def nobody_holds_the_operator_up():
@@ -514,6 +553,7 @@ def a_used_operators_address_is_told():
 TESTS = (
     health_is_told_while_all_threads_are_at_work,
     what_else_is_asked_is_refused,
+    what_another_site_has_a_browser_send_is_refused,
     nobody_holds_the_operator_up,
     what_was_answered_is_counted,
     a_fetch_for_many_is_counted_once,

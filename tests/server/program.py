@@ -61,6 +61,9 @@ def usage_is_told():
         ["--client-timeout", "-"], ["--client-timeout", "86400001"], ["--keep-alive", "5s"], ["--keep-alive", "86401"],
         ["--threads", "0"], ["--threads", "65"], ["--connections", "0"], ["--connections", "65537"], ["--head", "x"], ["--head=yes"], ["--abort-on-close", "x"], ["--abort-on-close", "--abort-on-close"], ["--stop-with-input", "x"], ["--log", "x"], ["--log=yes"], ["--log", "--log"], ["--log-format"], ["--log-format", "JSON"], ["--log-format="],
         ["--admin", "127.0.0.1"], ["--admin", "localhost:1"], ["--admin="],
+        ["--admin-host", "edge.internal"], ["--admin", "127.0.0.1:0", "--admin-host="], ["--admin", "127.0.0.1:0", "--admin-host", "a,"],
+        ["--admin", "127.0.0.1:0", "--admin-host", "a b"], ["--admin", "127.0.0.1:0", "--admin-host", "edge.internal:9081"],
+        ["--admin", "127.0.0.1:0", "--admin-host", "*"], ["--admin", "127.0.0.1:0", "--admin-host", "a", "--admin-host", "b"],
         ["--forwarded", ""], ["--forwarded", "a b"], ["--forwarded", "f" * 65],
     )]
     for words in rows:

@@ -80,3 +80,4 @@ pub record IsServerOf (setup : Setup) (server : Server) : Type 0 where
   pub close_is : server.aborts_on_close ≡ setup.serving.aborts_on_close
   pub log_is : server.log ≡ setup.serving.log
   pub forwarded_is : server.forwarded ≡ setup.forwarded
+  pub hosts_are : server.admin_hosts ≡ setup.admin_hosts

@@ -73,15 +73,23 @@ pub(crate) struct Operator {
 }
 
 impl Operator {
-    /// One that is answered at this address, port 0 for a free one.
-    pub(crate) fn at<R>(rt: &R, address: SocketAddr) -> Result<Operator, Status>
+    /// One that is answered at this address, port 0 for a free one, also by these names of hosts, with commas between.
+    pub(crate) fn at<R>(
+        rt: &R,
+        address: SocketAddr,
+        names: Option<Vec<u8>>,
+    ) -> Result<Operator, Status>
     where
         R: AllocGlobal + Clock + RandomSource,
         R: Net<Stream = TcpStream, Listener = TcpListener>,
     {
         let (listener, address) = bound(rt, address)?;
+        let names = match names {
+            Some(names) => names,
+            None => Vec::new(rt.alloc()),
+        };
         Ok(Operator {
-            listener: OperatorListener::new(rt, listener)?,
+            listener: OperatorListener::new(rt, listener, names)?,
             address,
         })
     }

@@ -101,6 +101,7 @@ pub(crate) fn server_of(setup: Setup) -> Server
         serving,
         name,
         forwarded,
+        admin_hosts,
     } = setup;
     let client = limit_of(serving.client_timeout);
     let how = Assembling::new(pages.ahead, pages.workers, pages.levels);
@@ -135,5 +136,6 @@ pub(crate) fn server_of(setup: Setup) -> Server
         aborts_on_close: serving.aborts_on_close,
         log: serving.log,
         forwarded,
+        admin_hosts,
     }
 }

@@ -56,6 +56,8 @@ pub(crate) struct Server {
     pub log: Option<LogFormat>,
     /// The name of the field by which a trusted proxy names the client to log, where there is one.
     pub forwarded: Option<Vec<u8>>,
+    /// The names of hosts by which its operator may ask, with commas between, where there are some.
+    pub admin_hosts: Option<Vec<u8>>,
     ghost some_capacity: { 1 ≤ capacity },
     ghost few_capacity: { capacity ≤ 1024 },
 }

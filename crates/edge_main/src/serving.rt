@@ -57,6 +57,7 @@ where
         aborts_on_close,
         log,
         forwarded,
+        admin_hosts,
     } = server;
     let source = named(rt, source_of(rt, origins, fetches)?, name.as_ref())?;
     let notes = source.notes()?;
@@ -72,6 +73,7 @@ where
     let service = service_of(rt, owner_of(&cache)?, manner)?;
     let front = Front {
         addresses,
+        admin_hosts,
         clients,
         stops_with_input,
         log,
@@ -85,6 +87,7 @@ where
 #[derive(Drop)]
 struct Front {
     addresses: Addresses,
+    admin_hosts: Option<Vec<u8>>,
     clients: Limits,
     stops_with_input: bool,
     log: Option<LogFormat>,
@@ -98,14 +101,15 @@ fn served<R>(
     service: &EdgeService<Kept, R>,
     notes: Arc<FetchNotes>,
     cache: Arc<Kept>,
-    front: Front,
+    mut front: Front,
 ) -> Result<ServeEnd, Status>
 where
     R: ServerRuntime + Files<File = File> + Print + Eprint + Send + Sync,
     R: Net<Stream = TcpStream, Listener = TcpListener>,
 {
+    let names = front.admin_hosts.take();
     let operator = match front.addresses.admin {
-        Some(address) => Some(Operator::at(rt, address)?),
+        Some(address) => Some(Operator::at(rt, address, names)?),
         None => None,
     };
     let input = EndOfInput::of(rt, front.stops_with_input)?;

@@ -4,12 +4,13 @@ use Rattle.clap.specs.Words.{App, new_app, with_rule}
 use Rattle.edge_setup.specs.Numbers.{capacity, client_timeout, connections, fetches, keep_alive, levels, numeric_option, origin_fetches, origin_keep_alive, origin_rest, page_bytes, page_timeout, threads, timeout, url_rest, workers}
 use Rattle.edge_setup.specs.Rules.{named_flag, named_option, repeated, wanted}
 
--- where the server listens, which origins it asks, and where it answers its operator
+-- where the server listens, which origins it asks, and where it answers its operator, by which names
 abbrev pub with_addresses : App → App
-with_addresses command = with_rule (with_rule (with_rule command
+with_addresses command = with_rule (with_rule (with_rule (with_rule command
     (wanted (named_option (codes "listen"))))
     (repeated (named_option (codes "origin"))))
-    (named_option (codes "admin"))
+    (named_option (codes "admin")))
+    (named_option (codes "admin-host"))
 
 -- how pages are assembled and kept
 abbrev pub with_pages : App → App

@@ -1,7 +1,7 @@
 -- What the options of `serve` mean, by the rows of `clap`'s matches.
-use Rattle.std.specs.Prelude.{◌≡◌, ◌⊎◌, ◌≤◌, ℕ, ◌<◌, Bool, true, false, ◌&&◌, ◌||◌, bytes_eq, nat_le, List, [], ◌∷◌, map, take, length, get_or, codes, Option, Some, None, option_map, IsSome, MatchOption, if◌then◌else◌}
+use Rattle.std.specs.Prelude.{◌≡◌, ◌⊎◌, ◌≤◌, ℕ, ◌<◌, Bool, true, false, ◌&&◌, ◌||◌, bytes_eq, nat_le, List, [], ◌∷◌, map, take, length, get_or, codes, Option, Some, None, option_map, is_some, ◌==◌, IsSome, MatchOption, if◌then◌else◌}
 use Rattle.std.specs.Str.{byte}
-use Rattle.std.specs.List.{list_any}
+use Rattle.std.specs.List.{list_all, list_any, slice_split}
 use Rattle.std.specs.Option.{option_map_or}
 use Rattle.std.specs.Net.Grammar.{IsSocketText}
 use Rattle.std.specs.declared.net.socket_addr.SocketAddr.{SocketAddr}
@@ -12,7 +12,7 @@ use Rattle.edge_types.specs.Halves.{around}
 use Rattle.decimals.specs.Decimal.{decimal_of}
 use Rattle.edge_setup.specs.Numbers.{Numeric, ahead, ahead_said, capacity, client_timeout, connections, fetches, keep_alive, levels, origin_fetches, origin_keep_alive, origin_rest, page_bytes, page_timeout, said_of, threads, timeout, url_rest, workers}
 use Rattle.surrogate_headers.specs.Token.{is_token}
-use Rattle.edge_setup.specs.OriginWord.{is_authority, IsFaultOf, IsPlace}
+use Rattle.edge_setup.specs.OriginWord.{is_authority, is_name, IsFaultOf, IsPlace}
 use Rattle.edge_setup.specs.OriginWord.{refusal_of as origin_refusal}
 use Rattle.edge_setup.specs.declared.origin.OriginFault.{OriginFault}
 use Rattle.edge_setup.specs.declared.origin.OriginFault.TheVariants as origin_fault
@@ -70,6 +70,24 @@ log_said rows = log_of (is_set (first_of (codes "log") rows)) (first_of (codes "
 abbrev pub token_of : Option Text → Option (Option Text)
 token_of None = Some None
 token_of (Some word) = if is_token word && nat_le (length word) 64 then Some (Some word) else None
+
+-- ---- the operator's hosts
+
+abbrev pub is_comma : ℕ → Bool
+is_comma b = b == byte ","
+
+-- names of hosts, with commas between
+unfoldable pub are_hosts : Text → Bool
+are_hosts text = list_all is_name (slice_split is_comma text)
+
+-- the names of hosts that a word writes, where the operator is answered; without a word there are none
+abbrev pub hosts_of : Bool → Option Text → Option (Option Text)
+hosts_of has_admin None = Some None
+hosts_of has_admin (Some word) = if has_admin && are_hosts word then Some (Some word) else None
+
+-- the names that the options give
+abbrev pub hosts_said : List Row → Option (Option Text)
+hosts_said rows = hosts_of (is_some (first_of (codes "admin") rows)) (first_of (codes "admin-host") rows)
 
 -- ---- addresses
 
@@ -174,10 +192,11 @@ pub record SaysServing (rows : List Row) (serving : Serving) : Type 0 where
   pub close_is : is_set (first_of (codes "abort-on-close") rows) ≡ serving.aborts_on_close
   pub log_is : log_said rows ≡ Some serving.log
 
--- the names of the edge and of the field by which a proxy names clients
+-- the names of the edge, of the field by which a proxy names clients, and of the operator's hosts
 pub record SaysTokens (rows : List Row) (tokens : Tokens) : Type 0 where
   pub name_is : token_of (first_of (codes "name") rows) ≡ Some (option_map (λ name. name.now) tokens.name)
   pub forwarded_is : token_of (first_of (codes "forwarded") rows) ≡ Some (option_map (λ field. field.now) tokens.forwarded)
+  pub hosts_are : hosts_said rows ≡ Some (option_map (λ hosts. hosts.now) tokens.hosts)
 
 -- what the options ask for
 pub record SaysSetup (rows : List Row) (setup : Setup) : Type 0 where
@@ -188,6 +207,7 @@ pub record SaysSetup (rows : List Row) (setup : Setup) : Type 0 where
   pub serving_is : SaysServing rows setup.serving
   pub name_is : token_of (first_of (codes "name") rows) ≡ Some (option_map (λ name. name.items) setup.name)
   pub forwarded_is : token_of (first_of (codes "forwarded") rows) ≡ Some (option_map (λ field. field.items) setup.forwarded)
+  pub hosts_are : hosts_said rows ≡ Some (option_map (λ hosts. hosts.items) setup.admin_hosts)
 
 -- the value of an option is invalid
 abbrev pub IsWrong : List Row → Named → Type 0
@@ -215,6 +235,7 @@ IsWrong rows named.Connections = said_of connections rows ≡ None
 IsWrong rows named.LogFormat = log_said rows ≡ None
 IsWrong rows named.Name = token_of (first_of (codes "name") rows) ≡ None
 IsWrong rows named.Forwarded = token_of (first_of (codes "forwarded") rows) ≡ None
+IsWrong rows named.AdminHost = hosts_said rows ≡ None
 
 -- the values of these options are valid
 abbrev pub HasListen : List Row → Type 0
@@ -256,8 +277,11 @@ HasName rows = IsSome (token_of (first_of (codes "name") rows))
 abbrev pub HasForwarded : List Row → Type 0
 HasForwarded rows = IsSome (token_of (first_of (codes "forwarded") rows))
 
+abbrev pub HasHosts : List Row → Type 0
+HasHosts rows = IsSome (hosts_said rows)
+
 abbrev pub HasTokens : List Row → Type 0
-HasTokens rows = HasName rows × HasForwarded rows
+HasTokens rows = HasName rows × HasForwarded rows × HasHosts rows
 
 -- the values of the options that are read before this one are valid
 abbrev pub AreValidBefore : List Row → Named → Type 0
@@ -284,6 +308,7 @@ AreValidBefore rows named.Connections = HasAddresses rows × HasPages rows × Ha
 AreValidBefore rows named.LogFormat = HasAddresses rows × HasPages rows × HasFetching rows × HasAccepts rows × Has client_timeout rows × Has keep_alive rows × Has threads rows × Has connections rows
 AreValidBefore rows named.Name = HasAddresses rows × HasPages rows × HasFetching rows × HasServing rows
 AreValidBefore rows named.Forwarded = HasAddresses rows × HasPages rows × HasFetching rows × HasServing rows × HasName rows
+AreValidBefore rows named.AdminHost = HasAddresses rows × HasPages rows × HasFetching rows × HasServing rows × HasName rows × HasForwarded rows
 AreValidBefore rows (named.Origin fault) = HasAddresses rows × HasPages rows × HasFetching rows × HasServing rows × HasTokens rows
 
 -- this is the first option, in the order of reading, whose value is invalid
@@ -317,6 +342,7 @@ refusal_of named.Connections = connections.refusal
 refusal_of named.LogFormat = codes "error: --log-format takes line, combined or json"
 refusal_of named.Name = codes "error: --name takes 1 to 64 letters, digits and marks of a token, as edge-1"
 refusal_of named.Forwarded = codes "error: --forwarded takes the name of a field, as x-forwarded-for"
+refusal_of named.AdminHost = codes "error: --admin-host takes names of hosts with commas between, as edge.internal,edge-1, beside --admin"
 
 -- why the options are refused
 abbrev pub IsRefusedBy : List Row → SetupFault → Type 0

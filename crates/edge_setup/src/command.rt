@@ -37,7 +37,7 @@ fn without_file<'a>(alloc: Global) -> Result<Command<'a>, AllocError>
     with_reports(alloc, command)
 }
 
-// Where the server listens, which origins it asks, and where it answers its operator.
+// Where the server listens, which origins it asks, and where it answers its operator, by which names.
 fn with_addresses<'a>(alloc: Global, command: Command<'a>) -> Result<Command<'a>, AllocError>
     ensures app { IfOk result (λ more. app_of more ≡ with_addresses (app_of command.entry)) }
     ensures local { IfOk result (λ more. (fields_of more).has_globals ≡ (fields_of command.entry).has_globals) }
@@ -62,9 +62,16 @@ fn with_addresses<'a>(alloc: Global, command: Command<'a>) -> Result<Command<'a>
         "ADDR",
         "Where to answer the operator, as 127.0.0.1:9090: GET /, /health, /metrics; POST /purge, /stop",
     );
+    let admin_host = option(
+        alloc,
+        "admin-host",
+        "NAMES",
+        "Names of hosts, with commas between, by which the operator may ask at --admin besides IP addresses and localhost",
+    );
     let command = with_option(command, listen)?;
     let command = with_option(command, origin)?;
-    with_option(command, admin)
+    let command = with_option(command, admin)?;
+    with_option(command, admin_host)
 }
 
 // How pages are assembled and kept.

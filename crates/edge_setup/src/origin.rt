@@ -143,8 +143,8 @@ fn is_all_name(text: &[u8]) -> bool
     text.iter().all(|byte| is_name_byte(*byte))
 }
 
-// Whether a text is the name of a host.
-fn is_name(text: &[u8]) -> bool
+/// Whether a text is the name of a host.
+pub(crate) fn is_name(text: &[u8]) -> bool
     ensures { result ≡ spec.is_name text.now }
 {
     !text.is_empty() && is_all_name(text)

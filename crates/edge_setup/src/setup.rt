@@ -108,6 +108,8 @@ pub struct Setup {
     pub name: Option<Vec<u8>>,
     /// The name of the field by which a trusted proxy names the client, a token of at most 64 bytes, where there is one.
     pub forwarded: Option<Vec<u8>>,
+    /// The names of hosts by which the operator may ask, with commas between, where there are some.
+    pub admin_hosts: Option<Vec<u8>>,
 }
 
 /// The options of `serve` whose values may be invalid.
@@ -161,6 +163,8 @@ pub enum Named {
     Name,
     /// `--forwarded`: not the name of a field, or too long.
     Forwarded,
+    /// `--admin-host`: not names of hosts, or nowhere to ask by them.
+    AdminHost,
 }
 
 impl Named {
@@ -194,6 +198,8 @@ impl Named {
             Named::Name =>
                 "error: --name takes 1 to 64 letters, digits and marks of a token, as edge-1",
             Named::Forwarded => "error: --forwarded takes the name of a field, as x-forwarded-for",
+            Named::AdminHost =>
+                "error: --admin-host takes names of hosts with commas between, as edge.internal,edge-1, beside --admin",
         }
     }
 }

@@ -3,12 +3,13 @@ ghost use Rattle.std.specs.Prelude.{◌≡◌, ◌≤◌, option_map, IfNone, If
 ghost use Rattle.std.specs.declared.net.socket_addr.SocketAddr.{SocketAddr};
 ghost use Rattle.clap.specs.Words.{first_of, found_of, rows_of};
 ghost use Rattle.edge_setup.specs.Numbers.{ahead_said};
-ghost use Rattle.edge_setup.specs.Words.{accepts_of, is_set, log_of, log_said, queue_of, token_of, IsAddress, IsAdmin, IsNoAdmin, HasAddresses, HasFetching, HasPages, HasServing, IsFirstWrong, IsRefusedBy, IsWithin, SaysAddresses, SaysFetching, SaysPages, SaysServing, SaysSetup, SaysTokens};
+ghost use Rattle.edge_setup.specs.Words.{accepts_of, are_hosts, hosts_of, hosts_said, is_comma, is_set, log_of, log_said, queue_of, token_of, IsAddress, IsAdmin, IsNoAdmin, HasAddresses, HasFetching, HasPages, HasServing, IsFirstWrong, IsRefusedBy, IsWithin, SaysAddresses, SaysFetching, SaysPages, SaysServing, SaysSetup, SaysTokens};
 
 use crate::number::{
     AHEAD, CAPACITY, CLIENT_TIMEOUT, CONNECTIONS, FETCHES, KEEP_ALIVE, LEVELS, ORIGIN_FETCHES,
     ORIGIN_KEEP_ALIVE, ORIGIN_REST, PAGE_BYTES, PAGE_TIMEOUT, THREADS, TIMEOUT, URL_REST, WORKERS,
 };
+use crate::origin::is_name;
 use crate::origins::origins_of;
 use crate::setup::{Addresses, Fetching, Named, Pages, Serving, Setup, SetupFault};
 use access_log::LogFormat;
@@ -74,6 +75,41 @@ fn copy_of(alloc: Global, token: Option<&str>) -> Result<Option<Vec<u8>>, AllocE
         Some(token) => Ok(Some(token.as_bytes().to_vec(alloc)?)),
         None => Ok(None),
     }
+}
+
+fn is_comma(byte: u8) -> bool
+    ensures { result ≡ is_comma byte }
+{
+    byte == b','
+}
+
+// Whether a text is names of hosts, with commas between.
+fn are_hosts(text: &[u8]) -> bool
+    ensures { result ≡ are_hosts text.now }
+{
+    text.split(|byte| is_comma(*byte)).all(|name| is_name(name))
+}
+
+// The names of hosts that a word writes, where there is one; `None` if it writes none, or the operator isn't answered.
+fn hosts_of(has_admin: bool, word: Option<&str>) -> Option<Option<&str>>
+    ensures { option_map (λ hosts. option_map (λ h. h.now) hosts) result ≡ hosts_of has_admin (option_map (λ w. w.now) word.entry) }
+{
+    let Some(hosts) = word else {
+        return Some(None);
+    };
+    if has_admin && are_hosts(hosts.as_bytes()) {
+        Some(Some(hosts))
+    } else {
+        None
+    }
+}
+
+// The names of hosts by which the operator may ask.
+fn hosts_said<'a>(matches: &ArgMatches<'a>) -> Option<Option<&'a str>>
+    ensures { option_map (λ hosts. option_map (λ h. h.now) hosts) result ≡ hosts_said (rows_of (found_of matches.now)) }
+{
+    let has_admin = word_of(matches, "admin").is_some();
+    hosts_of(has_admin, word_of(matches, "admin-host"))
 }
 
 // The address that a word writes.
@@ -217,11 +253,12 @@ fn serving_of(matches: &ArgMatches<'_>) -> Result<Serving, Named>
     })
 }
 
-/// What the options name: the edge, and the field by which a proxy names clients.
+/// What the options name: the edge, the field by which a proxy names clients, and the hosts by which the operator may ask.
 #[derive(Clone, Copy)]
 pub(crate) struct Tokens<'a> {
     name: Option<&'a str>,
     forwarded: Option<&'a str>,
+    hosts: Option<&'a str>,
 }
 
 // What the options name.
@@ -232,6 +269,7 @@ fn tokens_of<'a>(matches: &ArgMatches<'a>) -> Result<Tokens<'a>, Named>
     Ok(Tokens {
         name: token_of(word_of(matches, "name")).ok_or(Named::Name)?,
         forwarded: token_of(word_of(matches, "forwarded")).ok_or(Named::Forwarded)?,
+        hosts: hosts_said(matches).ok_or(Named::AdminHost)?,
     })
 }
 
@@ -260,5 +298,6 @@ pub fn setup_of(alloc: Global, matches: &ArgMatches<'_>) -> Result<Setup, SetupF
         serving,
         name: copy_of(alloc, tokens.name)?,
         forwarded: copy_of(alloc, tokens.forwarded)?,
+        admin_hosts: copy_of(alloc, tokens.hosts)?,
     })
 }

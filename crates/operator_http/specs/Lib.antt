@@ -1,3 +1,4 @@
+pub mod Foreign
 pub mod Operator
 pub mod Purged
 pub mod Stopped

@@ -41,6 +41,7 @@ Fits wanted query told.NoPurge = (wanted ≡ asked.Purge) × (purged_by query �
 Fits wanted query told.OtherPath = wanted ≡ asked.OtherPath
 Fits wanted query told.NotRead = wanted ≡ asked.NotRead
 Fits wanted query told.NotPosted = wanted ≡ asked.NotPosted
+Fits wanted query told.Foreign = wanted ≡ asked.Foreign
 
 -- the type of the body
 abbrev pub typed : FieldValue → Entry FieldValue
@@ -87,6 +88,7 @@ Says told.NoPurge response = Sends 400 (plain ∷ []) (codes "url= or prefix= is
 Says told.OtherPath response = Sends 404 (plain ∷ []) (codes "not found\n") response
 Says told.NotRead response = Sends 405 (plain ∷ allow (plain_value (codes "GET, HEAD")) ∷ []) (codes "method not allowed\n") response
 Says told.NotPosted response = Sends 405 (plain ∷ allow (plain_value (codes "POST")) ∷ []) (codes "method not allowed\n") response
+Says told.Foreign response = Sends 403 (plain ∷ []) (codes "forbidden: ask by an IP address, localhost or a name of --admin-host, and from no page of another site\n") response
 
 -- the response says what fits
 abbrev pub Answers : Asked → List ℕ → Response (Full (List ℕ)) → Type 0

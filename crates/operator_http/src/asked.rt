@@ -22,6 +22,8 @@ pub enum Asked {
     NotRead,
     /// Nothing: the path is one that does something, and the method isn't POST.
     NotPosted,
+    /// Nothing: the request isn't the operator's own.
+    Foreign,
 }
 
 /// What a request with this method and this path asks for: `/`, `/health` and `/metrics` are read by GET and HEAD, POST

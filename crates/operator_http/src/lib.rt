@@ -5,6 +5,7 @@
 
 mod asked;
 mod clock;
+mod foreign;
 mod grace;
 mod listener;
 mod operated;
@@ -16,6 +17,7 @@ mod stream;
 mod told;
 
 pub use asked::{Asked, asked_by};
+pub use foreign::is_own;
 pub use grace::{Grace, grace_of};
 pub use listener::OperatorListener;
 pub use operated::Operated;

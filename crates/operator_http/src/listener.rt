@@ -36,11 +36,14 @@ pub struct OperatorListener {
     stop: Arc<StopState>,
     // The hash keys of the maps of fields.
     keys: RandomState,
+    // The names of hosts by which the operator may ask, with commas between.
+    names: Vec<u8>,
 }
 
 impl OperatorListener {
-    /// One over a socket that listens. Refused if the system refuses, the clock can't be read, or there is no memory.
-    pub fn new<R>(rt: &R, listener: TcpListener) -> io::Result<OperatorListener>
+    /// One over a socket that listens, whom the operator may also ask by these names of hosts, with commas between. Refused if
+    /// the system refuses, the clock can't be read, or there is no memory.
+    pub fn new<R>(rt: &R, listener: TcpListener, names: Vec<u8>) -> io::Result<OperatorListener>
     where
         R: Net + Clock + RandomSource + AllocGlobal,
     {
@@ -51,6 +54,7 @@ impl OperatorListener {
             is_closed: AtomicBool::new(false),
             stop: Arc::new(rt.alloc(), StopState::new(rt)?)?,
             keys: RandomState::new(rt)?,
+            names,
         })
     }
 
@@ -100,6 +104,7 @@ impl OperatorListener {
             rt: rt.clone()?,
             operated: operated.clone()?,
             stop: self.stop.clone()?,
+            names: self.names.clone()?,
         };
         let clock = DateClock::new(rt.clone()?);
         let mut http = Builder::new(rt.alloc(), self.keys);

@@ -12,13 +12,18 @@ use http_body_util::Full;
 use itoa::Buffer;
 use std::alloc::{AllocError, Global};
 
+// What has to change about a request of somebody else's.
+const FORBIDDEN: &str =
+    "forbidden: ask by an IP address, localhost or a name of --admin-host, and from no page of another site\n";
+
 /// Makes the response that tells an operator this: 200 with some words, with metrics or with a page; 400 for a purge of
-/// nobody knows what, and for a stop with a query that is no grace; 404 for another path, and 405 for another method, with
-/// those that the path has. Of the response to HEAD the HTTP library leaves the body out.
+/// nobody knows what, and for a stop with a query that is no grace; 403 for a request that isn't the operator's own; 404 for
+/// another path, and 405 for another method, with those that the path has. Of the response to HEAD the HTTP library leaves
+/// the body out.
 ///
 /// The only refusal of the call itself is out of memory.
 ///
-/// Source: RFC 9110, "400 Bad Request", "404 Not Found", "405 Method Not Allowed"; Prometheus, "Exposition formats"; the texts are our profile.
+/// Source: RFC 9110, "400 Bad Request", "403 Forbidden", "404 Not Found", "405 Method Not Allowed"; Prometheus, "Exposition formats"; the texts are our profile.
 pub fn response_of(alloc: Global, told: Told) -> Result<Response<Full<Bytes>>, AllocError>
     ensures { IfOk result (spec.Says told) }
 {
@@ -33,6 +38,7 @@ pub fn response_of(alloc: Global, told: Told) -> Result<Response<Full<Bytes>>, A
         Told::OtherPath => plain(alloc, StatusCode::NOT_FOUND, "not found\n"),
         Told::NotRead => allowing(alloc, HeaderValue::from_static("GET, HEAD")),
         Told::NotPosted => allowing(alloc, HeaderValue::from_static("POST")),
+        Told::Foreign => plain(alloc, StatusCode::FORBIDDEN, FORBIDDEN),
     }
 }
 

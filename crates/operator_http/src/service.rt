@@ -3,11 +3,13 @@
 ghost use Rattle.std.specs.Prelude.{◌≡◌, IfOk, IfSome};
 ghost use Rattle.http.specs.Request as http;
 ghost use Rattle.http_uri.specs.Uri.{uri_path, uri_query};
+ghost use Rattle.operator_http.specs.Foreign.{Replies};
 ghost use Rattle.operator_http.specs.Operator as spec;
 ghost use Rattle.operator_http.specs.Purged.{query_or_empty};
 ghost use Rattle.operator_http.specs.declared.asked.Asked.TheVariants as asked_for;
 
 use crate::asked::{Asked, asked_by};
+use crate::foreign::is_own;
 use crate::grace::grace_of;
 use crate::operated::Operated;
 use crate::purge::purge_of;
@@ -17,7 +19,8 @@ use crate::told::Told;
 use bytes::Bytes;
 use futures::future;
 use futures::future::Ready;
-use http::{Request, Response, Uri};
+use http::header::HeaderValue;
+use http::{HeaderMap, Request, Response, Uri};
 use http_body_util::Full;
 use hyper::body::Incoming;
 use hyper::service::Service;
@@ -31,9 +34,28 @@ pub(crate) struct OperatorService<R, M> {
     pub rt: R,
     pub operated: Arc<M>,
     pub stop: Arc<StopState>,
+    /// The names of hosts by which the operator may ask, with commas between.
+    pub names: Vec<u8>,
 }
 
 impl<R: Wait + Clock + AllocGlobal, M: Operated<R>> OperatorService<R, M> {
+    // Does what a request with these fields asks for, if it is the operator's own, and makes the response.
+    fn reply(
+        &self,
+        fields: &HeaderMap<HeaderValue>,
+        method: &[u8],
+        path: &[u8],
+        query: &[u8],
+    ) -> Result<Response<Full<Bytes>>, AllocError>
+        ensures { IfOk result (Replies self.now.names.items fields.now method.now path.now query.now) }
+    {
+        if is_own(self.names.as_slice(), fields) {
+            self.answer(asked_by(method, path), query)
+        } else {
+            self.answer(Asked::Foreign, query)
+        }
+    }
+
     // Does what is asked for, and makes the response.
     fn answer(&self, asked: Asked, query: &[u8]) -> Result<Response<Full<Bytes>>, AllocError>
         ensures { IfOk result (spec.Answers asked query.now) }
@@ -61,6 +83,7 @@ impl<R: Wait + Clock + AllocGlobal, M: Operated<R>> OperatorService<R, M> {
             Asked::OtherPath => Ok(Told::OtherPath),
             Asked::NotRead => Ok(Told::NotRead),
             Asked::NotPosted => Ok(Told::NotPosted),
+            Asked::Foreign => Ok(Told::Foreign),
         }
     }
 
@@ -115,15 +138,16 @@ where
     type Future = Ready<Result<Response<Full<Bytes>>, AllocError>>;
 
     ghost calls = { λ service request future. IfSome future.0 (λ given. IfOk given
-        (spec.Answers (spec.asked_by (http.head_of request).method (uri_path (http.head_of request).uri)) (query_or_empty (uri_query (http.head_of request).uri)))) };
+        (let head = http.head_of request in Replies service.names.items head.headers head.method (uri_path head.uri) (query_or_empty (uri_query head.uri)))) };
 
     // Nobody reads a body.
     fn call(&self, request: Request<Incoming<I>>) -> Self::Future {
         let target = request.uri();
-        let asked = asked_by(
+        future::ready(self.reply(
+            request.headers(),
             request.method().as_str().as_bytes(),
             target.path().as_bytes(),
-        );
-        future::ready(self.answer(asked, query_in(target)))
+            query_in(target),
+        ))
     }
 }

@@ -25,4 +25,6 @@ pub enum Told {
     NotRead,
     /// That the path is one that is posted to.
     NotPosted,
+    /// That the request isn't the operator's own.
+    Foreign,
 }

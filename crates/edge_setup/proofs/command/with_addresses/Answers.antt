@@ -10,4 +10,5 @@ returns-clause-app c =
     let origin = ap rule_of c.action-origin.ensures ∙ ap repeated c.option-2.ensures.rule in
     let one = c.in_ok-command.ensures.app ∙ ap (with_rule (app_of c.args.command)) listen in
     let two = c.in_ok-command-2.ensures.app ∙ ap₂ with_rule one origin in
-    IfOk-weaker c.with_option-3.result _ _ (λ more is. is ∙ ap₂ with_rule two c.option-admin.ensures.rule) c.with_option-3.ensures.app
+    let three = c.in_ok-command-3.ensures.app ∙ ap₂ with_rule two c.option-admin.ensures.rule in
+    IfOk-weaker c.with_option-4.result _ _ (λ more is. is ∙ ap₂ with_rule three c.option-admin_host.ensures.rule) c.with_option-4.ensures.app
