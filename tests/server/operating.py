@@ -3,7 +3,6 @@ keeps, and to stop."""
 import html.parser
 import os
 import re
-import socket
 import threading
 import time
 
@@ -11,8 +10,8 @@ from harness import ASKED, PATIENCE, PLAIN, TEMPLATE, Edge, Origin, Response, Wi
 from logs import ask_on
 
 ADMIN = ("--admin", "127.0.0.1:0")
-# How long a connection of the operator's may take.
-LIMIT = 5
+# How many seconds the head of an operator's request may take, and how many of his connections are answered at once.
+HEAD, MOST = 1, 64
 METRICS = "text/plain; version=0.0.4; charset=utf-8"
 # A page and its fragment, both cached.
 CACHED = {"/p": (PLAIN["/p"][0], "text/html", TEMPLATE + ", max-age=600"), "/x": (b"12345678", "text/plain", "max-age=600")}
@@ -110,15 +109,50 @@ def what_another_site_has_a_browser_send_is_refused():
 
 
 def nobody_holds_the_operator_up():
-    """A connection that says nothing has five seconds; then the next one is answered."""
+    """Beside fifty connections that say nothing, or half a head, the operator is answered at once; each of them is ended once its
+    second is over."""
     with Edge(*ADMIN) as edge:
         desk = Desk(edge)
-        with socket.create_connection(("127.0.0.1", desk.port), PATIENCE) as silent:
-            began = time.monotonic()
+        silent = [client(desk, sent) for sent in [b"", b"GET /health HTTP/1.1\r\nHo"] * 25]
+        began, taken = time.monotonic(), []
+        for _ in range(5):
+            asked = time.monotonic()
             same("health", b"ok\n", desk.ask("/health").body)
-            taken = time.monotonic() - began
-            same("after five seconds", True, LIMIT - 0.5 < taken < LIMIT + 2)
-            same("the silent one has ended", b"", rest(silent))
+            taken.append(time.monotonic() - asked)
+        same("at once", True, sorted(taken)[2] < 0.1)
+        for one in silent:
+            same("it has ended", b"", rest(one))
+            one.close()
+        same("after a second", True, HEAD - 0.5 < time.monotonic() - began < HEAD + 1)
+        same("a body that doesn't come", b"ok\n", desk.ask("/health", fields="content-length: 9\r\n").body)
+
+
+def the_oldest_connection_makes_room():
+    """Of more than 64 connections the oldest is ended at once, and no other."""
+    with Edge(*ADMIN) as edge:
+        desk = Desk(edge)
+        began = time.monotonic()
+        held = [client(desk) for _ in range(MOST + 3)]
+        for one in held[:3]:
+            same("it has ended", b"", rest(one))
+        same("at once", True, time.monotonic() - began < HEAD / 2)
+        same("health", b"ok\n", desk.ask("/health").body)
+        same("who came for it ended one more", b"", rest(held[3]))
+        held[4].sendall(b"GET /health HTTP/1.1\r\nhost: 127.0.0.1\r\n\r\n")
+        same("the next one", b"ok\n", Response(rest(held[4])).body)
+        for one in held:
+            one.close()
+
+
+def the_end_leaves_a_second():
+    """A server that ends waits no longer than a second for a connection of its operator's."""
+    with Edge(*ADMIN) as edge:
+        desk = Desk(edge)
+        with client(desk, b"POST /purge HT"):
+            began = time.monotonic()
+            same("a stop", b"stopping\n", desk.ask("/stop", "POST").body)
+            same("it ends", 0, edge.process.wait(PATIENCE))
+            same("within a second", True, time.monotonic() - began < HEAD + 1)
 
 
 def read(text):
@@ -555,6 +589,8 @@ TESTS = (
     what_else_is_asked_is_refused,
     what_another_site_has_a_browser_send_is_refused,
     nobody_holds_the_operator_up,
+    the_oldest_connection_makes_room,
+    the_end_leaves_a_second,
     what_was_answered_is_counted,
     a_fetch_for_many_is_counted_once,
     fetches_are_counted_by_origin_and_end,

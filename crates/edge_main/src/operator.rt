@@ -3,7 +3,7 @@
 use crate::end_of_input::EndOfInput;
 use crate::status::Status;
 use hyper_edge::StopSign;
-use operator_http::{OperatorListener, StopRequest};
+use operator_http::{HostNames, OperatorListener, StopRequest};
 use std::alloc::AllocGlobal;
 use std::net::{Net, SocketAddr, TcpListener, TcpStream};
 use std::random::RandomSource;
@@ -89,7 +89,7 @@ impl Operator {
             None => Vec::new(rt.alloc()),
         };
         Ok(Operator {
-            listener: OperatorListener::new(rt, listener, names)?,
+            listener: OperatorListener::new(rt, listener, HostNames::of(names))?,
             address,
         })
     }

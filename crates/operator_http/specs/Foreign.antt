@@ -10,12 +10,17 @@ use Rattle.std.specs.declared.net.ipv6_addr.Ipv6Addr.{Ipv6Addr}
 use Rattle.edge_types.specs.Halves.{around}
 use Rattle.http_header.specs.FieldValue.{FieldValue}
 use Rattle.http_header.specs.HeaderMap.{Entries, ContainsKey, get_all}
+use Rattle.operator_http.specs.declared.hosts.HostNames.{HostNames}
 use Rattle.operator_http.specs.Operator.{Answers, asked_by}
 use Rattle.operator_http.specs.declared.asked.Asked.TheVariants as asked
 use Rattle.http.specs.declared.response.Response.{Response}
 use Rattle.http_body_util.specs.declared.full.Full.{Full}
 
 -- ---- hosts
+
+-- names of hosts, as they were written
+abbrev pub names_of : HostNames → List ℕ
+names_of names = names.text.items
 
 -- the text before the first of this byte, or all of it
 unfoldable pub before : ℕ → List ℕ → List ℕ

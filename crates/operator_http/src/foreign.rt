@@ -4,20 +4,21 @@ ghost use Rattle.std.specs.Prelude.{◌≡◌, ◌↔◌, codes, IsTrue};
 ghost use Rattle.http_header.specs.HeaderMap.{get_all};
 ghost use Rattle.operator_http.specs.Foreign as spec;
 
+use crate::hosts::{HostNames, is_named};
 use edge_types::around;
 use http::HeaderMap;
 use http::header::{HOST, HeaderName, HeaderValue, ORIGIN};
 use std::net::{Ipv4Addr, Ipv6Addr};
 
 /// Whether a request with these fields is the operator's own: it has no `Origin`, and no `Sec-Fetch-Site` but `none` and
-/// `same-origin`; and its `Host`, if it has one, is an IP address, `localhost`, or one of these names, between which commas
-/// stand. A browser adds the first two to what a page of another site asks for, and the host is that page's own where a name
-/// was rebound to this address.
+/// `same-origin`; and its `Host`, if it has one, is an IP address, `localhost`, or one of these names. A browser adds the
+/// first two to what a page of another site asks for, and the host is that page's own where a name was rebound to this
+/// address.
 ///
 /// Source: RFC 6454, "The HTTP Origin Header Field"; Fetch Metadata Request Headers, "The Sec-Fetch-Site HTTP Request
 /// Header"; RFC 9110, "Host and :authority".
-pub fn is_own(names: &[u8], fields: &HeaderMap<HeaderValue>) -> bool
-    ensures { IsTrue result ↔ spec.IsOwn names.now fields.now }
+pub fn is_own(names: &HostNames, fields: &HeaderMap<HeaderValue>) -> bool
+    ensures { IsTrue result ↔ spec.IsOwn (spec.names_of names.now) fields.now }
 {
     !fields.contains_key(ORIGIN) && is_of_own_site(fields) && names_own_host(names, fields)
 }
@@ -39,8 +40,8 @@ fn is_own_site(site: &[u8]) -> bool
 }
 
 // Whether the one line of `Host`, if there is one, names a host of this server.
-fn names_own_host(names: &[u8], fields: &HeaderMap<HeaderValue>) -> bool
-    ensures { IsTrue result ↔ spec.NameOwnHost names.now (get_all fields.now (codes "host")) }
+fn names_own_host(names: &HostNames, fields: &HeaderMap<HeaderValue>) -> bool
+    ensures { IsTrue result ↔ spec.NameOwnHost (spec.names_of names.now) (get_all fields.now (codes "host")) }
 {
     let mut hosts = fields.get_all(HOST).iter();
     let Some(host) = hosts.next() else {
@@ -50,14 +51,14 @@ fn names_own_host(names: &[u8], fields: &HeaderMap<HeaderValue>) -> bool
 }
 
 // Whether an authority has a host of this server.
-fn is_own_host(names: &[u8], authority: &[u8]) -> bool
-    ensures { IsTrue result ↔ spec.IsOwnHost names.now authority.now }
+fn is_own_host(names: &HostNames, authority: &[u8]) -> bool
+    ensures { IsTrue result ↔ spec.IsOwnHost (spec.names_of names.now) authority.now }
 {
     let host = before(b':', authority);
     is_literal(authority)
         || is_ipv4(host)
         || is_named(host, b"localhost".as_slice())
-        || is_among(names, host)
+        || names.has(host)
 }
 
 // Whether the host of an authority is an IPv6 address, in brackets.
@@ -97,27 +98,4 @@ fn before(mark: u8, text: &[u8]) -> &[u8]
         Some((before, _)) => before,
         None => text,
     }
-}
-
-fn is_comma(byte: u8) -> bool
-    ensures { result ≡ spec.is_comma byte }
-{
-    byte == b','
-}
-
-// Whether a host is one of the names.
-fn is_among(names: &[u8], host: &[u8]) -> bool
-    ensures { result ≡ spec.is_among names.now host.now }
-{
-    names
-        .split(|byte| is_comma(*byte))
-        .any(|name| is_named(host, name))
-}
-
-// Whether a host has this name.
-#[tactic(auto, unfolding(crate::specs::Foreign::is_named))]
-fn is_named(host: &[u8], name: &[u8]) -> bool
-    ensures { result ≡ spec.is_named host.now name.now }
-{
-    !name.is_empty() && host.eq_ignore_ascii_case(name)
 }

@@ -3,22 +3,25 @@
 //! Source: RFC 9110, "HTTP Semantics", and RFC 9112, "HTTP/1.1"; the paths and texts are our profile.
 #![tactic(auto)]
 
+mod arrivals;
 mod asked;
-mod clock;
 mod foreign;
 mod grace;
+mod hosts;
 mod listener;
 mod operated;
 mod purge;
 mod response;
+mod room;
 mod service;
 mod stop;
-mod stream;
+mod timer;
 mod told;
 
 pub use asked::{Asked, asked_by};
 pub use foreign::is_own;
 pub use grace::{Grace, grace_of};
+pub use hosts::HostNames;
 pub use listener::OperatorListener;
 pub use operated::Operated;
 pub use purge::{Purge, purge_of};

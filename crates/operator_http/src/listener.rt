@@ -1,13 +1,16 @@
 //! Where an operator is answered.
 
-use crate::clock::DateClock;
+use crate::arrivals::{Arrival, Arrivals};
+use crate::hosts::HostNames;
 use crate::operated::Operated;
+use crate::room::Room;
 use crate::service::OperatorService;
 use crate::stop::{StopRequest, StopState};
-use crate::stream::OperatorStream;
-use futures::executor::block_on;
+use crate::timer::OperatorTimer;
+use futures::future::select;
+use futures::{FutureExt, StreamExt};
 use hyper::server::conn::http1::Builder;
-use std::alloc::AllocGlobal;
+use std::alloc::{AllocError, AllocGlobal};
 use std::hash::RandomState;
 use std::net::{Net, Shutdown, TcpListener, TcpStream};
 use std::os::fd::OwnedFd;
@@ -16,15 +19,23 @@ use std::sync::atomic::{AtomicBool, Ordering};
 use std::sync::{Arc, Wait};
 use std::time::{Clock, Duration};
 use std::{io, thread};
+use tokio::net;
+use tokio::runtime::{Handle, LocalRuntime};
 
-// How long a connection may take, in seconds.
-const LIMIT_SECONDS: u64 = 5;
+// How long the head of a request may take to come, in seconds.
+const HEAD_SECONDS: u64 = 1;
 
-// For how many milliseconds nobody is accepted after an accept has failed.
+// How long connections may go on once it is closed, in seconds.
+const END_SECONDS: u64 = 1;
+
+// For how many milliseconds nobody is answered after the system or memory has failed.
 const PAUSE_MILLIS: u64 = 100;
 
-/// Where the operator of a server is answered: one connection after another, each for one request and for five seconds at
-/// most, by a thread of its own. So it answers while all threads of the server are at work.
+/// Where the operator of a server is answered, by a thread of its own, which waits for all connections at once: so it
+/// answers while all threads of the server are at work, and beside connections that say nothing.
+///
+/// Each connection is for one request, whose head has a second to come, and ends after five seconds at most. Of more than
+/// 64 the one that has gone on for longest is ended.
 ///
 /// Our profile.
 #[derive(Drop)]
@@ -36,14 +47,13 @@ pub struct OperatorListener {
     stop: Arc<StopState>,
     // The hash keys of the maps of fields.
     keys: RandomState,
-    // The names of hosts by which the operator may ask, with commas between.
-    names: Vec<u8>,
+    names: Arc<HostNames>,
 }
 
 impl OperatorListener {
-    /// One over a socket that listens, whom the operator may also ask by these names of hosts, with commas between. Refused if
-    /// the system refuses, the clock can't be read, or there is no memory.
-    pub fn new<R>(rt: &R, listener: TcpListener, names: Vec<u8>) -> io::Result<OperatorListener>
+    /// One over a socket that listens, whom the operator may also ask by these names of hosts. Refused if the system
+    /// refuses, the clock can't be read, or there is no memory.
+    pub fn new<R>(rt: &R, listener: TcpListener, names: HostNames) -> io::Result<OperatorListener>
     where
         R: Net + Clock + RandomSource + AllocGlobal,
     {
@@ -54,7 +64,7 @@ impl OperatorListener {
             is_closed: AtomicBool::new(false),
             stop: Arc::new(rt.alloc(), StopState::new(rt)?)?,
             keys: RandomState::new(rt)?,
-            names,
+            names: Arc::new(rt.alloc(), names)?,
         })
     }
 
@@ -66,53 +76,91 @@ impl OperatorListener {
         })
     }
 
-    /// Answers the operator of this server until it is closed. An accept that fails is made again after a moment.
+    /// Answers the operator of this server until it is closed. What fails for want of memory, a descriptor or a clock is
+    /// tried again after a moment.
     pub fn serve<R, M>(&self, rt: &R, operated: &Arc<M>)
     where
-        R: Wait + Clock + RandomSource + AllocGlobal + Clone + Drop,
+        R: Wait + Clock + Net + RandomSource + AllocGlobal + Clone + Drop,
         M: Operated<R> + Drop,
     {
         for _ in rt.forever() {
-            if self.is_closed.load(Ordering::SeqCst) {
+            let _ = self.answer_all(rt, operated);
+            if self.is_closed() {
                 return;
             }
-            match self.listener.accept() {
-                Ok((socket, _)) => {
-                    // What goes wrong with one connection is no matter of the next one.
-                    let _ = self.answer(rt, socket, operated);
-                }
-                Err(_) => thread::sleep(rt, Duration::from_millis(PAUSE_MILLIS)),
-            }
+            thread::sleep(rt, Duration::from_millis(PAUSE_MILLIS));
         }
     }
 
-    /// Closes it: the request that is under way is still answered.
+    // Answers whoever comes until it is closed, or the system or memory has failed.
+    fn answer_all<R, M>(&self, rt: &R, operated: &Arc<M>) -> io::Result<()>
+    where
+        R: Wait + Clock + Net + RandomSource + AllocGlobal + Clone + Drop,
+        M: Operated<R> + Drop,
+    {
+        let mut runtime = LocalRuntime::new(rt)?;
+        runtime.set_shutdown_timeout(Some(Duration::from_secs(END_SECONDS)));
+        let handle = runtime.handle();
+        let arrivals = Arrivals {
+            desk: self,
+            rt,
+            operated,
+            listener: net::TcpListener::from_std(self.listener.try_clone()?, handle.reactor())?,
+            timers: handle.time().clone()?,
+            room: Room::new(rt.alloc()),
+            pause: None,
+        };
+        let http = self.http(rt, handle)?;
+        let exchanges = arrivals.map(|arrival| {
+            let Arrival {
+                socket,
+                service,
+                limit,
+                leaves,
+            } = arrival;
+            let exchange = http.serve_connection(socket, service);
+            select(exchange, select(limit, leaves)).map(|_| ())
+        });
+        runtime.run_all(rt, exchanges)
+    }
+
+    // How a request is read and its response written, by the HTTP library.
+    fn http<R>(&self, rt: &R, handle: &Handle) -> Result<Builder<OperatorTimer<R>>, AllocError>
+    where
+        R: Clock + AllocGlobal + Clone + Drop,
+    {
+        let mut http = Builder::new(rt.alloc(), self.keys);
+        http.keep_alive(false);
+        http.half_close(true);
+        http.header_read_timeout(Some(Duration::from_secs(HEAD_SECONDS)));
+        Ok(http.timer(OperatorTimer::new(rt.clone()?, handle.time().clone()?)))
+    }
+
+    /// What answers one connection.
+    pub(crate) fn service<R, M>(
+        &self,
+        rt: &R,
+        operated: &Arc<M>,
+    ) -> Result<OperatorService<R, M>, AllocError>
+    where
+        R: Clone,
+        M: Drop,
+    {
+        Ok(OperatorService {
+            rt: rt.clone()?,
+            operated: operated.clone()?,
+            stop: self.stop.clone()?,
+            names: self.names.clone()?,
+        })
+    }
+
+    /// Closes it: nobody comes any longer, and whoever is there has a second.
     pub fn close(&self) {
         self.is_closed.store(true, Ordering::SeqCst);
         let _ = self.same.shutdown(Shutdown::Both);
     }
 
-    // Answers the one request of a connection.
-    fn answer<R, M>(&self, rt: &R, socket: TcpStream, operated: &Arc<M>) -> io::Result<()>
-    where
-        R: Wait + Clock + RandomSource + AllocGlobal + Clone + Drop,
-        M: Operated<R> + Drop,
-    {
-        let limit = Duration::from_secs(LIMIT_SECONDS);
-        let stream = OperatorStream::new(socket, rt.clone()?, limit)?;
-        let service = OperatorService {
-            rt: rt.clone()?,
-            operated: operated.clone()?,
-            stop: self.stop.clone()?,
-            names: self.names.clone()?,
-        };
-        let clock = DateClock::new(rt.clone()?);
-        let mut http = Builder::new(rt.alloc(), self.keys);
-        http.keep_alive(false);
-        http.half_close(true);
-        // The stream has a limit of its own.
-        http.header_read_timeout(None);
-        let _ = block_on(rt, http.timer(clock).serve_connection(stream, service))?;
-        Ok(())
+    pub(crate) fn is_closed(&self) -> bool {
+        self.is_closed.load(Ordering::SeqCst)
     }
 }

@@ -1,9 +1,10 @@
 //! What answers an operator's requests.
 
 ghost use Rattle.std.specs.Prelude.{◌≡◌, IfOk, IfSome};
+ghost use Rattle.std.specs.Arc.{arc_value};
 ghost use Rattle.http.specs.Request as http;
 ghost use Rattle.http_uri.specs.Uri.{uri_path, uri_query};
-ghost use Rattle.operator_http.specs.Foreign.{Replies};
+ghost use Rattle.operator_http.specs.Foreign.{Replies, names_of};
 ghost use Rattle.operator_http.specs.Operator as spec;
 ghost use Rattle.operator_http.specs.Purged.{query_or_empty};
 ghost use Rattle.operator_http.specs.declared.asked.Asked.TheVariants as asked_for;
@@ -11,6 +12,7 @@ ghost use Rattle.operator_http.specs.declared.asked.Asked.TheVariants as asked_f
 use crate::asked::{Asked, asked_by};
 use crate::foreign::is_own;
 use crate::grace::grace_of;
+use crate::hosts::HostNames;
 use crate::operated::Operated;
 use crate::purge::purge_of;
 use crate::response::response_of;
@@ -34,8 +36,8 @@ pub(crate) struct OperatorService<R, M> {
     pub rt: R,
     pub operated: Arc<M>,
     pub stop: Arc<StopState>,
-    /// The names of hosts by which the operator may ask, with commas between.
-    pub names: Vec<u8>,
+    /// By which names the operator may ask.
+    pub names: Arc<HostNames>,
 }
 
 impl<R: Wait + Clock + AllocGlobal, M: Operated<R>> OperatorService<R, M> {
@@ -47,9 +49,9 @@ impl<R: Wait + Clock + AllocGlobal, M: Operated<R>> OperatorService<R, M> {
         path: &[u8],
         query: &[u8],
     ) -> Result<Response<Full<Bytes>>, AllocError>
-        ensures { IfOk result (Replies self.now.names.items fields.now method.now path.now query.now) }
+        ensures { IfOk result (Replies (names_of (arc_value self.now.names)) fields.now method.now path.now query.now) }
     {
-        if is_own(self.names.as_slice(), fields) {
+        if is_own(&self.names, fields) {
             self.answer(asked_by(method, path), query)
         } else {
             self.answer(Asked::Foreign, query)
@@ -138,7 +140,7 @@ where
     type Future = Ready<Result<Response<Full<Bytes>>, AllocError>>;
 
     ghost calls = { λ service request future. IfSome future.0 (λ given. IfOk given
-        (let head = http.head_of request in Replies service.names.items head.headers head.method (uri_path head.uri) (query_or_empty (uri_query head.uri)))) };
+        (let head = http.head_of request in Replies (names_of (arc_value service.names)) head.headers head.method (uri_path head.uri) (query_or_empty (uri_query head.uri)))) };
 
     // Nobody reads a body.
     fn call(&self, request: Request<Incoming<I>>) -> Self::Future {

@@ -2,7 +2,7 @@ use Rattle.std.proofs.Common.{rules, tests}
 use Rattle.std.proofs.lemmas.Iterator.Splits.{YieldsList-from_slice_split}
 use Rattle.std.proofs.lemmas.Iterator.Search.{any_from_yields_List}
 use Rattle.operator_http.specs.Foreign.{is_among, is_comma, is_named}
-use Rattle.operator_http.proofs.foreign.is_among.Goals as goal
+use Rattle.operator_http.proofs.hosts.is_among.Goals as goal
 
 pub returns : goal.returns
 unfolding is_among
