@@ -5,7 +5,8 @@
     EDIT CHECKSUM FUNCTION (GOAL)
 
 with a line for each edit that was refused, by name. The first checksum is of all that a verdict rests on but
-the edit itself, the second one of the edit's file. FUNCTION and GOAL are where the prover refused it.
+the edit itself, the second one of the edit's file. FUNCTION and GOAL are where the prover refused it; what has
+another form than the prover's goals was written by no judge, and the file is refused.
 """
 import hashlib
 import os
@@ -13,6 +14,7 @@ import re
 import subprocess
 from dataclasses import dataclass, field
 
+from what_proofs_see import Sight
 from wrong_checks import EDITS, edits_of
 from wrong_edits import text_of
 
@@ -22,6 +24,9 @@ JUDGE = ("wrong_checks.py", "wrong_edits.py")
 TURNS = 8
 # How long an edit is likely to take if nobody has measured it.
 SECONDS_OF_AN_EDIT = 15
+# Where the prover refused an edit: a function, and a goal, which has one of these words for what is to be proved there.
+GOALS = r"returns|requires|ensures|preserved|init|smaller|unreachable|bounds|char|size|(?:overflow|nonzero|slice|offset|invariant|fact|enum|float|int|way)_\w+"
+WHERE = re.compile(rf"\w+(?:::\w+)* \((?:[\w'+:]+-)*(?:{GOALS})(?:-[\w'+]+)*\)")
 
 
 class BadVerdicts(Exception):
@@ -41,7 +46,7 @@ class Verdicts:
         lines = text_of(path).split("\n")
         head = re.fullmatch(r"rests on ([0-9a-f]{64})", lines[0])
         took = re.fullmatch(r"took (\d{1,6}) processor seconds", lines[1]) if len(lines) > 2 else None
-        found = [re.fullmatch(r"(\w+) ([0-9a-f]{16}) (\S+ \(.+\))", it) for it in lines[2:-1]]
+        found = [re.fullmatch(rf"(\w+) ([0-9a-f]{{16}}) ({WHERE.pattern})", it) for it in lines[2:-1]]
         names = [it and it[1] for it in found]
         if not head or not took or not all(found) or lines[-1] or names != sorted(set(names)):
             raise BadVerdicts("it isn't in the form of verdicts")
@@ -75,25 +80,30 @@ def kit_line():
     return subprocess.run(["rt", "version"], stdout=subprocess.PIPE, check=True).stdout
 
 
+def logic_of(line):
+    """The kit's logic, by what `rt version` says: two kits of one logic are one prover. All that it says, where it names no logic."""
+    found = re.search(rb" logic (\w+)", line)
+    return found[1] if found else line
+
+
+def listed(crate):
+    """The crate's line of crates.txt, whatever the order of its libraries there."""
+    return " ".join([*crate.words, ":", *sorted(crate.uses), *sorted(crate.of_kit)]).encode()
+
+
 class Sums:
-    """The checksums of what verdicts rest on: the kit, the judge, and the sources, definitions and proofs of a crate and of those below it, with their lines of crates.txt."""
+    """The checksums of what verdicts rest on: the logic, the judge, the sources, definitions and proofs of a crate, and what its proofs see of the crates below it, with the lines of crates.txt of all these."""
 
     def __init__(self, repository):
         tools = os.path.dirname(os.path.realpath(__file__))
-        self.repository = repository
-        self.judge = [kit_line(), *[bytes_of(f"{tools}/{it}") for it in JUDGE]]
-        self.own = {}
-
-    def of_one(self, crate):
-        if crate.name not in self.own:
-            files = [text for path in crate.files() for text in (path.encode(), bytes_of(f"{crate.folder}/{path}"))]
-            listed = " ".join([*crate.words, ":", *sorted(crate.uses), *sorted(crate.of_kit)])
-            self.own[crate.name] = sum_of(listed.encode(), *files)
-        return self.own[crate.name]
+        self.repository, self.sight = repository, Sight()
+        self.judge = [logic_of(kit_line()), *[bytes_of(f"{tools}/{it}") for it in JUDGE]]
 
     def of(self, crate):
-        below = sorted(it.name for it in self.repository.below(crate))
-        sums = [self.of_one(self.repository.crates[it]) for it in [*below, crate.name]]
+        own = [(it, bytes_of(f"{crate.folder}/{it}")) for it in crate.files()]
+        below = sorted(self.repository.below(crate), key=lambda it: it.name)
+        seen = [(it, [(file, text.encode()) for file, text in files]) for it, files in self.sight.of(crate, below)]
+        sums = [sum_of(listed(it), *[part for file, text in files for part in (file.encode(), text)]) for it, files in [*seen, (crate, own)]]
         return sum_of(*self.judge, *[it.encode() for it in sums])
 
 
@@ -146,6 +156,10 @@ class Kept:
         """Whether the verdict on this edit still stands."""
         sum, _ = self.verdicts.of_edits.get(edit.name, (None, None))
         return self.stands and sum == self.sums[edit.name]
+
+    def is_new(self, edit):
+        """Whether no verdict on this edit, as it is, was ever kept."""
+        return self.verdicts.of_edits.get(edit.name, (None, None))[0] != self.sums[edit.name]
 
     def to_judge(self, is_all):
         """The edits that are judged: all, or those whose verdict isn't kept."""
