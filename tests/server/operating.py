@@ -180,7 +180,7 @@ KINDS = {
     "esi_edge_requests_total": "counter", "esi_edge_sent_bytes_total": "counter", "esi_edge_request_seconds": "histogram", "esi_edge_connections": "gauge",
     "esi_edge_connections_parked": "gauge", "esi_edge_connections_serving": "gauge", "esi_edge_connections_accepted_total": "counter",
     "esi_edge_accepts_failed_total": "counter", "esi_edge_cache_answers": "gauge", "esi_edge_cache_bytes": "gauge", "esi_edge_cache_bridges_total": "counter",
-    "esi_edge_fetches_total": "counter", "esi_edge_fetches_without_origin_total": "counter",
+    "esi_edge_fetches_total": "counter", "esi_edge_fetches_without_origin_total": "counter", "esi_edge_strays_total": "counter",
     "esi_edge_cache_lookups_total": "counter", "esi_edge_log_lines_lost_total": "counter", "process_resident_memory_bytes": "gauge",
 }
 

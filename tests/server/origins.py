@@ -42,6 +42,35 @@ def no_more_is_read_than_a_body_may_have():
         same("bytes that were sent (%d)" % origin.sent, True, origin.sent < 64 * MOST)
 
 
+# How many bytes an origin may send around a body.
+MOST_AROUND = 65536
+CONTINUE = wire("HTTP/1.1 100 Continue||")
+IN_CHUNKS = wire("HTTP/1.1 200 OK|transfer-encoding: chunked||")
+
+
+def no_more_is_read_around_a_body_than_may_be():
+    """A fragment can't be fetched whose origin sends 1xx heads, a head, or zeros in a chunk's size without end, and that is found soon;
+    nor one whose heads are longer together than they may be. One whose heads are nearly so long can, and one that comes byte by byte
+    in chunks, also where each says its size in eight digits."""
+    whole = wire("HTTP/1.1 200 OK|content-length: 1||1")
+    fits = MOST_AROUND // len(CONTINUE) - 10
+    endless = ([CONTINUE, CONTINUE * 1000], [wire("HTTP/1.1 200 OK|x: "), b"x" * 65536], [IN_CHUNKS, b"0" * 65536], [IN_CHUNKS + b"1\r\n1\r\n", b"0" * 65536])
+    rows = (
+        *((text, b"none") for text in endless),
+        (CONTINUE * fits + whole, b"[1]"),
+        (CONTINUE * (fits + 20) + whole, b"none"),
+        *((IN_CHUNKS + one * 20000 + b"0\r\n\r\n", b"[" + b"x" * 20000 + b"]") for one in (b"1\r\nx\r\n", b"00000001\r\nx\r\n")),
+    )
+    for words in ((), ("--workers", "1", "--fetches", "8")):
+        with Wires({"/p": wire(PAGE + TRY[0].decode())}) as origin, before(origin, "--timeout", "60000", *words) as edge:
+            for k, (text, wanted) in enumerate(rows):
+                origin.texts["/x"] = text
+                begun = time.monotonic()
+                status, came = told(edge)
+                same("row %d" % k, (200, len(wanted), True), (status, len(came), came == wanted))
+                same("row %d soon" % k, True, time.monotonic() - begun < 15)
+
+
 def origins_are_asked_by_authority():
     """Each authority at its own origin, others at that of `*`, and none where there is no such."""
     with Origin({"/": (b"A", "text/plain", "")}) as a, Origin({"/": (b"B", "text/plain", "")}) as b:
@@ -195,6 +224,7 @@ def who_never_answers_fails_at_the_limit():
 TESTS = (
     each_cut_of_a_fragment_fails_its_page,
     no_more_is_read_than_a_body_may_have,
+    no_more_is_read_around_a_body_than_may_be,
     origins_are_asked_by_authority,
     an_origin_is_asked_for_the_url_alone,
     what_is_no_answer_is_a_failed_one,

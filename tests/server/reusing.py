@@ -3,8 +3,9 @@ import socket
 import threading
 import time
 
-from harness import PATIENCE, UNASSEMBLED, Edge, Listening, all_at_once, before, client, same, told, wire
+from harness import PATIENCE, UNASSEMBLED, Edge, Listening, all_at_once, before, client, get, same, told, wire
 from keeping import of_one
+from operating import ADMIN, Desk, metrics
 from parking import IS_FULL
 
 # Connections to an origin, and to a client, that are kept.
@@ -140,6 +141,24 @@ def unasked_bytes_are_no_answer():
             same("connections", 100, origin.connections)
 
 
+def an_address_that_sends_unasked_keeps_no_connection():
+    """Once an origin has sent bytes unasked, with an answer or after it, each fetch has a connection of its own, those that
+    were idle are closed, and the metrics tell of it; another origin keeps its own."""
+    for pause in ((), (0.001,)):
+        sends = lambda target, before_it: ((whole(target), *pause, b"HTTP") if target == "/2" else whole(target), False)
+        with Lasting(sends) as origin, Lasting() as other:
+            names = ("--origin", "a.test=" + origin.at, "--origin", "b.test=" + other.at)
+            with Edge(*names, *ADMIN, *REUSED, *KEPT) as edge:
+                desk = Desk(edge)
+                asks_in_turn(edge, numbered(10), pause=0.02)
+                for k in range(3):
+                    same("the other", 200, get(edge, "/%d" % k, "b.test", "connection: close\r\n").status)
+                same("connections", (8, 1), (origin.connections, other.connections))
+                told_of = {'esi_edge_strays_total{origin="%s"}' % name: count for name, count in (("a.test", 1), ("b.test", 0))}
+                same("what is told", told_of, {name: count for name, count in metrics(desk).items() if "strays" in name})
+                same("connections that are open", 0, origin.open)
+
+
 def a_connection_may_end_as_a_request_goes_out():
     """An origin that ends each connection as its second request comes: that is asked once more over a new one."""
 
@@ -234,6 +253,7 @@ TESTS = (
     without_the_option_each_fetch_has_its_own,
     responses_say_whether_a_connection_is_kept,
     unasked_bytes_are_no_answer,
+    an_address_that_sends_unasked_keeps_no_connection,
     a_connection_may_end_as_a_request_goes_out,
     a_connection_may_end_while_it_is_idle,
     what_was_cut_is_not_asked_for_again,

@@ -125,8 +125,17 @@ impl Reports {
 // The tallies of the fetches from each origin, as the text tells them.
 fn origins_of(alloc: Global, tallies: Vec<OriginTally>) -> Result<Vec<OriginCounts>, AllocError> {
     let mut origins = Vec::with_capacity(alloc, tallies.len())?;
-    for OriginTally { authority, fetches } in tallies {
-        origins.push(OriginCounts { authority, fetches })?;
+    for tally in tallies {
+        let OriginTally {
+            authority,
+            fetches,
+            strays,
+        } = tally;
+        origins.push(OriginCounts {
+            authority,
+            fetches,
+            strays,
+        })?;
     }
     Ok(origins)
 }

@@ -199,6 +199,20 @@ without_origin_head = head (codes "esi_edge_fetches_without_origin_total") (code
 unfoldable pub without_origin : ℕ → List ℕ
 without_origin count = without_origin_head ++ sample (codes "esi_edge_fetches_without_origin_total") count
 
+-- how often an origin sent bytes that nobody had asked for
+unfoldable pub strays_head : List ℕ
+strays_head = head (codes "esi_edge_strays_total") (codes "Times that an origin sent bytes unasked.") (codes "counter")
+
+-- a sample whose last label is its origin
+unfoldable pub of_origin : List ℕ → List ℕ → ℕ → List ℕ
+of_origin start authority count = start ++ escaped authority ++ sample (codes "\"}") count
+
+abbrev pub strays_from : OriginCounts → List ℕ
+strays_from origin = of_origin (codes "esi_edge_strays_total{origin=\"") origin.authority.items origin.strays
+
+unfoldable pub strays_by_origin : List OriginCounts → List ℕ
+strays_by_origin origins = strays_head ++ flat_map strays_from origins
+
 -- ---- the process
 
 unfoldable pub lost_lines : ℕ → List ℕ
@@ -222,5 +236,5 @@ abbrev pub text : Measured → List OriginCounts → List ℕ
 text measured origins =
     requests measured.requests.statuses ++ sent measured.requests.bytes ++ durations measured.requests.durations
     ++ connections measured.connections ++ cache measured.cache
-    ++ fetches_by_origin origins ++ without_origin measured.without_origin
+    ++ fetches_by_origin origins ++ without_origin measured.without_origin ++ strays_by_origin origins
     ++ lost_lines measured.lost_lines ++ resident measured.resident

@@ -131,3 +131,54 @@ fn push_without_origin_head(text: &mut Vec<u8>) -> Result<(), AllocError>
         b"counter",
     )
 }
+
+#[tactic(auto, unfolding(crate::specs::Text::strays_by_origin))]
+pub(crate) fn push_strays(text: &mut Vec<u8>, origins: &[OriginCounts]) -> Result<(), AllocError>
+    ensures { OnOk result (text.new.items ≡ text.old.items ++ spec.strays_by_origin origins.now) }
+{
+    push_strays_head(text)?;
+    push_strays_of_each(text, origins)
+}
+
+#[tactic(auto, unfolding(crate::specs::Text::strays_head))]
+fn push_strays_head(text: &mut Vec<u8>) -> Result<(), AllocError>
+    ensures { OnOk result (text.new.items ≡ text.old.items ++ spec.strays_head) }
+{
+    push_head(
+        text,
+        b"esi_edge_strays_total",
+        b"Times that an origin sent bytes unasked.",
+        b"counter",
+    )
+}
+
+fn push_strays_of_each(text: &mut Vec<u8>, origins: &[OriginCounts]) -> Result<(), AllocError>
+    ensures { OnOk result (text.new.items ≡ text.old.items ++ flat_map spec.strays_from origins.now) }
+{
+    for origin in origins {
+        push_strays_of(text, origin)?;
+    }
+    Ok(())
+}
+
+fn push_strays_of(text: &mut Vec<u8>, origin: &OriginCounts) -> Result<(), AllocError>
+    ensures { OnOk result (text.new.items ≡ text.old.items ++ spec.strays_from origin.now) }
+{
+    let start = b"esi_edge_strays_total{origin=\"";
+    push_of_origin(text, start, origin.authority.as_slice(), origin.strays)
+}
+
+// A sample whose last label is its origin.
+#[tactic(auto, unfolding(crate::specs::Text::of_origin))]
+fn push_of_origin(
+    text: &mut Vec<u8>,
+    start: &[u8],
+    authority: &[u8],
+    count: u64,
+) -> Result<(), AllocError>
+    ensures { OnOk result (text.new.items ≡ text.old.items ++ spec.of_origin start.now authority.now count) }
+{
+    text.extend_from_slice(start)?;
+    push_escaped(text, authority)?;
+    push_sample(text, b"\"}", count)
+}

@@ -2,7 +2,7 @@
 
 use fetch_outcomes::FetchTally;
 
-/// How the fetches from the origin of an authority ended.
+/// How the fetches from the origin of an authority ended, and what it sent unasked.
 ///
 /// Our profile.
 #[derive(Drop)]
@@ -11,4 +11,6 @@ pub struct OriginCounts {
     pub authority: Vec<u8>,
     /// How many fetches ended how.
     pub fetches: FetchTally,
+    /// How often it sent bytes that nobody had asked for.
+    pub strays: u64,
 }

@@ -81,6 +81,9 @@ esi_edge_fetches_total{origin=\"www.example.com\",outcome=\"status\"} 8
 # HELP esi_edge_fetches_without_origin_total Fetches for which there is no origin.
 # TYPE esi_edge_fetches_without_origin_total counter
 esi_edge_fetches_without_origin_total 4
+# HELP esi_edge_strays_total Times that an origin sent bytes unasked.
+# TYPE esi_edge_strays_total counter
+esi_edge_strays_total{origin=\"www.example.com\"} 9
 ";
 
 const LOG: &str = "# HELP esi_edge_log_lines_lost_total Lines of the log that were lost.
@@ -135,6 +138,7 @@ fn one_origin(alloc: Global) -> Option<OriginCounts> {
             coded: 7,
             status: 8,
         },
+        strays: 9,
     })
 }
 

@@ -6,7 +6,7 @@ ghost use Rattle.edge_metrics.specs.Text as spec;
 use crate::cache_text::push_cache;
 use crate::connection_text::push_connections;
 use crate::durations::Durations;
-use crate::fetch_text::{push_fetches, push_without_origin};
+use crate::fetch_text::{push_fetches, push_strays, push_without_origin};
 use crate::lines::{push_head, push_number, push_sample};
 use crate::measured::Measured;
 use crate::origin_counts::OriginCounts;
@@ -34,6 +34,7 @@ pub fn text_of(
     push_cache(&mut text, &measured.cache)?;
     push_fetches(&mut text, origins)?;
     push_without_origin(&mut text, measured.without_origin)?;
+    push_strays(&mut text, origins)?;
     push_lost_lines(&mut text, measured.lost_lines)?;
     push_resident(&mut text, measured.resident)?;
     Ok(text)

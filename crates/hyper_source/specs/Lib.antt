@@ -3,6 +3,9 @@ pub mod Names
 pub mod Heads
 pub mod Fetches
 pub mod Bounded
+pub mod Intake
+pub mod Reuse
+pub mod Behind
 pub mod Gate
 pub mod Notes
 pub mod Authorities

@@ -1,11 +1,13 @@
 //! One request and its response, among those of other fetches.
 
-ghost use Rattle.std.specs.Prelude.{IsSome, IfOk};
-ghost use Rattle.hyper_source.specs.Heads.{StaysOpen};
+ghost use Rattle.std.specs.Prelude.{IfOk};
+ghost use Rattle.hyper_source.specs.Behind.{FollowsHead};
 
+use crate::behind::Behind;
 use crate::gathered::{Lost, Rest};
+use crate::intake::BodyCount;
 use crate::polled_stream::PolledStream;
-use crate::round_trip::{Response, bare, ended};
+use crate::round_trip::Response;
 use crate::stream_signals::{Readiness, StreamSignals};
 use bytes::Bytes;
 use fetch_outcomes::FetchFault;
@@ -52,9 +54,10 @@ pub(crate) struct Exchange {
     page: Page,
     // `None` once it has ended.
     connection: Option<Pollable<Connection>>,
-    // The stream of a connection that has ended, if nothing was read that doesn't belong to the response.
-    stream: Option<PolledStream>,
+    // What a connection that has ended has left.
+    behind: Behind<PolledStream>,
     socket: RawFd,
+    body: BodyCount,
     signals: Arc<StreamSignals>,
 }
 
@@ -74,7 +77,8 @@ impl Exchange {
         let Ok(told) = signals.clone() else {
             return Err(Lost::NoMemory);
         };
-        let io = PolledStream::over(socket, told);
+        let body = BodyCount::new(alloc)?;
+        let io = PolledStream::over(socket, body.share()?, told);
         let Ok((mut sender, connection)) = client::conn::http1::handshake(alloc, keys, io) else {
             return Err(Lost::Fault(FetchFault::Cut));
         };
@@ -87,8 +91,9 @@ impl Exchange {
         Ok(Exchange {
             page: Page::Nothing(response),
             connection: Some(connection),
-            stream: None,
+            behind: Behind::End,
             socket: descriptor,
+            body,
             signals,
         })
     }
@@ -142,7 +147,7 @@ impl Exchange {
             return;
         };
         match connection.poll(cx) {
-            Ok(parts) => self.stream = bare(parts),
+            Ok(parts) => self.behind = Behind::of(parts),
             Err(connection) => self.connection = Some(connection),
         }
     }
@@ -152,7 +157,12 @@ impl Exchange {
             return;
         };
         match response.poll(cx) {
-            Poll::Ready(Ok(response)) => self.page = Page::Head(Rest::of(alloc, response)),
+            Poll::Ready(Ok(response)) => {
+                self.page = match self.body.share() {
+                    Ok(body) => Page::Head(Rest::of(alloc, response, body)),
+                    Err(lost) => Page::Whole(Err(lost)),
+                }
+            }
             Poll::Ready(Err(_)) => self.page = Page::Whole(Err(Lost::Fault(FetchFault::Cut))),
             Poll::Pending => {}
         }
@@ -167,21 +177,23 @@ impl Exchange {
         }
     }
 
-    /// What has come, and the socket if it is to stay open.
-    pub(crate) fn into_response(self) -> (Response, Option<TcpStream>)
-        ensures { IfOk result.0 (λ page. IsSome result.1 → StaysOpen page.0) }
+    /// What has come, and what is left of the connection behind it.
+    pub(crate) fn into_response(self) -> (Response, Behind<PolledStream>)
+        ensures { IfOk result.0 (λ page. FollowsHead page.0 result.1) }
     {
         let Exchange {
             page,
             connection: _,
-            stream,
+            behind,
             socket: _,
+            body: _,
             signals: _,
         } = self;
         let came = match page {
             Page::Whole(came) => came,
             Page::Nothing(_) | Page::Head(_) => Err(Lost::Fault(FetchFault::Cut)),
         };
-        ended(came, stream.map(|stream| stream.into_socket()))
+        let behind = behind.after(&came);
+        (came, behind)
     }
 }

@@ -1,8 +1,9 @@
 //! A fetch among others of its page.
 
-ghost use Rattle.std.specs.Prelude.{IsSome, IfOk};
-ghost use Rattle.hyper_source.specs.Heads.{StaysOpen};
+ghost use Rattle.std.specs.Prelude.{IfOk};
+ghost use Rattle.hyper_source.specs.Behind.{FollowsHead};
 
+use crate::behind::Behind;
 use crate::deadline::Deadline;
 use crate::exchange::{Exchange, Progress};
 use crate::gathered::Lost;
@@ -52,8 +53,8 @@ pub(crate) struct Leg {
 pub(crate) enum Turn {
     /// The fetch waits for its next turn.
     Waits,
-    /// The fetch has ended; and its socket, if that is to stay open.
-    Ended(Response, Option<TcpStream>),
+    /// The fetch has ended; and what is left of its connection.
+    Ended(Response, Behind<TcpStream>),
     /// A kept connection was closed before the response began.
     Unheard,
 }
@@ -116,7 +117,7 @@ impl Flight {
     ) -> Turn {
         self.goes_on = false;
         let Some(mut leg) = self.leg.take() else {
-            return Turn::Ended(Err(Lost::Fault(FetchFault::Cut)), None);
+            return Turn::Ended(Err(Lost::Fault(FetchFault::Cut)), Behind::End);
         };
         let progress = leg.exchange.go_on(alloc, poller.task());
         self.is_connected = leg.is_kept || self.reach.is_connected();
@@ -125,7 +126,7 @@ impl Flight {
             Progress::GoesOn => self.goes_on = true,
             Progress::Waits(readiness) => {
                 if !leg.is_watched(poller, key, readiness) {
-                    return Turn::Ended(Err(Lost::Fault(FetchFault::Cut)), None);
+                    return Turn::Ended(Err(Lost::Fault(FetchFault::Cut)), Behind::End);
                 }
             }
         }
@@ -134,19 +135,19 @@ impl Flight {
                 self.leg = Some(leg);
                 Turn::Waits
             }
-            Err(late) => Turn::Ended(Err(lost_by(&late)), None),
+            Err(late) => Turn::Ended(Err(lost_by(&late)), Behind::End),
         }
     }
 
     fn ended(&mut self, poller: &Poller, leg: Leg) -> Turn {
         let may_retry = leg.is_kept && !leg.exchange.has_heard();
-        let (came, socket) = leg.into_response(poller);
+        let (came, behind) = leg.into_response(poller);
         match came {
             Err(Lost::Fault(_)) if may_retry => {
                 self.is_connected = false;
                 Turn::Unheard
             }
-            came => Turn::Ended(self.reach.judged(came), socket),
+            came => Turn::Ended(self.reach.judged(came), behind),
         }
     }
 }
@@ -164,9 +165,9 @@ impl Leg {
         }
     }
 
-    // What has come, and the socket, which isn't watched any longer, if it is to stay open.
-    fn into_response(self, poller: &Poller) -> (Response, Option<TcpStream>)
-        ensures { IfOk result.0 (λ page. IsSome result.1 → StaysOpen page.0) }
+    // What has come, and what is left of the connection, whose socket isn't watched any longer.
+    fn into_response(self, poller: &Poller) -> (Response, Behind<TcpStream>)
+        ensures { IfOk result.0 (λ page. FollowsHead page.0 result.1) }
     {
         let Leg {
             exchange,
@@ -174,11 +175,14 @@ impl Leg {
             watched,
         } = self;
         let descriptor = exchange.socket();
-        let (came, socket) = exchange.into_response();
-        if socket.is_none() || watched == Watched::Nothing || poller.forget(descriptor) {
-            (came, socket)
-        } else {
-            (came, None)
-        }
+        let (came, behind) = exchange.into_response();
+        let left = match behind {
+            Behind::Open(stream) if watched == Watched::Nothing || poller.forget(descriptor) => {
+                Behind::Open(stream.into_socket())
+            }
+            Behind::Open(_) | Behind::End => Behind::End,
+            Behind::Strays => Behind::Strays,
+        };
+        (came, left)
     }
 }

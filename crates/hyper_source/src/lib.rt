@@ -5,6 +5,7 @@
 #![tactic(auto)]
 
 mod answers;
+mod behind;
 mod bounded;
 mod deadline;
 mod edge_name;
@@ -17,6 +18,7 @@ mod gate;
 mod gathered;
 mod head;
 mod in_flight;
+mod intake;
 mod latest_faults;
 mod notes;
 mod origin;
@@ -26,6 +28,7 @@ mod poller;
 mod pool;
 mod reach;
 mod request;
+mod reuse;
 mod round_trip;
 mod source;
 mod stream_signals;

@@ -14,7 +14,7 @@ use std::marker::Model;
 use std::sync::atomic::{AtomicU64, Ordering};
 use std::sync::{Mutex, Wait};
 
-/// How the fetches from one origin have ended.
+/// How the fetches from one origin have ended, and what it sent unasked.
 ///
 /// Our profile.
 #[derive(Drop)]
@@ -23,13 +23,16 @@ pub struct OriginTally {
     pub authority: Vec<u8>,
     /// How many have ended how.
     pub fetches: FetchTally,
+    /// How often bytes came from it that nobody had asked for, over a connection that was to be kept.
+    pub strays: u64,
 }
 
-// An origin's authority, and how the fetches from it have ended.
+// An origin's authority, how the fetches from it have ended, and how often bytes came from it unasked.
 #[derive(Drop)]
 struct OriginCounts {
     authority: Vec<u8>,
     counts: FetchCounts,
+    strays: AtomicU64,
 }
 
 /// How the fetches of a `HyperSource`, and of all sources for other requests that were made of it, have ended: each is
@@ -99,6 +102,13 @@ impl FetchNotes {
         }
     }
 
+    /// Bytes came unasked from the origin at this place.
+    pub(crate) fn note_strays(&self, place: usize) {
+        if let Some(origin) = self.origins.get(place) {
+            origin.strays.fetch_add(1, Ordering::SeqCst);
+        }
+    }
+
     fn count_of(&self, place: Option<usize>, fault: Option<FetchFault>) -> &AtomicU64 {
         let origin = place.and_then(|place| self.origins.get(place));
         match origin.and_then(|origin| origin.counts.count_of(fault)) {
@@ -116,6 +126,7 @@ fn counts_of(alloc: Global, origins: &[Origin]) -> Result<Vec<OriginCounts>, All
         made.push(OriginCounts {
             authority: origin.authority.as_slice().to_vec(alloc)?,
             counts: FetchCounts::new(),
+            strays: AtomicU64::new(0),
         })?;
     }
     Ok(made)
@@ -129,6 +140,7 @@ fn tallies_of(alloc: Global, origins: &[OriginCounts]) -> Result<Vec<OriginTally
         made.push(OriginTally {
             authority: origin.authority.as_slice().to_vec(alloc)?,
             fetches: origin.counts.tally(),
+            strays: origin.strays.load(Ordering::SeqCst),
         })?;
     }
     Ok(made)

@@ -5,10 +5,11 @@ ghost use Rattle.std.specs.Io.{ReadsAtMost, WritesAtMost};
 ghost use Rattle.std.specs.IoError.{error_kind};
 
 use crate::deadline::Deadline;
+use crate::intake::{BodyCount, Intake};
 use crate::reach::Reach;
 use futures::task::{Context, Poll};
 use std::io;
-use std::io::{ErrorKind, Read, Write};
+use std::io::{ErrorKind, Write};
 use std::net::{Net, SocketAddr, TcpStream};
 use std::sync::atomic::{AtomicBool, Ordering};
 use std::sync::{Arc, Wait};
@@ -24,6 +25,7 @@ pub(crate) struct OriginStream<R> {
     clock: R,
     deadline: Deadline,
     has_written: bool,
+    intake: Intake,
     // Told as soon as a byte has come.
     heard: Option<Arc<AtomicBool>>,
     // Told of each read and write.
@@ -31,16 +33,17 @@ pub(crate) struct OriginStream<R> {
 }
 
 impl<R: Wait + Net<Stream = TcpStream> + Clock + Clone> OriginStream<R> {
-    /// A new connection.
+    /// A new connection, for an answer whose body is counted so.
     pub(crate) fn connected(
         rt: &R,
         address: SocketAddr,
         deadline: Deadline,
+        body: BodyCount,
     ) -> io::Result<OriginStream<R>> {
         for _ in rt.forever() {
             let socket = connected_once(rt, address, deadline);
             if !was_interrupted(&socket) {
-                return OriginStream::over(rt, socket?, deadline, None);
+                return OriginStream::over(rt, socket?, deadline, body, None);
             }
         }
         unreachable!()
@@ -63,6 +66,7 @@ impl<R: Clock + Clone> OriginStream<R> {
         rt: &R,
         socket: TcpStream,
         deadline: Deadline,
+        body: BodyCount,
         heard: Option<Arc<AtomicBool>>,
     ) -> io::Result<OriginStream<R>> {
         Ok(OriginStream {
@@ -70,6 +74,7 @@ impl<R: Clock + Clone> OriginStream<R> {
             clock: rt.clone()?,
             deadline,
             has_written: false,
+            intake: Intake::new(body),
             heard,
             reach: None,
         })
@@ -110,12 +115,12 @@ impl<R: Clock> OriginStream<R> {
         }
     }
 
-    fn read(&self, buf: &mut [u8]) -> io::Result<usize>
+    fn read(&mut self, buf: &mut [u8]) -> io::Result<usize>
         ensures { ReadsAtMost result buf.new }
     {
         self.socket
             .set_read_timeout(self.deadline.left(&self.clock)?)?;
-        (&self.socket).read(buf)
+        self.intake.read(&self.socket, buf)
     }
 
     fn write(&self, buf: &[u8]) -> io::Result<usize>

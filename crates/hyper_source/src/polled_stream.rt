@@ -3,11 +3,12 @@
 ghost use Rattle.std.specs.Prelude.{◌≡◌, ◌↔◌, ⊤, IsTrue, IsErrAnd};
 ghost use Rattle.std.specs.IoError.{error_kind};
 
+use crate::intake::{BodyCount, Intake};
 use crate::origin_stream::was_interrupted;
 use crate::stream_signals::{Readiness, StreamSignals};
 use futures::task::{Context, Poll};
 use std::io;
-use std::io::{ErrorKind, Read, Write};
+use std::io::{ErrorKind, Write};
 use std::net::TcpStream;
 use std::sync::Arc;
 use tokio::io::{AsyncRead, AsyncWrite};
@@ -20,6 +21,7 @@ use tokio::io::{AsyncRead, AsyncWrite};
 pub(crate) struct PolledStream {
     socket: TcpStream,
     stage: Stage,
+    intake: Intake,
     signals: Arc<StreamSignals>,
 }
 
@@ -37,11 +39,16 @@ enum Stage {
 }
 
 impl PolledStream {
-    /// A connection, made or still being made, over a socket that doesn't block.
-    pub(crate) fn over(socket: TcpStream, signals: Arc<StreamSignals>) -> PolledStream {
+    /// A connection, made or still being made, over a socket that doesn't block, for an answer whose body is counted so.
+    pub(crate) fn over(
+        socket: TcpStream,
+        body: BodyCount,
+        signals: Arc<StreamSignals>,
+    ) -> PolledStream {
         PolledStream {
             socket,
             stage: Stage::Fresh,
+            intake: Intake::new(body),
             signals,
         }
     }
@@ -92,7 +99,7 @@ impl AsyncRead for PolledStream {
             }
             Stage::Answered => {}
         }
-        let done = (&self.socket).read(buf);
+        let done = self.intake.read(&self.socket, buf);
         if would_block(&done) {
             self.signals.awaits(Readiness::Readable);
             return cx.yield_now();

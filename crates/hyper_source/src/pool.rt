@@ -1,9 +1,16 @@
 //! Connections to origins that are kept for further requests.
 
-ghost use Rattle.std.specs.Prelude.{◌≡◌, ◌<◌, ◌↔◌, length, slice_get, IsTrue, IfSome};
+ghost use Rattle.std.specs.Prelude.{◌≡◌, ◌<◌, ◌↔◌, length, slice_get, IsTrue, IfOk, IfSome, IsOkAnd, IsErrAnd};
+ghost use Rattle.std.specs.IoError.{error_kind};
+ghost use Rattle.hyper_source.specs.declared.pool.Heard.TheVariants as heard;
 
+use crate::bounded::millis;
+use crate::origin::Origin;
+use crate::reuse;
+use crate::reuse::{AddressReuse, Reuse};
 use edge_types::NoMemory;
 use std::alloc::{AllocError, Global};
+use std::io;
 use std::io::ErrorKind;
 use std::net::{SocketAddr, TcpStream};
 use std::sync::{Arc, Mutex, Wait};
@@ -20,19 +27,36 @@ pub(crate) struct IdleSocket {
     since: Instant,
 }
 
-/// The idle connections to all origins, the one that was used last first.
+/// Bytes have come over a connection that nobody had asked for.
+#[derive(Clone, Copy, Debug, PartialEq, Eq)]
+pub(crate) struct Strays;
+
+/// The idle connections to all origins.
 #[derive(Drop)]
 pub(crate) struct Pool {
     most: u16,
-    idle: Arc<Mutex<Vec<IdleSocket>>>,
+    kept: Arc<Mutex<Kept>>,
+}
+
+// What the lock guards.
+#[derive(Drop)]
+struct Kept {
+    // The one that was used last comes first.
+    idle: Vec<IdleSocket>,
+    // Of the address of each origin.
+    reuses: Vec<AddressReuse>,
 }
 
 impl Pool {
-    /// Keeps none.
-    pub(crate) fn new(alloc: Global) -> Result<Pool, AllocError> {
+    /// Keeps none to these origins.
+    pub(crate) fn new(alloc: Global, origins: &[Origin]) -> Result<Pool, AllocError> {
+        let kept = Kept {
+            idle: Vec::new(alloc),
+            reuses: reuses_of(alloc, origins)?,
+        };
         Ok(Pool {
             most: 0,
-            idle: Arc::new(alloc, Mutex::new(Vec::new(alloc)))?,
+            kept: Arc::new(alloc, Mutex::new(kept))?,
         })
     }
 
@@ -47,7 +71,7 @@ impl Pool {
     pub(crate) fn share(&self) -> Result<Pool, NoMemory> {
         Ok(Pool {
             most: self.most,
-            idle: Arc::try_clone(&self.idle)?,
+            kept: Arc::try_clone(&self.kept)?,
         })
     }
 
@@ -56,13 +80,22 @@ impl Pool {
         self.most > 0
     }
 
-    /// The connection to an address that was used last, of those that are open and silent. Its socket blocks.
-    pub(crate) fn take<R: Wait + Clock>(&self, rt: &R, address: SocketAddr) -> Option<IdleSocket>
-        ensures { IfSome result (λ idle. idle.address ≡ address) }
+    /// The connection to an address that was used last, of those that are open and silent. Its socket blocks. `Strays`
+    /// where bytes have come over one: then none is left, as after `strayed`.
+    pub(crate) fn take<R: Wait + Clock>(
+        &self,
+        rt: &R,
+        address: SocketAddr,
+    ) -> Result<Option<IdleSocket>, Strays>
+        ensures { IfOk result (λ found. IfSome found (λ idle. idle.address ≡ address)) }
     {
-        let idle = self.take_nonblocking(rt, address)?;
-        idle.socket.set_nonblocking(false).ok()?;
-        Some(idle)
+        let Some(idle) = self.take_nonblocking(rt, address)? else {
+            return Ok(None);
+        };
+        match idle.socket.set_nonblocking(false) {
+            Ok(()) => Ok(Some(idle)),
+            Err(_) => Ok(None),
+        }
     }
 
     /// The same, on a socket that doesn't block.
@@ -70,13 +103,20 @@ impl Pool {
         &self,
         rt: &R,
         address: SocketAddr,
-    ) -> Option<IdleSocket>
-        ensures { IfSome result (λ idle. idle.address ≡ address) }
+    ) -> Result<Option<IdleSocket>, Strays>
+        ensures { IfOk result (λ found. IfSome found (λ idle. idle.address ≡ address)) }
     {
         for _ in rt.forever() {
-            let idle = self.taken(rt, address)?;
-            if is_silent(&idle.socket) {
-                return Some(idle);
+            let Some(idle) = self.taken(rt, address) else {
+                return Ok(None);
+            };
+            match heard_on(&idle.socket) {
+                Heard::Nothing => return Ok(Some(idle)),
+                Heard::Bytes => {
+                    self.strayed(rt, address);
+                    return Err(Strays);
+                }
+                Heard::End => {}
             }
         }
         unreachable!()
@@ -89,27 +129,66 @@ impl Pool {
             return None;
         }
         let now = Instant::now(rt).ok()?;
-        let mut idle = self.idle.lock(rt);
-        close_old(&mut idle, now);
-        taken_from(&mut idle, address)
+        let mut kept = self.kept.lock(rt);
+        close_old(&mut kept.idle, now);
+        taken_from(&mut kept.idle, address)
     }
 
-    /// Keeps a connection, whose socket may block or not, unless there are as many to its address as may be.
+    /// Bytes came unasked from an address: its idle connections are closed, and for a minute none is kept.
+    pub(crate) fn strayed<R: Wait + Clock>(&self, rt: &R, address: SocketAddr) {
+        let now = millis(rt);
+        self.kept.lock(rt).strayed(address, now);
+    }
+
+    /// Keeps a connection, whose socket may block or not, unless none to its address is kept now, or as many as may be are.
     pub(crate) fn leave<R: Wait + Clock>(&self, rt: &R, address: SocketAddr, socket: TcpStream) {
         let Ok(since) = Instant::now(rt) else {
             return;
         };
-        let mut idle = self.idle.lock(rt);
-        if count_of(idle.as_slice(), address) < usize::from(self.most) {
+        let now = millis(rt);
+        let mut kept = self.kept.lock(rt);
+        let most = if kept.keeps(address, now) {
+            usize::from(self.most)
+        } else {
+            0
+        };
+        if count_of(kept.idle.as_slice(), address) < most {
             let left = IdleSocket {
                 address,
                 socket,
                 since,
             };
             // Without room it is closed.
-            let _ = idle.insert(0, left);
+            let _ = kept.idle.insert(0, left);
         }
     }
+}
+
+impl Kept {
+    fn keeps(&self, address: SocketAddr, now: u64) -> bool {
+        match reuse::place_of(self.reuses.as_slice(), address) {
+            Some(place) => self.reuses[place].reuse.keeps(now),
+            None => false,
+        }
+    }
+
+    fn strayed(&mut self, address: SocketAddr, now: u64) {
+        if let Some(place) = reuse::place_of(self.reuses.as_slice(), address) {
+            self.reuses[place].reuse = Reuse::Strayed(now);
+        }
+        self.idle.retain(|idle| !is_same(idle.address, address));
+    }
+}
+
+fn reuses_of(alloc: Global, origins: &[Origin]) -> Result<Vec<AddressReuse>, AllocError> {
+    let mut reuses = Vec::with_capacity(alloc, origins.len())?;
+    for origin in origins {
+        reuses.push(AddressReuse {
+            address: origin.address,
+            reuse: Reuse::Kept,
+        })?;
+    }
+    Ok(reuses)
 }
 
 fn is_same(one: SocketAddr, other: SocketAddr) -> bool
@@ -152,15 +231,36 @@ fn close_old(idle: &mut Vec<IdleSocket>, now: Instant) {
     }
 }
 
-// Whether nothing has come since the last response, neither a byte nor the end: bytes that nobody asked for
-// would be read as the next response. The socket doesn't block any longer.
-fn is_silent(socket: &TcpStream) -> bool {
+/// What has come over a connection since the last response.
+#[derive(Clone, Copy, Debug, PartialEq, Eq)]
+enum Heard {
+    Nothing,
+    /// They would be read as the next response.
+    Bytes,
+    /// The end, or that the connection is lost.
+    End,
+}
+
+// The socket doesn't block any longer.
+fn heard_on(socket: &TcpStream) -> Heard {
     if socket.set_nonblocking(true).is_err() {
-        return false;
+        return Heard::End;
     }
     let mut byte = [0; 1];
-    match socket.peek(&mut byte) {
-        Ok(_) => false,
-        Err(e) => e.kind() == ErrorKind::WouldBlock,
+    heard_by(&socket.peek(&mut byte))
+}
+
+// What a look at a socket that doesn't block has found.
+fn heard_by(look: &io::Result<usize>) -> Heard
+    ensures bytes { (result ≡ heard.Bytes) ↔ IsOkAnd look.now (λ count. 0 < count) }
+    ensures nothing { (result ≡ heard.Nothing) ↔ IsErrAnd look.now (λ e. error_kind e ≡ ErrorKind.WouldBlock) }
+{
+    match look {
+        Ok(0) => Heard::End,
+        Ok(_) => Heard::Bytes,
+        Err(e) => match e.kind() {
+            ErrorKind::WouldBlock => Heard::Nothing,
+            _ => Heard::End,
+        },
     }
 }

@@ -6,17 +6,19 @@ ghost use Rattle.std.specs.Arc.{arc_value};
 mod concurrent;
 
 use crate::answers::{Fetched, answered};
+use crate::behind::Behind;
 use crate::bounded::{OriginGate, end_of, gate_of, gates_of};
 use crate::deadline::Deadline;
 use crate::edge_name::{EdgeName, device_of, way_through};
 use crate::executors::IdleExecutors;
 use crate::gate::Bounds;
 use crate::gathered::Lost;
+use crate::intake::BodyCount;
 use crate::notes::FetchNotes;
 use crate::origin::{Chosen, Origin, origin_for};
 use crate::origin_stream::OriginStream;
 use crate::poller::IdlePollers;
-use crate::pool::Pool;
+use crate::pool::{IdleSocket, Pool, Strays};
 use crate::reach::{Reach, lost_by};
 use crate::request::request_of;
 use crate::round_trip::{Response, round_trip};
@@ -26,7 +28,7 @@ use fetch_workers::{Given, OnBehalf, Source};
 use std::alloc::{AllocGlobal, Global};
 use std::hash::RandomState;
 use std::io;
-use std::net::{Net, SocketAddr, TcpStream};
+use std::net::{Net, TcpStream};
 use std::random::RandomSource;
 use std::sync::atomic::{AtomicBool, Ordering};
 use std::sync::{Arc, Wait};
@@ -83,6 +85,7 @@ impl HyperSource {
         limit: Option<Duration>,
     ) -> io::Result<HyperSource> {
         let notes = FetchNotes::new(alloc, origins.as_slice())?;
+        let pool = Pool::new(alloc, origins.as_slice())?;
         let shared = Shared {
             origins,
             executors: IdleExecutors::new(alloc),
@@ -95,7 +98,7 @@ impl HyperSource {
             keys: RandomState::new(rt)?,
             name: None,
             way: None,
-            pool: Pool::new(alloc)?,
+            pool,
             gates: Arc::new(alloc, Vec::new(alloc))?,
         })
     }
@@ -114,7 +117,8 @@ impl HyperSource {
     /// seconds: a later fetch uses one of them. No two fetches use one at a time.
     ///
     /// What an origin sends unasked, after the look for it and before the response, is taken as the
-    /// response: so connections should be kept only to origins that are trusted.
+    /// response: so connections should be kept only to origins that are trusted. Where such bytes are seen in time, the idle
+    /// connections to the address are closed, and none is kept for a minute.
     ///
     /// Source: RFC 9112, "Persistence".
     pub fn keeping(self, most: u16) -> HyperSource {
@@ -150,7 +154,7 @@ impl HyperSource {
     where
         R: Wait + Net<Stream = TcpStream> + Clock + RandomSource + AllocGlobal + Clone + Drop,
     {
-        let Some(Chosen { place: _, address }) = origin else {
+        let Some(origin) = origin else {
             return Err(Lost::Fault(FetchFault::NoOrigin));
         };
         let Ok(deadline) = Deadline::after(rt, self.limit) else {
@@ -158,14 +162,14 @@ impl HyperSource {
         };
         let reach = Reach::new(alloc)?;
         let told = reach.share()?;
-        let Some(gate) = gate_of(self.gates.as_slice(), address) else {
-            return reach.judged(self.fetched(rt, alloc, url, address, deadline, told));
+        let Some(gate) = gate_of(self.gates.as_slice(), origin.address) else {
+            return reach.judged(self.fetched(rt, alloc, url, origin, deadline, told));
         };
         let Ok(turn) = Deadline::of_turn(rt, self.limit) else {
             return Err(Lost::Fault(FetchFault::Cut));
         };
         let permit = gate.permit(rt, turn)?;
-        let got = reach.judged(self.fetched(rt, alloc, url, address, deadline, told));
+        let got = reach.judged(self.fetched(rt, alloc, url, origin, deadline, told));
         gate.ended(rt, permit, end_of(reach.is_connected(), &got));
         got
     }
@@ -176,21 +180,22 @@ impl HyperSource {
         rt: &R,
         alloc: Global,
         url: &PageUrl,
-        address: SocketAddr,
+        origin: Chosen,
         deadline: Deadline,
         reach: Reach,
     ) -> Response
     where
         R: Wait + Net<Stream = TcpStream> + Clock + RandomSource + AllocGlobal + Clone + Drop,
     {
-        if let Some(came) = self.asked_over_idle(rt, alloc, url, address, deadline) {
+        if let Some(came) = self.asked_over_idle(rt, alloc, url, origin, deadline) {
             reach.connects();
             return came;
         }
-        match OriginStream::connected(rt, address, deadline) {
+        let body = BodyCount::new(alloc)?;
+        match OriginStream::connected(rt, origin.address, deadline, body.share()?) {
             Ok(io) => {
                 reach.connects();
-                self.asked_over(rt, alloc, url, address, io.telling(reach))
+                self.asked_over(rt, alloc, url, origin, io.telling(reach), body)
             }
             Err(error) => Err(lost_by(&error)),
         }
@@ -203,17 +208,19 @@ impl HyperSource {
         rt: &R,
         alloc: Global,
         url: &PageUrl,
-        address: SocketAddr,
+        origin: Chosen,
         deadline: Deadline,
     ) -> Option<Response>
     where
         R: Wait + Net<Stream = TcpStream> + Clock + RandomSource + AllocGlobal + Clone + Drop,
     {
-        let idle = self.pool.take(rt, address)?;
+        let idle = self.kept(rt, origin)?;
+        let body = BodyCount::new(alloc).ok()?;
+        let counted = body.share().ok()?;
         let heard = Arc::new(alloc, AtomicBool::new(false)).ok()?;
         let told = Arc::try_clone(&heard).ok()?;
-        let io = OriginStream::over(rt, idle.socket, deadline, Some(told)).ok()?;
-        let came = self.asked_over(rt, alloc, url, address, io);
+        let io = OriginStream::over(rt, idle.socket, deadline, counted, Some(told)).ok()?;
+        let came = self.asked_over(rt, alloc, url, origin, io, body);
         if !matches!(came, Err(Lost::Fault(_))) || heard.load(Ordering::SeqCst) {
             return Some(came);
         }
@@ -229,8 +236,9 @@ impl HyperSource {
         rt: &R,
         alloc: Global,
         url: &PageUrl,
-        address: SocketAddr,
+        origin: Chosen,
         io: OriginStream<R>,
+        body: BodyCount,
     ) -> Response
     where
         R: Wait + Net<Stream = TcpStream> + Clock + RandomSource + AllocGlobal + Clone + Drop,
@@ -245,12 +253,41 @@ impl HyperSource {
         let Some(mut executor) = self.shared.executors.take(rt) else {
             return Err(Lost::Fault(FetchFault::Cut));
         };
-        let (came, open) = round_trip(rt, alloc, &mut executor, self.keys, io, request);
+        let (came, behind) = round_trip(rt, alloc, &mut executor, self.keys, io, body, request);
         self.shared.executors.leave(rt, executor);
-        if let Some(io) = open {
-            self.pool.leave(rt, address, io.into_socket());
-        }
+        let left = match behind {
+            Behind::Open(io) => Behind::Open(io.into_socket()),
+            Behind::Strays => Behind::Strays,
+            Behind::End => Behind::End,
+        };
+        self.leave(rt, origin, left);
         came
+    }
+
+    // A connection that was kept, whose socket blocks.
+    fn kept<R: Wait + Clock>(&self, rt: &R, origin: Chosen) -> Option<IdleSocket> {
+        match self.pool.take(rt, origin.address) {
+            Ok(found) => found,
+            Err(Strays) => {
+                self.shared.notes.note_strays(origin.place);
+                None
+            }
+        }
+    }
+
+    // Keeps what is left of a connection, if it may be kept.
+    fn leave<R: Wait + Clock>(&self, rt: &R, origin: Chosen, behind: Behind<TcpStream>) {
+        if !self.pool.keeps() {
+            return;
+        }
+        match behind {
+            Behind::Open(socket) => self.pool.leave(rt, origin.address, socket),
+            Behind::Strays => {
+                self.pool.strayed(rt, origin.address);
+                self.shared.notes.note_strays(origin.place);
+            }
+            Behind::End => {}
+        }
     }
 
     // The answer that a fetch results in, once that is noted.

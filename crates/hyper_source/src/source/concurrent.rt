@@ -1,5 +1,6 @@
 //! Fetches of one page that are in flight at once.
 
+use crate::behind::Behind;
 use crate::bounded::{OriginGate, end_of, gate_of};
 use crate::deadline::Deadline;
 use crate::exchange::Exchange;
@@ -9,6 +10,7 @@ use crate::gathered::Lost;
 use crate::in_flight::{FetchesInFlight, HeldPermit, Queued, Wanted};
 use crate::origin::Chosen;
 use crate::poller::Watched;
+use crate::pool::{IdleSocket, Strays};
 use crate::reach::{Reach, lost_by};
 use crate::request::request_of;
 use crate::round_trip::Response;
@@ -172,6 +174,17 @@ impl HyperSource {
         in_flight.poller.is_some()
     }
 
+    // A connection that was kept, whose socket doesn't block.
+    fn kept_nonblocking<R: Wait + Clock>(&self, rt: &R, origin: Chosen) -> Option<IdleSocket> {
+        match self.pool.take_nonblocking(rt, origin.address) {
+            Ok(found) => found,
+            Err(Strays) => {
+                self.shared.notes.note_strays(origin.place);
+                None
+            }
+        }
+    }
+
     // A fetch over a connection that was kept, or a new one that may tell of the origin.
     fn flight<R>(&self, rt: &R, alloc: Global, wanted: Wanted) -> Result<Flight, Lost>
     where
@@ -184,7 +197,7 @@ impl HyperSource {
             turn: _,
         } = wanted;
         let reach = Reach::new(alloc)?;
-        let leg = match self.pool.take_nonblocking(rt, origin.address) {
+        let leg = match self.kept_nonblocking(rt, origin) {
             Some(idle) => self.leg(alloc, &url, idle.socket, true, None)?,
             None => self.new_leg(rt, alloc, &url, origin.address, reach.share()?)?,
         };
@@ -243,10 +256,10 @@ impl HyperSource {
     {
         match in_flight.turn(rt, alloc, key) {
             Turn::Waits => Ok(None),
-            Turn::Ended(came, socket) => self.landed(rt, alloc, in_flight, key, came, socket),
+            Turn::Ended(came, behind) => self.landed(rt, alloc, in_flight, key, came, behind),
             Turn::Unheard => match self.retried(rt, alloc, in_flight, key) {
                 Ok(()) => Ok(None),
-                Err(lost) => self.landed(rt, alloc, in_flight, key, Err(lost), None),
+                Err(lost) => self.landed(rt, alloc, in_flight, key, Err(lost), Behind::End),
             },
         }
     }
@@ -282,7 +295,7 @@ impl HyperSource {
         in_flight: &mut FetchesInFlight,
         key: usize,
         came: Response,
-        socket: Option<TcpStream>,
+        behind: Behind<TcpStream>,
     ) -> Result<Option<Arc<Answer>>, NoMemory>
     where
         R: Wait + Clock,
@@ -294,9 +307,7 @@ impl HyperSource {
         let Some(flight) = in_flight.remove(rt, key, end_of(is_connected, &came)) else {
             return Ok(None);
         };
-        if let Some(socket) = socket {
-            self.pool.leave(rt, flight.origin.address, socket);
-        }
+        self.leave(rt, flight.origin, behind);
         let answer = self.noted(rt, alloc, &flight.url, Some(flight.origin), came)?;
         Ok(Some(answer))
     }
