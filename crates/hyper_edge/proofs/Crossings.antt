@@ -5,13 +5,14 @@ use denote.Param.Send.{IsSend, IsSync, sendable}
 use denote.Param.SendFields.{as_row_send, declared_send, declared_sync}
 use Rattle.std.proofs.Crossing
 use Rattle.std.proofs.option.Option.TheSendSync as Option
+use Rattle.std.specs.contracts.alloc.Global as heap
+use Rattle.std.specs.contracts.boxed.Box as boxed
+use Rattle.std.specs.contracts.impls.GlobalAllocator.TheImpl.{ghosts}
 use Rattle.std.specs.contracts.option.Option as option
 use Rattle.futures.specs.declared.future.Future as future
 use Rattle.fetch_workers.proofs.Crossings.{page_in_progress_send}
 use Rattle.fetch_workers.specs.declared.source.Source.{Ghosts}
 use Rattle.hyper_edge.proofs.connection.Connection.TheSendSync as Connection
-use Rattle.hyper_edge.proofs.departure.ClientWatch.TheSendSync as ClientWatch
-use Rattle.hyper_edge.proofs.handover.Asked.TheSendSync as Asked
 use Rattle.hyper_edge.proofs.journal.Unreported.TheSendSync as Unreported
 use Rattle.hyper_edge.specs.declared.page_time.WithinTime.{WithinTime}
 use Rattle.hyper_edge.specs.contracts.page_time.WithinTime as within_time
@@ -19,6 +20,7 @@ use Rattle.fetch_workers.proofs.owed_fetches.OwedFetches.TheSendSync as OwedFetc
 use Rattle.fetch_workers.specs.contracts.owed_fetches.OwedFetches as owed_fetches
 use Rattle.hyper_edge.proofs.parking.ParkingPlace.TheSendSync as ParkingPlace
 use Rattle.hyper_edge.proofs.parking.Waiting.TheSendSync as Waiting
+use Rattle.hyper_edge.proofs.serving.Requested.TheSendSync as Requested
 use Rattle.hyper_edge.proofs.serving.Serving.TheSendSync as Serving
 use Rattle.hyper_edge.proofs.shared_roster.SharedRoster.TheSendSync as SharedRoster
 use Rattle.hyper_edge.specs.contracts.parking.Waiting as waiting
@@ -29,23 +31,14 @@ use Rattle.hyper_edge.specs.contracts.serving.Session as session
 page_asked_send : (R S F G : RattleType) (source : Ghosts (WithinTime S.Denot) R.Denot) → IsSend R → IsSend (within_time.the_row S) → IsSend G → IsSend (page_asked.the_row R S F G source)
 page_asked_send R S F G source r s g = declared_send (page_asked.the_type R S F G source) (
   search (page_in_progress_send R (within_time.the_row S) G source r s g, sendable) depth 60 fits 20000,
-  (
-    search (Asked.the_field_send, Crossing.crosses, sendable) depth 60 fits 20000,
-    (
-      search (Crossing.crosses, sendable) depth 60 fits 20000,
-      (
-        search (Option.the_field_send, ClientWatch.the_send, Crossing.crosses, sendable) depth 60 fits 20000,
-        tt,
-      ),
-    ),
-  ),
+  (search (Requested.the_field_send, Crossing.crosses, sendable) depth 60 fits 20000, tt),
 )
 
 pub session_send : (C R S O F G : RattleType) (polled : future.Ghosts C.Denot O.Denot) (source : Ghosts (WithinTime S.Denot) R.Denot) → IsSend C → IsSend R → IsSend (within_time.the_row S) → IsSend G → IsSend (session.the_row C R S O F G polled source)
 session_send C R S O F G polled source c r s g = declared_send (session.the_type C R S O F G polled source) (
   search (Connection.the_field_send, Crossing.crosses, sendable) depth 60 fits 20000,
   (
-    as_row_send (option.the_field (page_asked.the_row R S F G source)) (Option.the_field_send (page_asked.the_row R S F G source) (page_asked_send R S F G source r s g)),
+    as_row_send (option.the_field (boxed.the_row (page_asked.the_row R S F G source) heap.the_row ghosts)) (Option.the_field_send _ (Crossing.Box-send _ (page_asked_send R S F G source r s g))),
     (
       search (Crossing.crosses, sendable) depth 60 fits 20000,
       (

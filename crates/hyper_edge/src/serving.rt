@@ -3,7 +3,6 @@
 ghost use Rattle.hyper_edge.specs.Opening.{GivesPollable};
 
 use crate::connection::{Connection, Stop, Went, http_of};
-use crate::departure::ClientWatch;
 use crate::executor::Executor;
 use crate::handover::{Answered, Asked, Handover, HandsOver};
 use crate::journal::{Journal, NoJournal, Unreported, refused_head};
@@ -20,7 +19,6 @@ use page_http::EdgeBody;
 use std::alloc::AllocError;
 use std::mem;
 use std::net::IpAddr;
-use std::os::fd::RawFd;
 use std::sync::{Arc, Wait};
 use std::thread::Threads;
 use std::time::{Clock, Duration, Instant};
@@ -57,7 +55,7 @@ where
     serving.serve_one(&opens, io, executor);
 }
 
-/// A connection, the page that is being assembled for its request, if one is, and what is to be reported of its requests.
+/// A connection, the page that waits for its fetches, if one does, and what is to be reported of its requests.
 #[derive(Drop)]
 pub(crate) struct Session<F, R, S>
 where
@@ -67,12 +65,13 @@ where
     WithinTime<S>: ConcurrentSource<R> + Drop,
 {
     connection: Connection<F>,
-    page: Option<PageAsked<R, S>>,
+    // In a box, since most sessions have none, and each is moved.
+    page: Option<Box<PageAsked<R, S>>>,
     client: Option<IpAddr>,
     unreported: Vec<Unreported>,
 }
 
-// A page that is being assembled, and the request that asked for it, whose head had come at `begun`.
+// A page that is being assembled, and the request that asked for it.
 #[derive(Drop)]
 struct PageAsked<R, S>
 where
@@ -81,31 +80,18 @@ where
     WithinTime<S>: ConcurrentSource<R> + Drop,
 {
     page: PageInProgress<R, WithinTime<S>>,
+    request: Requested,
+}
+
+// A request that waits for its response, and when its head had come, where that is to be reported.
+#[derive(Drop)]
+struct Requested {
     asked: Asked,
     begun: Option<Instant>,
-    // The client's socket, where it is looked at.
-    client: Option<ClientWatch>,
 }
 
 /// Fetches of a page that has ended, for which others wait.
 pub(crate) type Owed<R, S> = OwedFetches<R, WithinTime<S>>;
-
-impl<R, S> PageAsked<R, S>
-where
-    R: Wait + Clock + Drop,
-    S: ConcurrentSource<R> + Drop,
-{
-    // Why the page can't go on now; `None` where only a wait in this thread would tell when it can.
-    fn pause<F>(&mut self, connection: &Connection<F>) -> Option<Pause>
-    where
-        F: Future<Output = hyper::Result<()>>,
-    {
-        if !connection.may_pause() {
-            return None;
-        }
-        Some(Pause::for_fetches(self.page.awaited()?, self.client))
-    }
-}
 
 /// What answers the requests of connections.
 #[derive(Drop)]
@@ -184,29 +170,30 @@ where
     {
         let Session {
             mut connection,
-            mut page,
+            page,
             client,
             mut unreported,
         } = session;
+        let mut waits = match page {
+            Some(asked) => self.paged(
+                Box::into_inner(asked),
+                &connection,
+                client,
+                &mut unreported,
+                may_linger,
+                owed,
+            ),
+            None => None,
+        };
         for _ in self.rt.forever() {
-            if let Some(asked) = page {
-                let waits = self.paged(
-                    asked,
-                    &connection,
+            if let Some((asked, pause)) = waits {
+                let session = Session {
+                    connection,
+                    page: Some(asked),
                     client,
-                    &mut unreported,
-                    may_linger,
-                    owed,
-                );
-                if let Some((asked, pause)) = waits {
-                    let session = Session {
-                        connection,
-                        page: Some(asked),
-                        client,
-                        unreported,
-                    };
-                    return Some((session, pause));
-                }
+                    unreported,
+                };
+                return Some((session, pause));
             }
             let (stopped, stop) = match connection.go_on(self.rt, executor) {
                 Went::Stopped(stopped, stop) => (stopped, stop),
@@ -217,8 +204,15 @@ where
                 }
             };
             connection = stopped;
-            page = match stop {
-                Stop::Asked(asked) => self.begun(asked, &connection, client, &mut unreported),
+            waits = match stop {
+                Stop::Asked(asked) => self.begun(
+                    asked,
+                    &connection,
+                    client,
+                    &mut unreported,
+                    may_linger,
+                    owed,
+                ),
                 Stop::Written => {
                     self.report(&mut unreported);
                     None
@@ -247,26 +241,63 @@ where
         unreported: &mut Vec<Unreported>,
         may_linger: &L,
         owed: &mut Vec<Owed<R, S>>,
-    ) -> Option<(PageAsked<R, S>, Pause)>
+    ) -> Option<(Box<PageAsked<R, S>>, Pause)>
     where
         F: Future<Output = hyper::Result<()>>,
         L: Fn() -> bool,
         requires { L.IsAlwaysCallable may_linger.now }
     {
-        let mut waiting = self.gone_on(asked, connection, client, unreported, owed)?;
+        let PageAsked { page, request } = asked;
+        let mut waiting = self.gone_on(page, &request, connection, client, unreported, owed)?;
         let lingers = Lingers::begun(self.rt);
         for _ in self.rt.forever() {
             if lingers.lasts(self.rt) && may_linger() {
-                waiting.page.wait(Some(Duration::from_millis(STEP_MILLIS)));
+                waiting.wait(Some(Duration::from_millis(STEP_MILLIS)));
             } else {
-                match waiting.pause(connection) {
-                    Some(pause) => return Some((waiting, pause)),
-                    None => waiting.page.wait(None),
+                match self.pause(&mut waiting, connection) {
+                    Some(pause) => return self.left(waiting, request, pause, connection),
+                    None => waiting.wait(None),
                 }
             }
-            waiting = self.gone_on(waiting, connection, client, unreported, owed)?;
+            waiting = self.gone_on(waiting, &request, connection, client, unreported, owed)?;
         }
         unreachable!()
+    }
+
+    // Why a page can't go on now; `None` where only a wait in this thread would tell when it can.
+    fn pause<F>(
+        &self,
+        page: &mut PageInProgress<R, WithinTime<S>>,
+        connection: &Connection<F>,
+    ) -> Option<Pause>
+    where
+        F: Future<Output = hyper::Result<()>>,
+    {
+        if !connection.may_pause() {
+            return None;
+        }
+        let client = self.service.watch(connection.socket());
+        Some(Pause::for_fetches(page.awaited()?, client))
+    }
+
+    // A page that is left by its thread. Without room for it, its connection ends.
+    fn left<F>(
+        &self,
+        page: PageInProgress<R, WithinTime<S>>,
+        request: Requested,
+        pause: Pause,
+        connection: &Connection<F>,
+    ) -> Option<(Box<PageAsked<R, S>>, Pause)>
+    where
+        F: Future<Output = hyper::Result<()>>,
+    {
+        match Box::new(self.service.alloc(), PageAsked { page, request }) {
+            Ok(asked) => Some((asked, pause)),
+            Err(_) => {
+                connection.handover().answer(Err(AllocError));
+                None
+            }
+        }
     }
 
     /// Goes on with fetches that others wait for until nobody does.
@@ -298,34 +329,34 @@ where
         self.report(&mut unreported);
     }
 
-    // Begins the response to a request. The page that is to be assembled for it, if it is none that is there at once.
-    fn begun<F>(
+    // Begins the response to a request, and goes on with the page that is to be assembled for it, if it is none that is
+    // there at once, as `paged` does.
+    fn begun<F, L>(
         &self,
         asked: Asked,
         connection: &Connection<F>,
         client: Option<IpAddr>,
         unreported: &mut Vec<Unreported>,
-    ) -> Option<PageAsked<R, S>>
+        may_linger: &L,
+        owed: &mut Vec<Owed<R, S>>,
+    ) -> Option<(Box<PageAsked<R, S>>, Pause)>
     where
         F: Future<Output = hyper::Result<()>>,
+        L: Fn() -> bool,
+        requires { L.IsAlwaysCallable may_linger.now }
     {
         let begun = match self.journal.is_kept() {
             true => Instant::now(self.rt).ok(),
             false => None,
         };
-        let socket = connection.socket();
-        match self.service.begin(&asked.head, socket) {
+        let request = Requested { asked, begun };
+        match self.service.begin(&request.asked.head, connection.socket()) {
             Ok(Err(page)) => {
-                let client = self.service.watch(socket);
-                return Some(PageAsked {
-                    page,
-                    asked,
-                    begun,
-                    client,
-                });
+                let asked = PageAsked { page, request };
+                return self.paged(asked, connection, client, unreported, may_linger, owed);
             }
             Ok(Ok(responded)) => {
-                let answered = self.answered(responded, &asked, begun, client, unreported);
+                let answered = self.answered(responded, &request, client, unreported);
                 connection.handover().answer(answered);
             }
             Err(NoMemory) => connection.handover().answer(Err(AllocError)),
@@ -337,30 +368,18 @@ where
     // to others is added.
     fn gone_on<F>(
         &self,
-        asked: PageAsked<R, S>,
+        page: PageInProgress<R, WithinTime<S>>,
+        request: &Requested,
         connection: &Connection<F>,
         client: Option<IpAddr>,
         unreported: &mut Vec<Unreported>,
         owed: &mut Vec<Owed<R, S>>,
-    ) -> Option<PageAsked<R, S>>
+    ) -> Option<PageInProgress<R, WithinTime<S>>>
     where
         F: Future<Output = hyper::Result<()>>,
     {
-        let PageAsked {
-            page,
-            asked,
-            begun,
-            client: watch,
-        } = asked;
         match go_on_with(self.service.alloc(), page) {
-            Ok(Err(page)) => {
-                return Some(PageAsked {
-                    page,
-                    asked,
-                    begun,
-                    client: watch,
-                });
-            }
+            Ok(Err(page)) => return Some(page),
             Ok(
                 Ok(
                     Told {
@@ -369,7 +388,7 @@ where
                     },
                 ),
             ) => {
-                let answered = self.answered(responded, &asked, begun, client, unreported);
+                let answered = self.answered(responded, request, client, unreported);
                 connection.handover().answer(answered);
                 if let Some(left) = left {
                     // Without room for them they are given up.
@@ -386,12 +405,12 @@ where
     fn answered(
         &self,
         responded: Responded,
-        asked: &Asked,
-        begun: Option<Instant>,
+        request: &Requested,
         client: Option<IpAddr>,
         unreported: &mut Vec<Unreported>,
     ) -> Answered {
-        if let Some(begun) = begun {
+        let asked = &request.asked;
+        if let Some(begun) = request.begun {
             let alloc = self.service.alloc();
             let client = self.service.client_of(&asked.head, client);
             let left = Unreported::new(
