@@ -1,5 +1,7 @@
 -- When connections may be accepted, when one more thread is wanted, and when failed accepts end a server.
 use Rattle.std.specs.Prelude.{ℕ, ◌≡◌, ◌+◌, ◌-◌, ◌*◌, ◌^◌, ◌<◌, ◌≤◌, min, max, Bool, ◌||◌, false, true}
+use Rattle.hyper_edge.specs.declared.accept.AcceptFault.{AcceptFault}
+use Rattle.hyper_edge.specs.declared.accept.AcceptFault.TheVariants as accept_fault
 use Rattle.hyper_edge.specs.declared.roster.Capacity.{Capacity}
 use Rattle.hyper_edge.specs.declared.roster.Roster.{Roster}
 use Rattle.hyper_edge.specs.Staff as staff
@@ -38,6 +40,11 @@ pub record IsEmpty (roster : Roster) : Type 0 where
   pub accepted : roster.begun ≡ 0
   pub ended : roster.held ≡ 0
 
+-- nobody is accepted any longer
+pub record IsClosed (roster : Roster) : Type 0 where
+  pub over : ¬ (IsOpen roster)
+  pub accepted : roster.begun ≡ 0
+
 -- nothing is left to be done
 pub record IsDone (roster : Roster) : Type 0 where
   pub over : ¬ (IsOpen roster)
@@ -51,11 +58,20 @@ begun roster = record roster { left = roster.left - 1; begun = min (roster.begun
 abbrev pub given_back : Roster → Roster
 given_back roster = record roster { left = min (roster.left + 1) (2 ^ 64 - 1); begun = roster.begun - 1 }
 
--- the failure counts: nobody accepts until a pause is over, and the next one is twice as long, up to a second
-abbrev pub failed_once : Roster → Roster
-failed_once roster = record (given_back roster) { failed = min (roster.failed + 1) (2 ^ 32 - 1); pause = min (roster.pause * 2) 1000; resting = true }
+-- and nobody accepts until a pause is over; the next one is twice as long, up to a second
+abbrev pub paused : Roster → Roster
+paused roster = record (given_back roster) { pause = min (roster.pause * 2) 1000; resting = true }
 
--- a failure doesn't count: another one does, or the accept was ended with the server
+-- and the failure counts
+abbrev pub failed_once : Roster → Roster
+failed_once roster = record (paused roster) { failed = min (roster.failed + 1) (2 ^ 32 - 1) }
+
+-- open connections hold what the accept lacked
+pub record IsHeld (roster : Roster) (fault : AcceptFault) : Type 0 where
+  pub lacked : fault ≡ accept_fault.Exhausted
+  pub some_are_open : 0 < roster.held
+
+-- no pause follows: one is under way, or the accept was ended with the server
 abbrev pub is_no_failure : Roster → Bool
 is_no_failure roster = roster.resting || roster.stopped
 

@@ -5,13 +5,22 @@ use std::net::IpAddr;
 use std::sync::Arc;
 use std::time::Duration;
 
+/// Why an accept has failed.
+#[derive(Clone, Copy, Debug, PartialEq, Eq)]
+pub enum AcceptFault {
+    /// For want of a file descriptor, or of memory: connections that end give some back.
+    Exhausted,
+    /// For any other reason.
+    Other,
+}
+
 /// What accepts connections, from any number of threads at once, and tells when one that waits can go on.
 pub trait Accept<R> {
     /// The stream of a connection.
     type Io: Send + Drop;
 
-    /// Waits for a connection. `None` means that the accept failed.
-    fn accept(&self, rt: &R) -> Option<Self::Io>;
+    /// Waits for a connection. Refused if the accept fails.
+    fn accept(&self, rt: &R) -> Result<Self::Io, AcceptFault>;
 
     /// Waits for a moment until a client comes, so that `accept` needn't wait, and tells whether one has come. By default it
     /// tells so at once, and `accept` waits.

@@ -4,7 +4,7 @@ ghost use Rattle.std.specs.Prelude.{⊤};
 ghost use Rattle.std.specs.Io.{ReadsAtMost, WritesAtMost};
 
 use crate::exchange::{Exchange, Limits, Stage, deadline};
-use crate::signals::{Pause, Readiness, Signals};
+use crate::signals::{Pause, PausedBy, Readiness, Signals};
 use futures::task::{Context, Poll};
 use std::alloc::Global;
 use std::io;
@@ -123,11 +123,15 @@ impl<R: Clock + Drop> ClientStream<R> {
         if self.exchange.stage == Stage::Kept {
             self.exchange.stage = Stage::Idle;
         }
+        let by = match self.exchange.stage {
+            Stage::Idle => PausedBy::IdleClient,
+            _ => PausedBy::Client,
+        };
         let pause = Pause {
             socket: self.socket.as_raw_fd(),
             readiness,
             until: self.exchange.until,
-            is_idle: self.exchange.stage == Stage::Idle,
+            by,
             client: None,
         };
         self.signals.pauses(pause);

@@ -11,6 +11,7 @@ ghost use Rattle.hyper_edge.specs.Records.{IsCopyOrEmpty};
 
 use crate::faults::fault_of;
 use crate::responding::Responded;
+use crate::roster::ServeEnd;
 use access_log::{Fault, Reason, RequestRecord, Version};
 use edge_types::PageUrl;
 use fetch_outcomes::FetchFault;
@@ -40,6 +41,10 @@ pub trait Journal<R> {
 
     /// An accept has failed, and not because the server was stopped; of several at the same time one counts.
     fn accept_failed(&self) {}
+
+    /// Nobody is accepted any longer: the server ends so once each connection has ended. Told again and again from then on, by
+    /// the thread that tells `tick`.
+    fn closed(&self, _end: ServeEnd) {}
 
     /// A connection was parked: it waits for its client, and no thread holds it any longer.
     fn parked(&self) {}

@@ -29,7 +29,7 @@ mod sockets;
 mod staff;
 mod threads;
 
-pub use accept::Accept;
+pub use accept::{Accept, AcceptFault};
 pub use access_log::RequestRecord;
 pub use client_stream::ClientStream;
 pub use exchange::Limits;
@@ -43,6 +43,6 @@ pub use roster::{Capacity, ServeEnd};
 pub use runtime::ServerRuntime;
 pub use service::{EdgeService, MAX_PASSED};
 pub use serving::serve_io;
-pub use signals::{Pause, Readiness, Signals};
+pub use signals::{Pause, PausedBy, Readiness, Signals};
 pub use sockets::{Sockets, StopSign};
 pub use threads::serve_accepts;

@@ -3,7 +3,7 @@
 ghost use Rattle.std.specs.Prelude.{◌≡◌, None, IfNone, IfSome, IsSomeAnd};
 ghost use Rattle.slab.specs.Slab.{get};
 
-use crate::signals::Pause;
+use crate::signals::{Pause, PausedBy};
 use slab::Slab;
 use std::alloc::Global;
 use std::collections::BTreeSet;
@@ -68,6 +68,16 @@ impl<T: Drop> ParkingPlace<T> {
         self.lot.lock(rt).take_idle()
     }
 
+    /// The connection that has let it wait for longest, among those that wait for their clients: one that is idle before any
+    /// other.
+    pub(crate) fn take_client(&self, rt: &impl Wait) -> Option<T> {
+        let mut lot = self.lot.lock(rt);
+        match lot.take_idle() {
+            Some(idle) => Some(idle),
+            None => lot.take_client(),
+        }
+    }
+
     /// Each connection that waits; none waits any longer.
     pub(crate) fn take_all(&self, rt: &impl Wait, alloc: Global) -> Slab<Parked<T>> {
         let mut lot = self.lot.lock(rt);
@@ -75,6 +85,8 @@ impl<T: Drop> ParkingPlace<T> {
             parked,
             limits: _,
             idle: _,
+            clients: _,
+            turns: _,
         } = mem::replace(&mut *lot, Lot::new(alloc));
         parked
     }
@@ -87,6 +99,10 @@ struct Lot<T> {
     // When the time of each is over that has a limit, and its key; and the same of those that are idle.
     limits: BTreeSet<(Instant, usize)>,
     idle: BTreeSet<(Instant, usize)>,
+    // Of each other one that waits for its client, the turn at which it was parked, and its key; and how many turns there
+    // were.
+    clients: BTreeSet<(u64, usize)>,
+    turns: u64,
 }
 
 /// A connection that waits.
@@ -95,6 +111,8 @@ pub(crate) struct Parked<T> {
     pub session: T,
     // When the time of its client is over.
     until: Option<Instant>,
+    // Its turn, if it waits for its client and isn't idle.
+    turn: Option<u64>,
 }
 
 impl<T: Drop> Lot<T> {
@@ -103,29 +121,58 @@ impl<T: Drop> Lot<T> {
             parked: Slab::new(alloc),
             limits: BTreeSet::new(alloc),
             idle: BTreeSet::new(alloc),
+            clients: BTreeSet::new(alloc),
+            turns: 0,
         }
     }
 
     // The key of what is taken in. It comes back where there is no room for it.
     fn park(&mut self, session: T, pause: Pause) -> Result<usize, Option<T>> {
         let until = pause.until;
-        let key = match self.parked.insert(Parked { session, until }) {
+        let turn = match pause.by {
+            PausedBy::Client => Some(self.turns),
+            PausedBy::IdleClient | PausedBy::Fetches => None,
+        };
+        let parked = Parked {
+            session,
+            until,
+            turn,
+        };
+        let key = match self.parked.insert(parked) {
             Ok(key) => key,
             Err(failed) => {
-                let Parked { session, until: _ } = failed.value;
+                let Parked {
+                    session,
+                    until: _,
+                    turn: _,
+                } = failed.value;
                 return Err(Some(session));
             }
         };
-        let Some(until) = until else {
-            return Ok(key);
-        };
-        let is_listed = self.limits.insert((until, key)).is_ok()
-            && (!pause.is_idle || self.idle.insert((until, key)).is_ok());
-        if is_listed {
+        if self.list_turn(key, turn) && self.list_limit(key, pause) {
             Ok(key)
         } else {
             Err(self.take(key))
         }
+    }
+
+    // Lists when what is under a key was parked. Returns false where there is no room for that.
+    fn list_turn(&mut self, key: usize, turn: Option<u64>) -> bool {
+        let Some(turn) = turn else {
+            return true;
+        };
+        self.turns = turn.saturating_add(1);
+        self.clients.insert((turn, key)).is_ok()
+    }
+
+    // Lists when the time of what is under a key is over. Returns false where there is no room for that.
+    fn list_limit(&mut self, key: usize, pause: Pause) -> bool {
+        let Some(until) = pause.until else {
+            return true;
+        };
+        let is_idle = pause.by == PausedBy::IdleClient;
+        self.limits.insert((until, key)).is_ok()
+            && (!is_idle || self.idle.insert((until, key)).is_ok())
     }
 
     // The connection under a key, which is there no longer.
@@ -133,10 +180,17 @@ impl<T: Drop> Lot<T> {
         ensures given { IfSome result (λ session. IsSomeAnd (get self.old.parked key) (λ parked. parked.session ≡ session)) }
         ensures absent { IfNone result (get self.old.parked key ≡ None) }
     {
-        let Parked { session, until } = self.parked.try_remove(key)?;
+        let Parked {
+            session,
+            until,
+            turn,
+        } = self.parked.try_remove(key)?;
         if let Some(until) = until {
             self.limits.remove(&(until, key));
             self.idle.remove(&(until, key));
+        }
+        if let Some(turn) = turn {
+            self.clients.remove(&(turn, key));
         }
         Some(session)
     }
@@ -148,6 +202,11 @@ impl<T: Drop> Lot<T> {
 
     fn take_idle(&mut self) -> Option<T> {
         let (_, key) = *self.idle.first()?;
+        self.take(key)
+    }
+
+    fn take_client(&mut self) -> Option<T> {
+        let (_, key) = *self.clients.first()?;
         self.take(key)
     }
 }

@@ -1,7 +1,7 @@
 //! Every decision about connections and the threads that serve them: who may accept, when one more thread is
 //! started, and when the work has ended.
 
-ghost use Rattle.std.specs.Prelude.{◌≡◌, ◌↔◌, ◌<◌, not, None, Some, IsTrue, IsFalse, MatchBool};
+ghost use Rattle.std.specs.Prelude.{◌≡◌, ◌↔◌, ◌<◌, not, None, Some, IsTrue, IsFalse, MatchBool, MatchOption};
 ghost use Rattle.hyper_edge.specs.Roster as spec;
 ghost use Rattle.hyper_edge.specs.Staff.{HasReserve, HasSpare, IsDue, Lacks, WantsThread};
 ghost use Rattle.hyper_edge.specs.declared.roster.Admission.TheVariants as admission;
@@ -9,6 +9,7 @@ ghost use Rattle.hyper_edge.specs.declared.roster.AfterFailure.TheVariants as af
 ghost use Rattle.hyper_edge.specs.declared.roster.ServeEnd.TheVariants as ended;
 ghost use Rattle.hyper_edge.specs.declared.roster.Work.TheVariants as kind;
 
+use crate::accept::AcceptFault;
 use crate::staff::Staff;
 
 /// This many failed accepts in succession end a server.
@@ -31,7 +32,7 @@ pub struct Capacity {
 pub enum ServeEnd {
     /// As many connections as it was to serve were accepted, or it was stopped, and they have ended.
     Served,
-    /// Accepts failed, sixteen in succession.
+    /// Accepts failed, sixteen in succession. One that lacked what open connections held isn't among these.
     AcceptsFailed,
 }
 
@@ -55,6 +56,9 @@ pub(crate) enum AfterFailure {
     Ends,
     /// Nobody accepts until the thread has rested for so many milliseconds.
     Rests(u32),
+    /// The same, and first a connection is ended that waits for its client, since it holds what the accept lacked. It
+    /// doesn't count.
+    GivesBack(u32),
     /// It doesn't count: another thread rests because of the same one, or the server was stopped.
     Waits,
 }
@@ -74,7 +78,7 @@ pub(crate) struct Roster {
     // How many accepts nobody has begun yet, and how many have been begun and haven't ended.
     left: u64,
     begun: u32,
-    // The accepts that have failed since the last that succeeded, each after a pause; how many milliseconds the next
+    // The failed accepts that count since the last that succeeded, each before a pause; how many milliseconds the next
     // pause takes; and whether one is under way.
     failed: u32,
     pause: u32,
@@ -190,13 +194,16 @@ impl Roster {
         self.held = self.held.saturating_sub(1);
     }
 
-    /// An accept has failed, and is still to be made. It counts where no pause is under way, since what fails several
-    /// threads at once is one failure, and the server wasn't stopped, which ends accepts.
-    pub(crate) fn accept_failed(&mut self) -> AfterFailure
+    /// An accept has failed, and is still to be made. A pause follows where none is under way, since what fails several
+    /// threads at once is one failure, and the server wasn't stopped, which ends accepts. It counts unless open connections
+    /// hold what it lacked: so however often that happens, it never ends a server.
+    pub(crate) fn accept_failed(&mut self, fault: AcceptFault) -> AfterFailure
         ensures again { IsTrue (spec.is_no_failure self.old) → (result ≡ after.Waits) × (self.new ≡ spec.given_back self.old) }
-        ensures counts { IsFalse (spec.is_no_failure self.old) → self.new ≡ spec.failed_once self.old }
-        ensures ends { IsFalse (spec.is_no_failure self.old) → spec.HasFailed self.new → result ≡ after.Ends }
-        ensures rests { IsFalse (spec.is_no_failure self.old) → ¬ (spec.HasFailed self.new) → result ≡ after.Rests self.old.pause }
+        ensures held { IsFalse (spec.is_no_failure self.old) → spec.IsHeld self.old fault → (result ≡ after.GivesBack self.old.pause) × (self.new ≡ spec.paused self.old) }
+        ensures counts { IsFalse (spec.is_no_failure self.old) → ¬ (spec.IsHeld self.old fault) → self.new ≡ spec.failed_once self.old }
+        ensures ends { IsFalse (spec.is_no_failure self.old) → ¬ (spec.IsHeld self.old fault) → spec.HasFailed self.new → result ≡ after.Ends }
+        ensures rests { IsFalse (spec.is_no_failure self.old) → ¬ (spec.IsHeld self.old fault) → ¬ (spec.HasFailed self.new) → result ≡ after.Rests self.old.pause }
+        ensures lives { spec.IsHeld self.old fault → spec.HasFailed self.new → spec.HasFailed self.old }
     {
         self.left = self.left.saturating_add(1);
         self.begun = self.begun.saturating_sub(1);
@@ -204,9 +211,12 @@ impl Roster {
             return AfterFailure::Waits;
         }
         let pause = self.pause;
-        self.failed = self.failed.saturating_add(1);
         self.pause = pause.saturating_mul(2).min(MAX_PAUSE);
         self.resting = true;
+        if self.is_held(fault) {
+            return AfterFailure::GivesBack(pause);
+        }
+        self.failed = self.failed.saturating_add(1);
         if self.has_failed() {
             AfterFailure::Ends
         } else {
@@ -304,6 +314,19 @@ impl Roster {
         self.is_over() && self.is_empty()
     }
 
+    /// How the server ends, once nobody is accepted any longer.
+    pub(crate) fn ending(&self) -> Option<ServeEnd>
+        ensures { MatchOption result
+            (¬ (spec.IsClosed self.now))
+            (λ end. spec.IsClosed self.now × ((end ≡ ended.AcceptsFailed) ↔ spec.HasFailed self.now)) }
+    {
+        if self.is_over() && self.begun == 0 {
+            Some(self.end())
+        } else {
+            None
+        }
+    }
+
     /// How the server has ended.
     pub(crate) fn end(&self) -> ServeEnd
         ensures { (result ≡ ended.AcceptsFailed) ↔ spec.HasFailed self.now }
@@ -325,6 +348,13 @@ impl Roster {
         ensures { IsTrue result ↔ spec.HasRoom self.now }
     {
         u64::from(self.held) + u64::from(self.begun) < u64::from(self.room)
+    }
+
+    // Whether an accept failed for want of what open connections hold.
+    fn is_held(&self, fault: AcceptFault) -> bool
+        ensures { IsTrue result ↔ spec.IsHeld self.now fault }
+    {
+        fault == AcceptFault::Exhausted && 0 < self.held
     }
 
     fn has_failed(&self) -> bool

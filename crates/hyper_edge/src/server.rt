@@ -2,7 +2,7 @@
 
 ghost use Rattle.hyper_edge.specs.Opening.{GivesPollable};
 
-use crate::accept::Accept;
+use crate::accept::{Accept, AcceptFault};
 use crate::executor::Executor;
 use crate::handover::Handover;
 use crate::journal::Journal;
@@ -66,11 +66,15 @@ where
         self.roster.end(self.serving.rt)
     }
 
-    /// What one thread does again and again: it tells the journal that a moment has passed, and stops the server if that
-    /// is asked for.
+    /// What one thread does again and again: it tells the journal that a moment has passed, and that nobody is accepted any
+    /// longer where that is so, and stops the server if that is asked for.
     pub(crate) fn tick(&self) {
-        self.serving.journal.tick(self.serving.rt);
+        let rt = self.serving.rt;
+        self.serving.journal.tick(rt);
         self.look_for_stop();
+        if let Some(end) = self.roster.ending(rt) {
+            self.serving.journal.closed(end);
+        }
     }
 
     // Stops the server if that is asked for: nobody accepts any longer, and connections that are idle are ended. Where
@@ -180,9 +184,12 @@ where
         requires opened { GivesPollable (M.post opens.now) F.can_poll }
     {
         let rt = self.serving.rt;
-        let Some(io) = self.acceptor.accept(rt) else {
-            self.goes_on_after_failure();
-            return;
+        let io = match self.acceptor.accept(rt) {
+            Ok(io) => io,
+            Err(fault) => {
+                self.goes_on_after_failure(fault);
+                return;
+            }
         };
         self.roster.accepted(rt, self.acceptor);
         self.serving.journal.accepted();
@@ -195,24 +202,33 @@ where
         self.roster.served(rt, self.acceptor);
     }
 
-    // After a failed accept. What it lacked, as a file descriptor, an idle connection may hold, and others may give back
-    // within a moment.
-    fn goes_on_after_failure(&self) {
+    // After a failed accept. What it lacked, as a file descriptor, connections that wait for their clients hold, and others
+    // may give back within a moment.
+    fn goes_on_after_failure(&self, fault: AcceptFault) {
         let rt = self.serving.rt;
-        match self.roster.accept_failed(rt) {
+        match self.roster.accept_failed(rt, fault) {
             AfterFailure::Ends => {
                 self.serving.journal.accept_failed();
                 self.acceptor.end(rt);
             }
-            AfterFailure::Rests(millis) => {
-                self.serving.journal.accept_failed();
-                self.end_idle();
-                self.acceptor
-                    .rest(rt, Duration::from_millis(u64::from(millis)));
-                self.roster.accepts_again(rt);
+            AfterFailure::GivesBack(millis) => {
+                if let Some(waiting) = self.parked.take_client(rt) {
+                    self.end_waiting(waiting);
+                }
+                self.rest(millis);
             }
+            AfterFailure::Rests(millis) => self.rest(millis),
             AfterFailure::Waits => {}
         }
+    }
+
+    // The pause after a failed accept.
+    fn rest(&self, millis: u32) {
+        let rt = self.serving.rt;
+        self.serving.journal.accept_failed();
+        self.acceptor
+            .rest(rt, Duration::from_millis(u64::from(millis)));
+        self.roster.accepts_again(rt);
     }
 
     // Goes on with what was parked, if something can go on within a moment.

@@ -1,6 +1,6 @@
 //! A roster that threads share.
 
-use crate::accept::Accept;
+use crate::accept::{Accept, AcceptFault};
 use crate::roster::{Admission, AfterFailure, Roster, ServeEnd, Work};
 use std::sync::{Condvar, CondvarTimeouts, Mutex, Wait};
 use std::time::{Clock, Duration};
@@ -59,9 +59,9 @@ impl SharedRoster {
         acceptor.set_may_wait(roster.may_wait());
     }
 
-    pub(crate) fn accept_failed(&self, rt: &impl Wait) -> AfterFailure {
+    pub(crate) fn accept_failed(&self, rt: &impl Wait, fault: AcceptFault) -> AfterFailure {
         let mut roster = self.roster.lock(rt);
-        let what_follows = roster.accept_failed();
+        let what_follows = roster.accept_failed(fault);
         let is_done = roster.is_done();
         drop(roster);
         self.tell(is_done);
@@ -146,6 +146,11 @@ impl SharedRoster {
         drop(roster);
         self.room.notify_all();
         is_first
+    }
+
+    /// How the server ends, once nobody is accepted any longer.
+    pub(crate) fn ending(&self, rt: &impl Wait) -> Option<ServeEnd> {
+        self.roster.lock(rt).ending()
     }
 
     /// How the server has ended.

@@ -18,6 +18,17 @@ pub enum Readiness {
     Writable,
 }
 
+/// Who lets a connection wait.
+#[derive(Clone, Copy, PartialEq, Eq)]
+pub enum PausedBy {
+    /// A client whose connection is kept, and of whose further request nothing has come: it is idle.
+    IdleClient,
+    /// A client who sends a request, or receives a response.
+    Client,
+    /// Those who are asked for what is fetched.
+    Fetches,
+}
+
 /// Why a connection, or what is fetched for one, can't go on now.
 #[derive(Clone, Copy)]
 pub struct Pause {
@@ -27,8 +38,8 @@ pub struct Pause {
     pub readiness: Readiness,
     /// When the client's time, or that of the fetches, is over; `None` means never.
     pub until: Option<Instant>,
-    /// Whether the connection is kept, and nothing of a further request has come.
-    pub is_idle: bool,
+    /// Whom it waits for.
+    pub by: PausedBy,
     /// The client who ends the wait by leaving, where that is looked at.
     pub(crate) client: Option<ClientWatch>,
 }
@@ -40,7 +51,7 @@ impl Pause {
             socket: awaited.descriptor,
             readiness: Readiness::Readable,
             until: awaited.until,
-            is_idle: false,
+            by: PausedBy::Fetches,
             client,
         }
     }

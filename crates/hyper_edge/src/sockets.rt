@@ -1,9 +1,10 @@
 //! The sockets of a listener.
 
-use crate::accept::Accept;
+use crate::accept::{Accept, AcceptFault};
 use crate::client_stream::{ClientStream, PATIENCE_MILLIS, Shared};
 use crate::exchange::Limits;
 use crate::signals::{Pause, Readiness, Signals};
+use libc::EMFILE;
 use libc::net::{
     EPOLL_CTL_ADD, EPOLL_CTL_MOD, EPOLLIN, EPOLLONESHOT, EPOLLOUT, EPOLLRDHUP, POLLIN, listen, poll,
 };
@@ -11,6 +12,7 @@ use libc::types::pollfd;
 use mio::Poll;
 use os::EpollEvent;
 use std::alloc::AllocGlobal;
+use std::io::ErrorKind;
 use std::net::{IpAddr, Net, Shutdown, TcpListener, TcpStream};
 use std::os::fd::{AsRawFd, OwnedFd, RawFd};
 use std::sync::Arc;
@@ -26,6 +28,11 @@ const MOMENT_MILLIS: i32 = 10;
 
 // How many clients may wait to be accepted, unless the system's own limit is lower.
 const QUEUE: i32 = 1_024;
+
+// The system has no descriptor left for anybody, or no memory for a socket (accept(2)).
+const ENFILE: i32 = 23;
+
+const ENOBUFS: i32 = 105;
 
 /// What says that a server is to stop.
 pub trait StopSign<R> {
@@ -87,6 +94,28 @@ impl<Q> Sockets<Q> {
         os::epoll_ctl(set, EPOLL_CTL_MOD, descriptor, events, key as u64) == 0
             || os::epoll_ctl(set, EPOLL_CTL_ADD, descriptor, events, key as u64) == 0
     }
+
+    // Waits for a connection.
+    fn accepted<R>(&self, rt: &R) -> io::Result<ClientStream<R>>
+    where
+        R: Clock + AllocGlobal + Clone + Drop,
+    {
+        let (socket, address) = self.listener.accept()?;
+        let rt = rt.clone()?;
+        let shared = self.shared.clone()?;
+        ClientStream::new(rt.alloc(), socket, address.ip(), rt, self.limits, shared)
+    }
+}
+
+// Whether an accept failed for want of what connections hold.
+fn fault_of(error: &io::Error) -> AcceptFault {
+    if error.kind() == ErrorKind::OutOfMemory {
+        return AcceptFault::Exhausted;
+    }
+    match error.raw_os_error() {
+        Some(EMFILE | ENFILE | ENOBUFS) => AcceptFault::Exhausted,
+        _ => AcceptFault::Other,
+    }
 }
 
 impl<R, Q> Accept<R> for Sockets<Q>
@@ -96,11 +125,11 @@ where
 {
     type Io = ClientStream<R>;
 
-    fn accept(&self, rt: &R) -> Option<ClientStream<R>> {
-        let (socket, address) = self.listener.accept().ok()?;
-        let rt = rt.clone().ok()?;
-        let shared = self.shared.clone().ok()?;
-        ClientStream::new(rt.alloc(), socket, address.ip(), rt, self.limits, shared).ok()
+    fn accept(&self, rt: &R) -> Result<ClientStream<R>, AcceptFault> {
+        match self.accepted(rt) {
+            Ok(stream) => Ok(stream),
+            Err(error) => Err(fault_of(&error)),
+        }
     }
 
     fn has_client(&self, _rt: &R) -> bool {

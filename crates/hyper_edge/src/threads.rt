@@ -33,7 +33,9 @@ use tokio::io::{AsyncRead, AsyncWrite};
 /// more, the one that has been kept without a further request for longest is ended.
 ///
 /// A failed accept is skipped, and doesn't add to `count`. After one nobody accepts for a moment, from a millisecond up
-/// to a second, twice as long each time; sixteen in succession end the server.
+/// to a second, twice as long each time; sixteen in succession end the server. One that fails for want of a file
+/// descriptor or of memory while connections are open isn't among these: the connection that has waited for its client for
+/// longest is ended, an idle one before any other.
 ///
 /// Where the acceptor says that the server is to stop, nobody accepts any longer, connections that are idle are ended,
 /// and what is under way goes on to its end. Once it says that this is to be cut short, each read and write of a

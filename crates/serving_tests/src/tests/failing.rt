@@ -7,8 +7,8 @@ use super::source_of;
 use fetch_workers::{Assembling, TableSource};
 use futures::task::{Context, Poll};
 use hyper_edge::{
-    Accept, Capacity, EdgeService, Executor, Journal, NoJournal, RequestRecord, ServeEnd, Signals,
-    serve_accepts, serve_io,
+    Accept, AcceptFault, Capacity, EdgeService, Executor, Journal, NoJournal, RequestRecord,
+    ServeEnd, Signals, serve_accepts, serve_io,
 };
 use std::alloc::AllocGlobal;
 use std::io;
@@ -42,6 +42,21 @@ struct Script {
 }
 
 impl Script {
+    // One that counts and tells what it does there. `None` where there is no memory.
+    fn of(
+        requests: u64,
+        moves: u64,
+        written: &Arc<AtomicU64>,
+        signals: &Arc<Signals>,
+    ) -> Option<Script> {
+        Some(Script {
+            requests,
+            moves,
+            written: written.clone().ok()?,
+            signals: signals.clone().ok()?,
+        })
+    }
+
     fn goes_on(&mut self) -> io::Result<()> {
         if self.moves == 0 {
             return Err(ErrorKind::BrokenPipe.into());
@@ -148,7 +163,8 @@ fn a_stream_that_fails_ends_its_exchange_alone(rt: HostRuntime) -> Result<(), Fa
     Ok(())
 }
 
-// Fails this many accepts, lets a client in memory through, and fails from then on.
+// Fails this many accepts, as for want of descriptors, lets a client in memory through, and fails from then on, while no
+// connection is open.
 #[derive(Drop)]
 struct Failing {
     fails: u64,
@@ -160,16 +176,11 @@ struct Failing {
 impl<R> Accept<R> for Failing {
     type Io = Script;
 
-    fn accept(&self, _rt: &R) -> Option<Script> {
+    fn accept(&self, _rt: &R) -> Result<Script, AcceptFault> {
         if self.accepts.fetch_add(1, Ordering::SeqCst) != self.fails {
-            return None;
+            return Err(AcceptFault::Exhausted);
         }
-        Some(Script {
-            requests: 1,
-            moves: 100,
-            written: self.written.clone().ok()?,
-            signals: self.signals.clone().ok()?,
-        })
+        Script::of(1, 100, &self.written, &self.signals).ok_or(AcceptFault::Exhausted)
     }
 
     fn end(&self, _rt: &R) {}
@@ -220,13 +231,8 @@ struct Keeping {
 impl<R> Accept<R> for Keeping {
     type Io = Script;
 
-    fn accept(&self, _rt: &R) -> Option<Script> {
-        Some(Script {
-            requests: 3,
-            moves: self.moves,
-            written: self.written.clone().ok()?,
-            signals: self.signals.clone().ok()?,
-        })
+    fn accept(&self, _rt: &R) -> Result<Script, AcceptFault> {
+        Script::of(3, self.moves, &self.written, &self.signals).ok_or(AcceptFault::Other)
     }
 
     fn keeps(&self) -> bool {
