@@ -1,7 +1,8 @@
 //! How many connections of clients the server has, and has had.
 
 use edge_metrics::ConnectionCounts;
-use std::sync::atomic::{AtomicU64, Ordering};
+use hyper_edge::ServeEnd;
+use std::sync::atomic::{AtomicBool, AtomicU64, Ordering};
 
 /// What the threads that serve have counted of connections, without a lock.
 #[derive(Drop)]
@@ -11,6 +12,9 @@ pub(crate) struct Connections {
     parked: AtomicU64,
     unparked: AtomicU64,
     failed: AtomicU64,
+    // Whether nobody is accepted any longer, and whether that is because accepts have failed.
+    is_closed: AtomicBool,
+    has_failed: AtomicBool,
 }
 
 impl Connections {
@@ -22,6 +26,8 @@ impl Connections {
             parked: AtomicU64::new(0),
             unparked: AtomicU64::new(0),
             failed: AtomicU64::new(0),
+            is_closed: AtomicBool::new(false),
+            has_failed: AtomicBool::new(false),
         }
     }
 
@@ -43,6 +49,24 @@ impl Connections {
 
     pub(crate) fn accept_failed(&self) {
         self.failed.fetch_add(1, Ordering::SeqCst);
+    }
+
+    /// Nobody is accepted any longer, and the server ends so.
+    pub(crate) fn closed(&self, end: ServeEnd) {
+        self.has_failed
+            .store(end == ServeEnd::AcceptsFailed, Ordering::SeqCst);
+        self.is_closed.store(true, Ordering::SeqCst);
+    }
+
+    /// How the server ends, if nobody is accepted any longer.
+    pub(crate) fn ending(&self) -> Option<ServeEnd> {
+        if !self.is_closed.load(Ordering::SeqCst) {
+            None
+        } else if self.has_failed.load(Ordering::SeqCst) {
+            Some(ServeEnd::AcceptsFailed)
+        } else {
+            Some(ServeEnd::Served)
+        }
     }
 
     /// What was counted until now. What ends is read before what begins, so that nothing is taken for ended that hasn't begun.

@@ -8,9 +8,9 @@ use edge_metrics::{CacheCounts, Counts, Measured, OriginCounts, text_of};
 use edge_types::{NoMemory, PageUrl};
 use fetch_outcomes::FetchFault;
 use fetch_workers::CacheTally;
-use hyper_edge::{Journal, RequestRecord};
+use hyper_edge::{Journal, RequestRecord, ServeEnd};
 use hyper_source::{FetchNotes, OriginTally};
-use operator_http::{Operated, Purge};
+use operator_http::{Health, Operated, Purge};
 use std::alloc::{AllocError, AllocGlobal, Global};
 use std::io::Eprint;
 use std::sync::{Arc, Wait};
@@ -69,6 +69,10 @@ where
         self.connections.accept_failed();
     }
 
+    fn closed(&self, end: ServeEnd) {
+        self.connections.closed(end);
+    }
+
     fn tick(&self, rt: &R) {
         self.log.tick(rt);
         if let Some(measures) = &self.measures {
@@ -80,6 +84,14 @@ where
 }
 
 impl<R: Wait + AllocGlobal> Operated<R> for Reports {
+    fn health(&self, _rt: &R) -> Health {
+        match self.connections.ending() {
+            None => Health::Well,
+            Some(ServeEnd::Served) => Health::Ending,
+            Some(ServeEnd::AcceptsFailed) => Health::AcceptsFailed,
+        }
+    }
+
     fn metrics(&self, rt: &R) -> Result<Vec<u8>, AllocError> {
         let alloc = rt.alloc();
         let Ok(tallies) = self.fetches.tallies(alloc) else {

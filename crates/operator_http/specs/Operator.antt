@@ -7,6 +7,8 @@ use Rattle.http_header.specs.FieldValue.{FieldValue, plain_value}
 use Rattle.http_header.specs.HeaderMap.{Entry, Entries}
 use Rattle.operator_http.specs.declared.asked.Asked.{Asked}
 use Rattle.operator_http.specs.declared.asked.Asked.TheVariants as asked
+use Rattle.operator_http.specs.declared.health.Health.{Health}
+use Rattle.operator_http.specs.declared.health.Health.TheVariants as health
 use Rattle.operator_http.specs.declared.told.Told.{Told}
 use Rattle.operator_http.specs.declared.told.Told.TheVariants as told
 use Rattle.operator_http.specs.Purged.{purged_by}
@@ -32,7 +34,7 @@ asked_by method path =
 -- what is told to a request for this, with this query
 abbrev pub Fits : Asked → List ℕ → Told → Type 0
 Fits wanted query (told.Page page) = wanted ≡ asked.Page
-Fits wanted query told.Health = wanted ≡ asked.Health
+Fits wanted query (told.Health state) = wanted ≡ asked.Health
 Fits wanted query (told.Metrics metrics) = wanted ≡ asked.Metrics
 Fits wanted query told.Stopping = (wanted ≡ asked.Stop) × (is_some (grace_by query) ≡ true)
 Fits wanted query told.NoGrace = (wanted ≡ asked.Stop) × (grace_by query ≡ None)
@@ -76,10 +78,16 @@ pub record Sends (status : ℕ) (fields : Entries FieldValue) (text : List ℕ) 
 abbrev pub purged : ℕ → List ℕ
 purged count = codes "purged " ++ decimal count ++ codes "\n"
 
+-- it shows whether the server accepts clients (RFC 9110, sections 15.3.1 and 15.6.4)
+abbrev pub Shows : Health → Response (Full (List ℕ)) → Type 0
+Shows health.Well response = Sends 200 (plain ∷ []) (codes "ok\n") response
+Shows health.Ending response = Sends 503 (plain ∷ []) (codes "ending\n") response
+Shows health.AcceptsFailed response = Sends 503 (plain ∷ []) (codes "accepts failed\n") response
+
 -- the response says this
 abbrev pub Says : Told → Response (Full (List ℕ)) → Type 0
 Says (told.Page page) response = Sends 200 (of_page ∷ []) page response
-Says told.Health response = Sends 200 (plain ∷ []) (codes "ok\n") response
+Says (told.Health state) response = Shows state response
 Says (told.Metrics metrics) response = Sends 200 (of_metrics ∷ []) metrics response
 Says told.Stopping response = Sends 200 (plain ∷ []) (codes "stopping\n") response
 Says (told.Purged count) response = Sends 200 (plain ∷ []) (purged count) response

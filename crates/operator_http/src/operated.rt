@@ -1,11 +1,15 @@
 //! What a server does for its operator.
 
+use crate::health::Health;
 use crate::purge::Purge;
 use edge_types::NoMemory;
 use std::alloc::AllocError;
 
 /// A server that has an operator.
 pub trait Operated<R> {
+    /// Whether it accepts clients.
+    fn health(&self, rt: &R) -> Health;
+
     /// A page in HTML that shows what it does.
     fn page(&self, rt: &R) -> Result<Vec<u8>, AllocError>;
 

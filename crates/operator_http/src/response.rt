@@ -3,6 +3,7 @@
 ghost use Rattle.std.specs.Prelude.{◌≡◌, ◌∷◌, [], codes, IfOk};
 ghost use Rattle.operator_http.specs.Operator as spec;
 
+use crate::health::Health;
 use crate::told::Told;
 use bytes::Bytes;
 use http::header::{ALLOW, CONTENT_TYPE, HeaderValue};
@@ -18,19 +19,19 @@ const FORBIDDEN: &str =
 
 /// Makes the response that tells an operator this: 200 with some words, with metrics or with a page; 400 for a purge of
 /// nobody knows what, and for a stop with a query that is no grace; 403 for a request that isn't the operator's own; 404 for
-/// another path, and 405 for another method, with those that the path has. Of the response to HEAD the HTTP library leaves
-/// the body out.
+/// another path, and 405 for another method, with those that the path has; 503 of a server that accepts nobody any longer.
+/// Of the response to HEAD the HTTP library leaves the body out.
 ///
 /// The only refusal of the call itself is out of memory.
 ///
-/// Source: RFC 9110, "400 Bad Request", "403 Forbidden", "404 Not Found", "405 Method Not Allowed"; Prometheus, "Exposition formats"; the texts are our profile.
+/// Source: RFC 9110, "400 Bad Request", "403 Forbidden", "404 Not Found", "405 Method Not Allowed", "503 Service Unavailable"; Prometheus, "Exposition formats"; the texts are our profile.
 pub fn response_of(alloc: Global, told: Told) -> Result<Response<Full<Bytes>>, AllocError>
     ensures { IfOk result (spec.Says told) }
 {
     match told {
         Told::Page(page) => shown(alloc, page),
         Told::Metrics(metrics) => measured(alloc, metrics),
-        Told::Health => plain(alloc, StatusCode::OK, "ok\n"),
+        Told::Health(health) => shown_health(alloc, health),
         Told::Stopping => plain(alloc, StatusCode::OK, "stopping\n"),
         Told::Purged(count) => purged(alloc, count),
         Told::NoGrace => wanting(alloc, "grace=SECONDS is wanted\n"),
@@ -39,6 +40,18 @@ pub fn response_of(alloc: Global, told: Told) -> Result<Response<Full<Bytes>>, A
         Told::NotRead => allowing(alloc, HeaderValue::from_static("GET, HEAD")),
         Told::NotPosted => allowing(alloc, HeaderValue::from_static("POST")),
         Told::Foreign => plain(alloc, StatusCode::FORBIDDEN, FORBIDDEN),
+    }
+}
+
+// Whether a server accepts clients.
+fn shown_health(alloc: Global, health: Health) -> Result<Response<Full<Bytes>>, AllocError>
+    ensures { IfOk result (spec.Shows health) }
+{
+    let unavailable = StatusCode::SERVICE_UNAVAILABLE;
+    match health {
+        Health::Well => plain(alloc, StatusCode::OK, "ok\n"),
+        Health::Ending => plain(alloc, unavailable, "ending\n"),
+        Health::AcceptsFailed => plain(alloc, unavailable, "accepts failed\n"),
     }
 }
 

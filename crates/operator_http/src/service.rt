@@ -75,7 +75,7 @@ impl<R: Wait + Clock + AllocGlobal, M: Operated<R>> OperatorService<R, M> {
                 let page = self.operated.page(&self.rt)?;
                 Ok(Told::Page(Bytes::from_vec(page)?))
             }
-            Asked::Health => Ok(Told::Health),
+            Asked::Health => Ok(Told::Health(self.operated.health(&self.rt))),
             Asked::Metrics => {
                 let metrics = self.operated.metrics(&self.rt)?;
                 Ok(Told::Metrics(Bytes::from_vec(metrics)?))

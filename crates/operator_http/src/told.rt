@@ -1,5 +1,6 @@
 //! What an operator is told.
 
+use crate::health::Health;
 use bytes::Bytes;
 
 /// What a server says to what its operator asks.
@@ -7,8 +8,8 @@ use bytes::Bytes;
 pub enum Told {
     /// A page that shows what it does.
     Page(Bytes),
-    /// That it answers.
-    Health,
+    /// Whether it accepts clients.
+    Health(Health),
     /// What it has counted.
     Metrics(Bytes),
     /// That it stops.
