@@ -1,9 +1,15 @@
 """What the edge does where it runs out of something: the time of a page, threads, open files."""
+import contextlib
+import os
 import resource
+import subprocess
+import tempfile
 import time
 
-from harness import PATIENCE, PLAIN, Origin, Response, Wires, Wrong, before, client, get, rest, same, told, wire
-from parking import resident
+from harness import ASKED, HERE, PATIENCE, PLAIN, Origin, Response, Wires, Wrong, before, client, get, rest, same, told, wire
+from keeping import BODY, more_of
+from operating import ADMIN, Desk, read
+from parking import SHORT, resident
 
 # After how many seconds a slow answer comes.
 SLOWLY = 0.4
@@ -123,32 +129,72 @@ def a_page_is_assembled_by_one_thread_where_no_other_starts():
             same("%d threads" % threads, (200, b"01234567"), told(edge))
 
 
-def failed_accepts_wait():
-    """Without a file descriptor left the edge accepts nobody, waits longer and longer, and goes on once there are some."""
-    with Origin(PLAIN) as origin, before(origin, "--connections", "1000", "--client-timeout", "600000") as edge:
-        same("before", (200, b"[12345678]"), told(edge))
-        resource.prlimit(edge.process.pid, resource.RLIMIT_NOFILE, (24, 4096))
-        silent = [client(edge) for _ in range(40)]
-        time.sleep(2)
-        if edge.process.poll() is not None:
-            raise Wrong("the edge ended, with status %d" % edge.process.returncode)
-        resource.prlimit(edge.process.pid, resource.RLIMIT_NOFILE, (4096, 4096))
-        same("after", (200, b"[12345678]"), told(edge))
+def connections_have_room_among_the_files():
+    """With fewer files than --connections may need, as many are kept as have room, whoever comes is served, and no accept
+    fails."""
+    with Origin(SHORT) as origin, before(origin, *ADMIN, "--connections", "1000", "--keep-alive", "600", files=60) as edge:
+        desk = Desk(edge)
+        idle = [client(edge, ASKED) for _ in range(20)]
+        for connection in idle:
+            same("a page", True, more_of(connection).startswith(b"HTTP/1.1 200 "))
+        samples, _ = read(desk.ask("/metrics").body.decode())
+        same("open connections, of 60 files", True, 1 < samples["esi_edge_connections"] <= 5)
+        same("accepts that failed", 0, samples["esi_edge_accepts_failed_total"])
+        for connection in idle:
+            connection.close()
+
+
+def who_lets_it_wait_gives_a_file_back():
+    """Without a file left whoever has let the edge wait for longest is ended, however often: each further client is
+    served, and who came last is still waited for."""
+    with Origin(SHORT) as origin, before(origin, *ADMIN, "--threads", "1", "--client-timeout", "600000") as edge:
+        desk = Desk(edge)
+        same("before", (200, BODY), told(edge))
+        resource.prlimit(edge.process.pid, resource.RLIMIT_NOFILE, (30, 4096))
+        silent = [client(edge) for _ in range(60)]
+        for nth in range(40):
+            same("page %d" % nth, (200, BODY), told(edge))
+        same("the first have ended", [b""] * 30, [rest(connection) for connection in silent[:30]])
+        silent[-1].sendall(ASKED)
+        same("the last", BODY, Response(rest(silent[-1])).body)
+        same("health", (200, b"ok\n"), (desk.ask("/health").status, desk.ask("/health").body))
         for connection in silent:
             connection.close()
+
+
+@contextlib.contextmanager
+def refused_accepts():
+    """What is added to a program's environment so that its accepts fail at the port that is written into a file; and that
+    file's path."""
+    with tempfile.TemporaryDirectory() as room:
+        library, sign = os.path.join(room, "refuse_accepts.so"), os.path.join(room, "sign")
+        subprocess.run(["cc", "-O2", "-shared", "-fPIC", "-o", library, os.path.join(HERE, "refuse_accepts.c")], check=True)
+        yield {"LD_PRELOAD": library, "REFUSE_ACCEPTS": sign}, sign
 
 
 def failed_accepts_end_the_edge_in_the_end():
-    """Sixteen failed accepts in succession end it, after some seconds, with status 5, once each client has left."""
-    with Origin(PLAIN) as origin, before(origin, "--connections", "1000", "--client-timeout", "1000") as edge:
-        same("before", (200, b"[12345678]"), told(edge))
-        resource.prlimit(edge.process.pid, resource.RLIMIT_NOFILE, (3, 4096))
-        begun = time.monotonic()
-        silent = [client(edge) for _ in range(4)]
-        same("status", 5, edge.ends())
-        same("after its pauses", True, 4 < time.monotonic() - begun < PATIENCE)
-        for connection in silent:
-            connection.close()
+    """Sixteen accepts in succession that fail for another reason end it: after some seconds nobody is accepted any longer, and
+    the operator is told so; once each client has left, the status is 5."""
+    with refused_accepts() as (added, sign), Origin(PLAIN) as origin:
+        with before(origin, *ADMIN, "--client-timeout", "600000", added=added) as edge:
+            desk = Desk(edge)
+            same("before", (200, b"ok\n"), health_of(desk))
+            begun = time.monotonic()
+            with open(sign, "w") as file:
+                file.write(str(edge.port))
+            # The accept that waits has begun before that.
+            with client(edge):
+                while health_of(desk)[0] == 200 and time.monotonic() - begun < PATIENCE:
+                    time.sleep(0.1)
+                same("health", (503, b"accepts failed\n"), health_of(desk))
+                same("after its pauses", True, 4 < time.monotonic() - begun)
+                same("while a client is there", None, edge.process.poll())
+            same("status", 5, edge.ends())
+
+
+def health_of(desk):
+    came = desk.ask("/health")
+    return came.status, came.body
 
 
 TESTS = (
@@ -158,6 +204,7 @@ TESTS = (
     long_values_are_not_copied,
     a_late_page_shows_older_answers,
     a_page_is_assembled_by_one_thread_where_no_other_starts,
-    failed_accepts_wait,
+    connections_have_room_among_the_files,
+    who_lets_it_wait_gives_a_file_back,
     failed_accepts_end_the_edge_in_the_end,
 )

@@ -473,14 +473,17 @@ def a_stop_loses_no_answer():
 
 
 def what_is_under_way_ends_after_a_stop():
-    """A page that is being made comes whole, and meanwhile the operator is still answered."""
+    """A page that is being made comes whole, and meanwhile the operator is still answered: that nobody is accepted any
+    longer."""
     texts = {"/p": lambda _: time.sleep(1) or sized("HTTP/1.1 200 OK", "slow")}
     with Wires(texts) as origin, before(origin, *ADMIN) as edge:
         desk = Desk(edge)
         asking = client(edge, ASKED)
         time.sleep(0.3)
         same("its answer", 200, desk.ask("/stop", "POST").status)
-        same("health", b"ok\n", desk.ask("/health").body)
+        time.sleep(0.4)
+        came = desk.ask("/health")
+        same("health", (503, b"ending\n"), (came.status, came.body))
         same("the page", b"slow", Response(rest(asking)).body)
         same("exit status", 0, edge.ends())
         asking.close()

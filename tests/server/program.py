@@ -97,14 +97,16 @@ def the_name_of_a_host_is_looked_up():
     same("an unknown host", (5, b"", said), ended("--listen", "127.0.0.1:0", "--origin", "a.test=%s:80" % long))
 
 
-def numbers_that_no_files_are_left_for_are_told():
-    """With a limit of open files below what may be needed: a line that names the number, and the edge serves."""
+def connections_that_no_files_are_left_for_are_told():
+    """With a limit of open files below what may be needed: a line that says for how many connections there is room, and which
+    limit would do; and the edge serves."""
     rows = (
-        (["--connections", "2000"], 1024, b"warning: --connections 2000 can't be reached, only 480: 1024 files may be open, and 2544 may be needed (ulimit -n)\n"),
-        ([], 100, b"warning: --threads 64 with --workers 4 can't be reached: 100 files may be open, and 608 may be needed (ulimit -n)\n"),
-        ([], 607, b"warning: --connections 64 can't be reached, only 63: 607 files may be open, and 608 may be needed (ulimit -n)\n"),
-        ([], 608, b""),
-        (["--fetches", "64"], 200, b"warning: --connections 64 can't be reached, only 42: 200 files may be open, and 288 may be needed (ulimit -n)\n"),
+        (["--connections", "2000"], 1024, b"warning: --connections 2000 is taken as 480: 1024 files may be open, and 2544 would do (ulimit -n)\n"),
+        ([], 100, b"warning: --connections 64 is taken as 13: 100 files may be open, and 352 would do (ulimit -n)\n"),
+        ([], 351, b"warning: --connections 64 is taken as 63: 351 files may be open, and 352 would do (ulimit -n)\n"),
+        ([], 352, b""),
+        (["--threads", "1"], 36, b"warning: --connections 64 is taken as 1: 36 files may be open, and 104 would do (ulimit -n)\n"),
+        (["--fetches", "64"], 200, b"warning: --connections 64 is taken as 42: 200 files may be open, and 288 would do (ulimit -n)\n"),
         (["--fetches", "64"], 288, b""),
     )
     for words, files, said in rows:
@@ -164,7 +166,7 @@ TESTS = (
     usage_is_told,
     what_an_origin_is_instead_is_told,
     the_name_of_a_host_is_looked_up,
-    numbers_that_no_files_are_left_for_are_told,
+    connections_that_no_files_are_left_for_are_told,
     limits_are_taken,
     options_are_read_from_a_file,
     a_used_port_is_told,

@@ -16,6 +16,8 @@ FLYING = ("--workers", "1", "--fetches", "64")
 # What is stored for ten minutes.
 KEPT = "HTTP/1.1 200 OK|surrogate-control: max-age=600"
 MANY = 64
+# What a client gets whose connection ends before its request was read.
+ENDED = (None, b"")
 
 
 class Held:
@@ -316,13 +318,15 @@ def a_stop_without_grace_cuts_pages_that_wait():
 
 
 def descriptors_that_run_out_fail_fragments_alone():
-    """With fewer files than the pages need that wait, fragments fail, and the edge goes on: a later page is whole."""
+    """With fewer files than the pages need that wait, fragments fail, or a client is ended who hadn't asked yet, and the edge
+    goes on: a later page is whole."""
     held = Held(sized("HTTP/1.1 200 OK", "late"))
     texts = {"/k": sized("HTTP/1.1 200 OK", "well")}
     for i in range(MANY):
         texts["/p%d" % i] = page("/f%d" % i)
         texts["/f%d" % i] = held
-    with Wires(texts) as origin, before(origin, *FLYING, "--threads", "2", "--connections", "128", files=120) as edge:
+    with Wires(texts) as origin, before(origin, *FLYING, "--threads", "2", "--connections", "128") as edge:
+        resource.prlimit(edge.process.pid, resource.RLIMIT_NOFILE, (120, 120))
         came = []
         asking = [threading.Thread(target=lambda i=i: came.append(told(edge, "/p%d" % i))) for i in range(MANY)]
         for one in asking:
@@ -331,7 +335,7 @@ def descriptors_that_run_out_fail_fragments_alone():
         held.released.set()
         for one in asking:
             one.join()
-        same("pages of another kind", [], [one for one in came if one not in ((200, b"late"), UNASSEMBLED)])
+        same("pages of another kind", [], [one for one in came if one not in ((200, b"late"), UNASSEMBLED, ENDED)])
         same("a later page", (200, b"well"), told(edge, "/k"))
 
 

@@ -1,8 +1,6 @@
--- How many descriptors a server may need, and which of its numbers can't be reached with fewer.
-use Rattle.std.specs.Prelude.{◌≡◌, ◌≤◌, ◌<◌, ◌+◌, ◌-◌, ◌*◌, ◌==◌, ℕ, if◌then◌else◌}
+-- How many descriptors a server may need, and for how many connections a limit leaves room.
+use Rattle.std.specs.Prelude.{◌≡◌, ◌≤◌, ◌<◌, ◌+◌, ◌*◌, ◌==◌, ℕ, min, max, if◌then◌else◌}
 use Rattle.edge_main.specs.declared.open_files.Numbers.{Numbers}
-use Rattle.edge_main.specs.declared.open_files.Unreached.{Unreached}
-use Rattle.edge_main.specs.declared.open_files.Unreached.TheVariants as number
 use Rattle.edge_main.specs.declared.server.Server.{Server}
 
 -- these are the numbers of the server
@@ -12,25 +10,19 @@ pub record AreOf (server : Server) (numbers : Numbers) : Type 0 where
   pub workers_are : numbers.workers ≡ server.pages.workers
   pub fetches_are : numbers.fetches ≡ server.pages.fetches
 
--- those of a connection: its socket; and where its page is parked while it waits, two by which that is told, and a fetch's
-abbrev pub of_connection : Numbers → ℕ
-of_connection numbers = if numbers.fetches == 1 then 1 else 4
+-- how many pages hold a thread at once, among so many connections: no more than there may be threads that serve, and as many
+-- that go on with clients who were waited for
+abbrev pub holding : Numbers → ℕ → ℕ
+holding numbers connections = min connections (2 * numbers.threads)
 
--- those of the process itself; and where a page holds its thread, one for each worker of the page of each thread that
--- serves, and of as many threads that go on with clients who were waited for
-abbrev pub besides : Numbers → ℕ
-besides numbers = if numbers.fetches == 1 then 32 + 2 * numbers.threads * numbers.workers else 32
+-- what so many connections may need: 32 of the process itself; the socket of each; and where a page holds its thread, one for
+-- each of its workers, else one of a fetch, and two by which it is told that the page may go on
+abbrev pub needed : Numbers → ℕ → ℕ
+needed numbers connections = if numbers.fetches == 1 then 32 + connections + numbers.workers * holding numbers connections else 32 + 4 * connections
 
--- and those of each connection to a client
-abbrev pub wanted : Numbers → ℕ
-wanted numbers = besides numbers + of_connection numbers * numbers.connections
-
--- just so many connections have room among so many descriptors
-abbrev pub AreConnections : Numbers → ℕ → ℕ → Type 0
-AreConnections numbers count most = (of_connection numbers * most ≤ count) × (count < of_connection numbers * (most + 1))
-
--- with this limit the number can't be reached: of the connections just these have room beside all else; or not even one
--- has
-abbrev pub IsUnreached : Numbers → ℕ → Unreached → Type 0
-IsUnreached numbers limit (number.Connections most) = (besides numbers ≤ limit) × AreConnections numbers (limit - besides numbers) most × (1 ≤ most) × (most < numbers.connections)
-IsUnreached numbers limit number.Fetches = limit < besides numbers + of_connection numbers
+-- the most connections that may be open with this limit: no more than are asked for, and each has room; but one in any case
+pub record IsRoom (numbers : Numbers) (limit : ℕ) (room : ℕ) : Type 0 where
+  pub one : 1 ≤ room
+  pub asked : room ≤ max numbers.connections 1
+  pub fits : 1 < room → needed numbers room ≤ limit
+  pub most : room < numbers.connections → limit < needed numbers (room + 1)

@@ -1,5 +1,5 @@
-//! Whether the system lets a server have as many descriptors as its numbers ask for.
-ghost use Rattle.std.specs.Prelude.{◌≡◌, ◌≤◌, MatchOption};
+//! For how many connections the system lets a server have descriptors.
+ghost use Rattle.std.specs.Prelude.{◌≡◌, ◌≤◌, ◌<◌, max};
 ghost use Rattle.edge_main.specs.OpenFiles as spec;
 
 use crate::server::Server;
@@ -22,15 +22,6 @@ pub(crate) struct Numbers {
     pub fetches: u16,
 }
 
-/// A number that can't be reached.
-#[derive(Clone, Copy, Drop, PartialEq, Eq)]
-pub(crate) enum Unreached {
-    /// No more connections than these can be open.
-    Connections(u64),
-    /// Not one connection and the fetches of its page can be open.
-    Fetches,
-}
-
 impl Numbers {
     /// The numbers of a server.
     pub(crate) fn of(server: &Server) -> Numbers
@@ -44,53 +35,39 @@ impl Numbers {
         }
     }
 
-    // The descriptors of the process itself; and where a page holds its thread, those of the page of each thread, one for
-    // each worker: as many threads more may go on with clients who were waited for.
-    fn besides(self) -> u64
-        ensures { result ≡ spec.besides self }
+    /// How many descriptors so many connections may need: each has its socket; and where its page holds its thread, one for
+    /// each worker; else, while it is parked, two by which it is told that it may go on, and a fetch's.
+    pub(crate) fn needed(self, connections: u32) -> u64
+        ensures { result ≡ spec.needed self connections }
     {
+        let connections = u64::from(connections);
         if self.fetches == 1 {
-            OWN + 2 * u64::from(self.threads) * u64::from(self.workers)
+            let holding = connections.min(2 * u64::from(self.threads));
+            OWN + connections + u64::from(self.workers) * holding
         } else {
-            OWN
+            OWN + 4 * connections
         }
     }
 
-    // How many connections have room among so many descriptors: each has its socket; and where its page is parked while it
-    // waits, two by which that is told, and a fetch's.
-    fn connections_of(self, count: u64) -> u64
-        ensures { spec.AreConnections self count result }
+    /// How many connections may be open at once where no more descriptors than these may be: as many as are asked for, or
+    /// as many of them as have room; one, even if that has none.
+    pub(crate) fn room(self, limit: u64) -> u32
+        ensures { spec.IsRoom self limit result }
     {
-        if self.fetches == 1 { count } else { count / 4 }
-    }
-
-    /// How many descriptors a server may need.
-    pub(crate) fn wanted(self) -> u64
-        ensures { result ≡ spec.wanted self }
-    {
-        let connections = u64::from(self.connections);
-        if self.fetches == 1 {
-            self.besides() + connections
-        } else {
-            self.besides() + 4 * connections
+        if self.connections <= 1 || self.needed(self.connections) <= limit {
+            return self.connections.max(1);
         }
-    }
-
-    /// The number that can't be reached where no more descriptors than these may be open, if there is one.
-    pub(crate) fn unreached(self, limit: u64) -> Option<Unreached>
-        ensures { MatchOption result (spec.wanted self ≤ limit) (spec.IsUnreached self limit) }
-    {
-        if self.wanted() <= limit {
-            return None;
+        let mut room = 1;
+        let mut beyond = self.connections;
+        while beyond - room > 1 {
+            let between = room + (beyond - room) / 2;
+            if self.needed(between) <= limit {
+                room = between;
+            } else {
+                beyond = between;
+            }
         }
-        let besides = self.besides();
-        if limit < besides {
-            return Some(Unreached::Fetches);
-        }
-        match self.connections_of(limit - besides) {
-            0 => Some(Unreached::Fetches),
-            most => Some(Unreached::Connections(most)),
-        }
+        room
     }
 }
 

@@ -4,7 +4,7 @@ ghost use Rattle.std.specs.Prelude.{◌≤◌};
 use crate::connections::Connections;
 use crate::end_of_input::EndOfInput;
 use crate::measures::Measures;
-use crate::open_files::{Numbers, Unreached, open_files_limit};
+use crate::open_files::{Numbers, open_files_limit};
 use crate::operator::{Operator, Stop, bound};
 use crate::reports::Reports;
 use crate::requests_log::AccessLog;
@@ -40,7 +40,7 @@ where
     R: ServerRuntime + Files<File = File> + Print + Eprint + Send + Sync,
     R: Net<Stream = TcpStream, Listener = TcpListener>,
 {
-    warn_of_files(rt, Numbers::of(&server));
+    let connections = room_of(rt, Numbers::of(&server));
     let Server {
         addresses,
         origins,
@@ -77,7 +77,10 @@ where
         clients,
         stops_with_input,
         log,
-        at_once,
+        at_once: Capacity {
+            threads: at_once.threads,
+            connections,
+        },
         accept,
     };
     served(rt, &service, notes, cache, front)
@@ -192,31 +195,22 @@ where
     })
 }
 
-// Says which number can't be reached for want of open files. The server runs all the same: it may never need as many.
-fn warn_of_files(rt: &impl Eprint, numbers: Numbers) {
+// How many connections may be open at once: as many as the limit of open files leaves room for. Says so where these are fewer
+// than asked for, with the limit that would do.
+fn room_of(rt: &impl Eprint, numbers: Numbers) -> u32 {
+    let asked = numbers.connections;
     let Some(limit) = open_files_limit() else {
-        return;
+        return asked;
     };
-    let wanted = numbers.wanted();
-    let Numbers {
-        connections,
-        threads,
-        workers,
-        fetches,
-    } = numbers;
-    // If standard error can't be written, nobody reads it.
-    let _ = match numbers.unreached(limit) {
-        Some(Unreached::Connections(most)) => eprintln!(rt;
-            "warning: --connections {connections} can't be reached, only {most}: {limit} files may be open, and {wanted} may be needed (ulimit -n)"
-        ),
-        Some(Unreached::Fetches) if fetches > 1 => eprintln!(rt;
-            "warning: --connections {connections} with --fetches {fetches} can't be reached: {limit} files may be open, and {wanted} may be needed (ulimit -n)"
-        ),
-        Some(Unreached::Fetches) => eprintln!(rt;
-            "warning: --threads {threads} with --workers {workers} can't be reached: {limit} files may be open, and {wanted} may be needed (ulimit -n)"
-        ),
-        None => Ok(()),
-    };
+    let room = numbers.room(limit);
+    if room < asked {
+        let needed = numbers.needed(asked);
+        // If standard error can't be written, nobody reads it.
+        let _ = eprintln!(rt;
+            "warning: --connections {asked} is taken as {room}: {limit} files may be open, and {needed} would do (ulimit -n)"
+        );
+    }
+    room
 }
 
 // What accepts connections, and where it listens.
