@@ -7,8 +7,9 @@ import tempfile
 import time
 
 from harness import ASKED, HERE, PATIENCE, PLAIN, Origin, Response, Wires, Wrong, before, client, get, rest, same, told, wire
+from bounding import soon
 from keeping import BODY, more_of
-from operating import ADMIN, Desk, read
+from operating import ADMIN, Desk, metrics, read
 from parking import SHORT, resident
 
 # After how many seconds a slow answer comes.
@@ -179,11 +180,13 @@ def failed_accepts_end_the_edge_in_the_end():
         with before(origin, *ADMIN, "--client-timeout", "600000", added=added) as edge:
             desk = Desk(edge)
             same("before", (200, b"ok\n"), health_of(desk))
-            begun = time.monotonic()
-            with open(sign, "w") as file:
-                file.write(str(edge.port))
-            # The accept that waits has begun before that.
             with client(edge):
+                soon("who is there", lambda: metrics(desk)["esi_edge_connections"] == 1)
+                begun = time.monotonic()
+                with open(sign, "w") as file:
+                    file.write(str(edge.port))
+                # Whoever accepted before that waits for one more.
+                client(edge).close()
                 while health_of(desk)[0] == 200 and time.monotonic() - begun < PATIENCE:
                     time.sleep(0.1)
                 same("health", (503, b"accepts failed\n"), health_of(desk))
