@@ -1,9 +1,10 @@
-//! Speed of look-ups of a name in a long field, beside a search for the name in the same bytes.
+//! Speed of look-ups of a name in a long field, beside a search for the name in the same bytes; and of twenty in a page,
+//! which remembers what it found.
 
 use bench_tools::inputs::{or_io_error, repeated};
 use bench_tools::timing::{Least, print, print_count};
 use edge_types::{NoMemory, Octets, Request, SharedBytes};
-use esi_vars::{Reference, Variable, value};
+use esi_vars::{Lookups, Reference, Variable, value, value_by};
 use memchr::memmem;
 use std::alloc::Global;
 use std::io;
@@ -17,6 +18,9 @@ const LAST: &[u8] = b"b=2";
 
 // How many times each look-up is made; the quickest counts.
 const TURNS: u32 = 200;
+
+// How many times a page asks for the name.
+const AGAIN: u32 = 20;
 
 // What each look-up is, the name, and the cookie that is repeated before the last one.
 const LOOKUPS: [(&str, &str, &str); 3] = [
@@ -41,7 +45,16 @@ fn told(rt: &HostRuntime, what: &str, name: &str, unit: &str) -> io::Result<()> 
     let reference = or_io_error(cookie_of(rt.alloc(), name.as_bytes()))?;
     let looking = looked_up(rt, &request, &reference)?;
     let searching = searched(rt, cookies.as_slice(), name.as_bytes())?;
-    print(rt, what, looking, searching, cookies.len())
+    print(rt, what, looking, searching, cookies.len())?;
+    let remembering = asked_again(rt, &request, &reference, true)?;
+    let forgetting = asked_again(rt, &request, &reference, false)?;
+    print(
+        rt,
+        "lookups: twenty times",
+        remembering,
+        forgetting,
+        cookies.len(),
+    )
 }
 
 // A reference to the cookie of this name.
@@ -62,6 +75,38 @@ fn looked_up(rt: &HostRuntime, request: &Request, reference: &Reference) -> io::
     }
     print_count(rt, "lookups: bytes found", bytes)?;
     Ok(least.get())
+}
+
+// Twenty look-ups, of which the first may be remembered.
+fn asked_again(
+    rt: &HostRuntime,
+    request: &Request,
+    reference: &Reference,
+    remembers: bool,
+) -> io::Result<Duration> {
+    let alloc = rt.alloc();
+    let mut least = Least::new();
+    let mut bytes: usize = 0;
+    for _ in 0..TURNS {
+        let mut lookups = if remembers {
+            Lookups::new(alloc)
+        } else {
+            Lookups::none()
+        };
+        let said = least.time(rt, || said_again(request, reference, &mut lookups))?;
+        bytes = bytes.wrapping_add(said);
+    }
+    print_count(rt, "lookups: bytes found", bytes)?;
+    Ok(least.get())
+}
+
+// How many bytes twenty look-ups find.
+fn said_again(request: &Request, reference: &Reference, lookups: &mut Lookups) -> usize {
+    let mut bytes: usize = 0;
+    for _ in 0..AGAIN {
+        bytes = bytes.wrapping_add(value_by(request, reference, lookups).len());
+    }
+    bytes
 }
 
 fn searched(rt: &HostRuntime, cookies: &[u8], name: &[u8]) -> io::Result<Duration> {

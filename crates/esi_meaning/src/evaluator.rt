@@ -19,7 +19,7 @@ use crate::progress::{
 };
 use edge_types::{Answer, NoMemory, PageUrl, Request, SharedBytes, Table};
 use esi_tree::{Branch, Include, Node, Template, TreeFault, template};
-use esi_vars::Part;
+use esi_vars::{Lookups, Part};
 use std::alloc::Global;
 use std::sync::Arc;
 
@@ -200,7 +200,14 @@ fn leg(
     if standing.level == 0 {
         return Ok(no_leg(progress));
     }
-    let Some(url) = leg_url(setting.alloc, setting.request, standing.url, text)? else {
+    let found = leg_url(
+        setting.alloc,
+        setting.request,
+        standing.url,
+        text,
+        &mut Lookups::none(),
+    )?;
+    let Some(url) = found else {
         return Ok(no_leg(progress));
     };
     let below = Standing {

@@ -4,11 +4,11 @@ ghost use Rattle.edge_types.specs.Asked.{resolve};
 ghost use Rattle.esi_vars.specs.Values.{substituted};
 
 use edge_types::{MAX_TEXT, NoMemory, PageUrl, Request};
-use esi_vars::{Part, substitute_within};
+use esi_vars::{Lookups, Part, substitute_within};
 use std::alloc::Global;
 
 /// The URL that a source denotes, its references replaced, in a template at this base; `None` as in
-/// `PageUrl::resolve`. `NoMemory` if an allocation fails.
+/// `PageUrl::resolve`. `NoMemory` if an allocation fails. The lookups change no URL.
 ///
 /// Source: ESI Language Specification 1.0, "include" and "Variables".
 //
@@ -19,10 +19,11 @@ pub fn leg_url(
     request: &Request,
     base: &PageUrl,
     source: &[Part],
+    lookups: &mut Lookups,
 ) -> Result<Option<PageUrl>, NoMemory>
     ensures { IfOk result (λ found. found ≡ resolve base.now (substituted request.now source.now)) }
 {
-    match substitute_within(alloc, request, source, MAX_TEXT)? {
+    match substitute_within(alloc, request, source, MAX_TEXT, lookups)? {
         Some(text) => base.resolve(alloc, text.as_slice()),
         None => Ok(None),
     }

@@ -6,5 +6,6 @@ pub mod Field
 pub mod Agent
 pub mod Finds
 pub mod Values
+pub mod Lookups
 pub mod Spelling
 pub mod Laws

@@ -6,6 +6,8 @@ use Rattle.edge_types.specs.Halves.{lent_pair}
 use Rattle.esi_vars.specs.declared.reference.Reference.{Reference}
 use Rattle.esi_vars.specs.declared.written.Written as code
 use Rattle.esi_vars.specs.declared.part.Found as found
+use Rattle.esi_vars.specs.declared.looked_up.LookedUp.{LookedUp}
+use Rattle.esi_vars.specs.declared.looked_up.LookedUp.TheVariants as looked_up
 use Rattle.esi_vars.specs.Reading.{Written}
 use Rattle.esi_vars.specs.Parts.{Found}
 use Rattle.esi_vars.specs.Field.{parts_between}
@@ -50,3 +52,8 @@ shown_parts c x = x.0.now ∷ parts_left c (option_copied x.1)
 -- what is before a byte and what follows it
 abbrev pub shown_halves : Bor (List ℕ) × Bor (List ℕ) → List ℕ × List ℕ
 shown_halves x = (x.0.now, x.1.now)
+
+-- the value that was looked up
+abbrev pub said : LookedUp → List ℕ
+said (looked_up.Name name) = name.now
+said (looked_up.Part value place) = value.now

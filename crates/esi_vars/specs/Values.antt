@@ -7,6 +7,8 @@ use Rattle.edge_types.specs.Request.{field_of}
 use Rattle.esi_vars.specs.declared.reference.Variable.{Variable}
 use Rattle.esi_vars.specs.declared.reference.Variable.TheVariants.{HttpAcceptLanguage, HttpCookie, HttpUserAgent, QueryString}
 use Rattle.esi_vars.specs.declared.reference.Reference.{Reference}
+use Rattle.esi_vars.specs.declared.lookups.Keyed.{Keyed}
+use Rattle.esi_vars.specs.declared.lookups.Keyed.TheVariants as keyed
 use Rattle.esi_vars.specs.declared.part.Part.{Part}
 use Rattle.esi_vars.specs.declared.part.Part.TheVariants as part
 use Rattle.esi_vars.specs.declared.pieces.TheConstants.{LONG_VALUE}
@@ -24,12 +26,19 @@ asked_of request variable = option_map (field_of request) (field_asked variable)
 abbrev pub whole_value : Request → Variable → List ℕ
 whole_value request variable = unwrap_or (asked_of request variable) []
 
+-- the part of a field that a key names
+abbrev pub value_in : Keyed → List ℕ → List ℕ → List ℕ
+value_in keyed.Language key field = language_value key field
+value_in keyed.Cookie key field = cookie_value key field
+value_in keyed.Agent key field = agent_value key field
+value_in keyed.Query key field = query_value key field
+
 -- a variable with a key: the part of the field; only these four have parts
 abbrev pub keyed_value : Request → Variable → List ℕ → List ℕ
-keyed_value request HttpAcceptLanguage key = language_value key request.accept_language
-keyed_value request HttpCookie key = cookie_value key request.cookie
-keyed_value request HttpUserAgent key = agent_value key request.user_agent
-keyed_value request QueryString key = query_value key request.query
+keyed_value request HttpAcceptLanguage key = value_in keyed.Language key request.accept_language
+keyed_value request HttpCookie key = value_in keyed.Cookie key request.cookie
+keyed_value request HttpUserAgent key = value_in keyed.Agent key request.user_agent
+keyed_value request QueryString key = value_in keyed.Query key request.query
 keyed_value request _ key = []
 
 -- what the request says, before any default is considered

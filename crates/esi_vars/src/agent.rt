@@ -3,6 +3,7 @@
 ghost use Rattle.std.specs.Prelude.{◌≡◌};
 ghost use Rattle.std.specs.Option.{option_copied};
 ghost use Rattle.esi_vars.specs.Agent as spec;
+ghost use Rattle.esi_vars.specs.Shown.{said};
 
 use crate::bytes::{ByteClass, run_len};
 use crate::looked_up::LookedUp;
@@ -19,19 +20,19 @@ pub(crate) enum Browser {
 /// What a field says under a key; nothing under another key, or if the field is empty.
 #[tactic(auto, unfolding(crate::specs::Agent::agent_value))]
 pub(crate) fn agent_value<'a>(key: &[u8], agent: &'a [u8]) -> LookedUp<'a>
-    ensures { result.value.now ≡ spec.agent_value key.now agent.now }
+    ensures { said result ≡ spec.agent_value key.now agent.now }
 {
     if agent.is_empty() {
-        return LookedUp::whole(b"");
+        return LookedUp::Name(b"");
     }
     if key == b"browser".as_slice() {
-        LookedUp::whole(browser_name(browser_of(agent)))
+        LookedUp::Name(browser_name(browser_of(agent)))
     } else if key == b"version".as_slice() {
         version_of(browser_of(agent), agent)
     } else if key == b"os".as_slice() {
-        LookedUp::whole(system_of(agent))
+        LookedUp::Name(system_of(agent))
     } else {
-        LookedUp::whole(b"")
+        LookedUp::Name(b"")
     }
 }
 
@@ -62,25 +63,25 @@ fn browser_name(browser: Browser) -> &'static [u8]
 
 // The version after the browser's mark.
 fn version_of(browser: Browser, agent: &[u8]) -> LookedUp<'_>
-    ensures { result.value.now ≡ spec.version_of browser agent.now }
+    ensures { said result ≡ spec.version_of browser agent.now }
 {
     match browser {
         Browser::Msie => version_at(agent, behind(b"MSIE ", agent)),
         Browser::Mozilla => version_at(agent, behind(b"Mozilla/", agent)),
-        Browser::Other => LookedUp::whole(b""),
+        Browser::Other => LookedUp::Name(b""),
     }
 }
 
 // The digits and points at the front of what was found.
 fn version_at<'a>(agent: &[u8], found: Option<&'a [u8]>) -> LookedUp<'a>
-    ensures { result.value.now ≡ spec.version_at (option_copied found.entry) }
+    ensures { said result ≡ spec.version_at (option_copied found.entry) }
 {
     match found {
         Some(text) => {
             let version = text.split_at(run_len(ByteClass::Version, text)).0;
             LookedUp::behind(version, agent, text, 0)
         }
-        None => LookedUp::whole(b""),
+        None => LookedUp::Name(b""),
     }
 }
 

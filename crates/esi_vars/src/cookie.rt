@@ -2,6 +2,7 @@
 
 ghost use Rattle.std.specs.Prelude.{◌≡◌};
 ghost use Rattle.esi_vars.specs.Field as spec;
+ghost use Rattle.esi_vars.specs.Shown.{said};
 
 use crate::field::{first_part, from_name, halves};
 use crate::looked_up::LookedUp;
@@ -10,7 +11,7 @@ use memchr::memmem::Finder;
 
 /// The value of the first cookie with this name, or nothing.
 pub(crate) fn cookie_value<'a>(name: &[u8], field: &'a [u8]) -> LookedUp<'a>
-    ensures { result.value.now ≡ spec.cookie_value name.now field.now }
+    ensures { said result ≡ spec.cookie_value name.now field.now }
 {
     let finder = Finder::new(name);
     let mut rest = Some(field);
@@ -25,5 +26,5 @@ pub(crate) fn cookie_value<'a>(name: &[u8], field: &'a [u8]) -> LookedUp<'a>
         }
         rest = after;
     }
-    LookedUp::whole(b"")
+    LookedUp::Name(b"")
 }

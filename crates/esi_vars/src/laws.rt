@@ -4,6 +4,7 @@ ghost use Rattle.std.specs.Prelude.{◌≡◌};
 ghost use Rattle.edge_types.specs.Trimming.{TrimsTexts};
 ghost use Rattle.esi_vars.specs.Laws.{ReadsReferences, PartsSpell, PartsAreOne, SubstitutesText, PiecesAreValues, CutsFields, CutsOnce, LooksUp, FindsTheFirst, FindsNone};
 
+use crate::lookups::{LONG_FIELD, MAX_LOOKUPS};
 use crate::pieces::LONG_VALUE;
 
 /// A reference is read at the front of a text, with what follows it, exactly if one is spelled there.
@@ -44,7 +45,10 @@ pub fn words_are_found_first()
     ensures none { FindsNone }
 {}
 
-/// From how many bytes on a value is a piece of a page by itself, as a number.
+/// From how many bytes on a value is a piece of a page by itself, from how many on what is looked up in a field is
+/// remembered, and how many values are, as numbers.
 pub fn limits_of_values()
-    ensures { LONG_VALUE ≡ 256 }
+    ensures piece { LONG_VALUE ≡ 256 }
+    ensures field { LONG_FIELD ≡ 1024 }
+    ensures known { MAX_LOOKUPS ≡ 32 }
 {}

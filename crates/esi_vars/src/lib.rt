@@ -8,6 +8,7 @@ mod field;
 mod language;
 pub mod laws;
 mod looked_up;
+pub mod lookups;
 pub mod part;
 pub mod pieces;
 mod query;
@@ -17,7 +18,8 @@ mod written;
 
 pub use bytes::after_byte;
 pub use edge_types::around as cut_at;
+pub use lookups::Lookups;
 pub use part::{Part, parts, substitute, substitute_within};
 pub use pieces::push_values;
 pub use reference::{Reference, Variable, reference_at};
-pub use values::{shared_value, value};
+pub use values::{shared_value, value, value_by};

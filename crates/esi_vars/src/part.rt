@@ -5,8 +5,9 @@ ghost use Rattle.esi_vars.specs.Parts.{parts_of, next_reference, text_part};
 ghost use Rattle.esi_vars.specs.Shown.{shown_next};
 ghost use Rattle.esi_vars.specs.Values.{part_value, substituted, within};
 
+use crate::lookups::Lookups;
 use crate::reference::{Reference, owned};
-use crate::values::value;
+use crate::values::value_by;
 use crate::written::{Written, written_at};
 use edge_types::{NoMemory, Request, SharedBytes, find_byte};
 use std::alloc::Global;
@@ -109,13 +110,15 @@ pub fn substitute(alloc: Global, request: &Request, parts: &[Part]) -> Result<Ve
     ensures { IfOk result (λ text. text.items ≡ substituted request.now parts.now) }
 {
     let mut text = Vec::new(alloc);
+    let mut lookups = Lookups::none();
     for part in parts {
-        text.extend_from_slice(part_value(request, part))?;
+        text.extend_from_slice(part_value(request, part, &mut lookups))?;
     }
     Ok(text)
 }
 
-/// The text of the parts for a request, if it is no longer than the limit, in bytes; else `None`.
+/// The text of the parts for a request, if it is no longer than the limit, in bytes; else `None`. Values are looked up as
+/// by `value_by`.
 ///
 /// `NoMemory` if an allocation fails; no text is made then.
 ///
@@ -125,12 +128,13 @@ pub fn substitute_within(
     request: &Request,
     parts: &[Part],
     limit: usize,
+    lookups: &mut Lookups,
 ) -> Result<Option<Vec<u8>>, NoMemory>
     ensures { IfOk result (λ found. option_map (λ text. text.items) found ≡ within limit (substituted request.now parts.now)) }
 {
     let mut text = Vec::new(alloc);
     for part in parts {
-        let value = part_value(request, part);
+        let value = part_value(request, part, lookups);
         if value.len() > limit - text.len() {
             return Ok(None);
         }
@@ -140,11 +144,15 @@ pub fn substitute_within(
 }
 
 // What a part denotes.
-pub(crate) fn part_value<'a>(request: &'a Request, part: &'a Part) -> &'a [u8]
+pub(crate) fn part_value<'a>(
+    request: &'a Request,
+    part: &'a Part,
+    lookups: &mut Lookups,
+) -> &'a [u8]
     ensures { result.now ≡ part_value request.now part.now }
 {
     match part {
         Part::Text(bytes) => bytes.as_bytes(),
-        Part::Reference(reference) => value(request, reference),
+        Part::Reference(reference) => value_by(request, reference, lookups),
     }
 }

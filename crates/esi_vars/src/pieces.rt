@@ -5,6 +5,7 @@ ghost use Rattle.edge_types.specs.Pieces.{joined, with_pieces};
 ghost use Rattle.esi_vars.specs.declared.part.Part.{Part};
 ghost use Rattle.esi_vars.specs.Values.{is_long, part_value, value_pieces};
 
+use crate::lookups::Lookups;
 use crate::part::{Part, part_value};
 use crate::values::shared_value;
 use edge_types::{NoMemory, PageBody, Request, SharedBytes};
@@ -25,7 +26,8 @@ fn is_long(value: &[u8]) -> bool
 }
 
 /// Adds the text of the parts for a request to a page's body: each reference replaced by its value, and nothing else
-/// changed. Values of `LONG_VALUE` bytes or more are parts of the request's fields or of the template.
+/// changed. Values of `LONG_VALUE` bytes or more are parts of the request's fields or of the template. They are looked up
+/// as by `value_by`.
 ///
 /// `NoMemory` if an allocation fails, or if the body would have more than `most` bytes; it may have some of the text
 /// then.
@@ -37,13 +39,14 @@ pub fn push_values(
     parts: &[Part],
     body: &mut PageBody,
     most: usize,
+    lookups: &mut Lookups,
 ) -> Result<(), NoMemory>
     ensures pieces { OnOk result (body.new ≡ with_pieces body.old (value_pieces request.now [] parts.now)) }
     ensures few { OnOk result (length (joined body.new) ≤ most) }
 {
     let mut run = Vec::new(alloc);
     for part in parts {
-        push_value(alloc, request, part, &mut run, body)?;
+        push_value(alloc, request, part, &mut run, body, lookups)?;
         if body.len().saturating_add(run.len()) > most {
             return Err(NoMemory);
         }
@@ -62,26 +65,32 @@ fn push_value(
     part: &Part,
     run: &mut Vec<u8>,
     body: &mut PageBody,
+    lookups: &mut Lookups,
 ) -> Result<(), NoMemory>
     ensures { OnOk result ((parts : List Part) → with_pieces body.new (value_pieces request.now run.new.items parts)
         ≡ with_pieces body.old (value_pieces request.now run.old.items (part.now ∷ parts))) }
 {
-    let value = part_value(request, part);
+    let value = part_value(request, part, lookups);
     if !is_long(value) {
         run.extend_from_slice(value)?;
         return Ok(());
     }
     let before = mem::replace(run, Vec::new(alloc));
     body.push(SharedBytes::of(before)?)?;
-    body.push(shared_part(alloc, request, part)?)
+    body.push(shared_part(alloc, request, part, lookups)?)
 }
 
 // What a part denotes, for one more owner.
-fn shared_part(alloc: Global, request: &Request, part: &Part) -> Result<SharedBytes, NoMemory>
+fn shared_part(
+    alloc: Global,
+    request: &Request,
+    part: &Part,
+    lookups: &mut Lookups,
+) -> Result<SharedBytes, NoMemory>
     ensures { IfOk result (λ value. value ≡ part_value request.now part.now) }
 {
     match part {
         Part::Text(bytes) => bytes.share(),
-        Part::Reference(reference) => shared_value(alloc, request, reference),
+        Part::Reference(reference) => shared_value(alloc, request, reference, lookups),
     }
 }

@@ -2,6 +2,7 @@
 
 ghost use Rattle.std.specs.Prelude.{◌≡◌};
 ghost use Rattle.esi_vars.specs.Field as spec;
+ghost use Rattle.esi_vars.specs.Shown.{said};
 
 use crate::field::{first_part, from_name, halves};
 use crate::looked_up::LookedUp;
@@ -9,7 +10,7 @@ use memchr::memmem::Finder;
 
 /// The value of the first part of a query with this name, or nothing.
 pub(crate) fn query_value<'a>(name: &[u8], field: &'a [u8]) -> LookedUp<'a>
-    ensures { result.value.now ≡ spec.query_value name.now field.now }
+    ensures { said result ≡ spec.query_value name.now field.now }
 {
     let finder = Finder::new(name);
     let mut rest = Some(field);
@@ -24,5 +25,5 @@ pub(crate) fn query_value<'a>(name: &[u8], field: &'a [u8]) -> LookedUp<'a>
         }
         rest = after;
     }
-    LookedUp::whole(b"")
+    LookedUp::Name(b"")
 }

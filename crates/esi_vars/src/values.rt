@@ -2,13 +2,11 @@
 
 ghost use Rattle.std.specs.Prelude.{◌≡◌, IfOk};
 ghost use Rattle.std.specs.Option.{option_copied};
+ghost use Rattle.esi_vars.specs.Shown.{said};
 ghost use Rattle.esi_vars.specs.Values.{value_of, raw_value, whole_value, asked_of, keyed_value};
 
-use crate::agent::agent_value;
-use crate::cookie::cookie_value;
-use crate::language::language_value;
 use crate::looked_up::LookedUp;
-use crate::query::query_value;
+use crate::lookups::{Keyed, Lookups};
 use crate::reference::{Reference, Variable};
 use edge_types::{NoMemory, Octets, Request, SharedBytes};
 use std::alloc::Global;
@@ -18,11 +16,25 @@ use std::alloc::Global;
 /// Lent from the request, the reference or a constant. Takes no memory.
 ///
 /// Source: ESI Language Specification 1.0, "Variables"; how parts of a field are found is our profile.
-#[tactic(auto, unfolding(crate::specs::Values::value_of))]
 pub fn value<'a>(request: &'a Request, reference: &'a Reference) -> &'a [u8]
     ensures { result.now ≡ value_of request.now reference.now }
 {
-    let said = raw_value(request, &reference.variable, &reference.key).value;
+    value_by(request, reference, &mut Lookups::none())
+}
+
+/// The bytes that a reference denotes, as `value` says. What these lookups know isn't searched for again, and what they
+/// don't know they may remember.
+///
+/// Source: ESI Language Specification 1.0, "Variables"; what is remembered is our profile.
+#[tactic(auto, unfolding(crate::specs::Values::value_of))]
+pub fn value_by<'a>(
+    request: &'a Request,
+    reference: &'a Reference,
+    lookups: &mut Lookups,
+) -> &'a [u8]
+    ensures { result.now ≡ value_of request.now reference.now }
+{
+    let said = raw_value(request, &reference.variable, &reference.key, lookups).value();
     if !said.is_empty() {
         return said;
     }
@@ -32,7 +44,7 @@ pub fn value<'a>(request: &'a Request, reference: &'a Reference) -> &'a [u8]
     }
 }
 
-/// The bytes that a reference denotes, as `value` says, for one more owner: a part of the request's field or of the
+/// The bytes that a reference denotes, as `value_by` says, for one more owner: a part of the request's field or of the
 /// reference, of which nothing is copied.
 ///
 /// `NoMemory` if an owner can't be made.
@@ -43,11 +55,12 @@ pub fn shared_value(
     alloc: Global,
     request: &Request,
     reference: &Reference,
+    lookups: &mut Lookups,
 ) -> Result<SharedBytes, NoMemory>
     ensures { IfOk result (λ value. value ≡ value_of request.now reference.now) }
 {
-    let said = raw_value(request, &reference.variable, &reference.key);
-    if !said.value.is_empty() {
+    let said = raw_value(request, &reference.variable, &reference.key, lookups);
+    if !said.value().is_empty() {
         return shared(alloc, request, &reference.variable, said);
     }
     match &reference.default {
@@ -61,17 +74,17 @@ fn shared(
     alloc: Global,
     request: &Request,
     variable: &Variable,
-    said: LookedUp<'_>,
+    found: LookedUp<'_>,
 ) -> Result<SharedBytes, NoMemory>
-    ensures { IfOk result (λ value. value ≡ said.entry.value.now) }
+    ensures { IfOk result (λ value. value ≡ said found.entry) }
 {
-    let part = match field_of(request, variable) {
-        Some(field) => field.part_at(said.place, said.value)?,
-        None => None,
+    let part = match (found, field_of(request, variable)) {
+        (LookedUp::Part(value, place), Some(field)) => field.part_at(place, value)?,
+        _ => None,
     };
     match part {
         Some(part) => Ok(part),
-        None => SharedBytes::copy_of(alloc, said.value),
+        None => SharedBytes::copy_of(alloc, found.value()),
     }
 }
 
@@ -86,12 +99,17 @@ fn field_of<'a>(request: &'a Request, variable: &Variable) -> Option<&'a SharedB
 }
 
 // What the request says, before any default is considered.
-fn raw_value<'a>(request: &'a Request, variable: &Variable, key: &Option<Octets>) -> LookedUp<'a>
-    ensures { result.value.now ≡ raw_value request.now variable.now key.now }
+fn raw_value<'a>(
+    request: &'a Request,
+    variable: &Variable,
+    key: &Option<Octets>,
+    lookups: &mut Lookups,
+) -> LookedUp<'a>
+    ensures { said result ≡ raw_value request.now variable.now key.now }
 {
     match key {
-        None => LookedUp::whole(whole_value(request, variable)),
-        Some(key) => keyed_value(request, variable, key.as_bytes()),
+        None => LookedUp::Part(whole_value(request, variable), 0),
+        Some(key) => keyed_value(request, variable, key.as_bytes(), lookups),
     }
 }
 
@@ -106,17 +124,22 @@ fn whole_value<'a>(request: &'a Request, variable: &Variable) -> &'a [u8]
 }
 
 // The part of a variable that a key names.
-fn keyed_value<'a>(request: &'a Request, variable: &Variable, key: &[u8]) -> LookedUp<'a>
-    ensures { result.value.now ≡ keyed_value request.now variable.now key.now }
+fn keyed_value<'a>(
+    request: &'a Request,
+    variable: &Variable,
+    key: &[u8],
+    lookups: &mut Lookups,
+) -> LookedUp<'a>
+    ensures { said result ≡ keyed_value request.now variable.now key.now }
 {
     match variable {
         Variable::HttpAcceptLanguage => {
-            LookedUp::whole(language_value(key, request.accept_language.as_bytes()))
+            lookups.value(Keyed::Language, key, &request.accept_language)
         }
-        Variable::HttpCookie => cookie_value(key, request.cookie.as_bytes()),
-        Variable::HttpUserAgent => agent_value(key, request.user_agent.as_bytes()),
-        Variable::QueryString => query_value(key, request.query.as_bytes()),
+        Variable::HttpCookie => lookups.value(Keyed::Cookie, key, &request.cookie),
+        Variable::HttpUserAgent => lookups.value(Keyed::Agent, key, &request.user_agent),
+        Variable::QueryString => lookups.value(Keyed::Query, key, &request.query),
         // No other variable has parts.
-        _ => LookedUp::whole(b""),
+        _ => LookedUp::Name(b""),
     }
 }

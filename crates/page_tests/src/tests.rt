@@ -1,6 +1,7 @@
 mod boards;
 mod broken;
 mod cases;
+mod lookups;
 mod owners;
 mod pages;
 mod plans;

@@ -12,6 +12,7 @@ use Rattle.esi_meaning.specs.Ahead.{MayFollow, IsLegal}
 use Rattle.esi_meaning.specs.Run.{Asks}
 use Rattle.esi_meaning.specs.State.{Waiting, is_missing, state, waits_at}
 use Rattle.esi_tree.specs.Tree.{Elements}
+use Rattle.esi_vars.specs.declared.lookups.Lookups.{Lookups}
 use Rattle.answer_board.specs.Board.{State, Slot, Receipt, Ticket, urls, Claims, number_of, Opens, answer_at, answer_in, filled_with, fill_fault, Fills, KeepsFilled, log_of}
 use Rattle.answer_board.specs.Sound.{IsBoard}
 use Rattle.answer_board.proofs.Slots.{slice_get-set_same}
@@ -216,6 +217,35 @@ module _ (p : Inside) (c : State) (x : Receipt) (unbroken : p.stage ≡ stage.Br
     stage_is = tt;
     leg_is = tt;
   }
+
+-- more was looked up for it
+abbrev pub with_lookups : Lookups → Progress → Progress
+with_lookups found p = record p { machine = record p.machine { lookups = found } }
+
+stage_knows : (r : Request) (L : ℕ) (u : List ℕ) (b : State) (found : Lookups) (p : Progress) (s : Stage) → IsStage r L u b p s → IsStage r L u b (with_lookups found p) s
+stage_knows r L u b found p stage.Unread h = h
+stage_knows r L u b found p stage.Running h = record {
+  tree = h.tree;
+  status = h.status;
+  content_type = h.content_type;
+  page = h.page;
+  stands = record { count = h.stands.count; there = h.stands.there; steps = h.stands.steps };
+  placed = h.placed;
+  ready = h.ready;
+  going = h.going;
+}
+stage_knows r L u b found p (stage.Done outcome) h = h
+stage_knows r L u b found p stage.Broken h = tt
+
+pub kept_knows : (p : Inside) (found : Lookups) → IsKept p → IsKept (record p { progress = with_lookups found p.progress })
+kept_knows p found h = record {
+  sound = h.sound;
+  levels = h.levels;
+  legal = h.legal;
+  board_is = h.board_is;
+  stage_is = stage_knows p.request p.levels p.url p.board found p.progress p.stage h.stage_is;
+  leg_is = h.leg_is;
+}
 
 -- it waits for this URL, which has a slot now
 pub kept_waits : (p : Inside) (progress : Progress) (d : State) (w : List ℕ) (depth number : ℕ) → (p.stage ≡ stage.Broken → ⊥) → IsKept p → IsRunning p.request p.levels p.url p.board progress

@@ -12,6 +12,7 @@ use answer_board::Board;
 use edge_types::{NoMemory, PageUrl, Request};
 use esi_meaning::leg_url;
 use esi_tree::Parts;
+use esi_vars::Lookups;
 use plan_compiler::{Form, Prepared, Step};
 use std::alloc::Global;
 
@@ -33,6 +34,7 @@ pub(crate) fn open_ahead(
     board: &mut Board,
     number: usize,
     room: u16,
+    lookups: &mut Lookups,
 ) -> Result<u16, NoMemory>
     requires sound { IsBoard board.old }
     ensures opens { (s : Slot) (answer : Answered) → slice_get board.old.slots number ≡ Some s → answer_in s.standing ≡ Some answer
@@ -60,12 +62,17 @@ pub(crate) fn open_ahead(
         template: &template,
         depth,
     };
-    walk(&opening, board, room)
+    walk(&opening, board, room, lookups)
 }
 
 // Opens slots for what the template may ask for, if it is one: its steps in their order, where each test is
 // decided, and both ways of each try are entered.
-fn walk(opening: &Opening<'_>, board: &mut Board, room: u16) -> Result<u16, NoMemory>
+fn walk(
+    opening: &Opening<'_>,
+    board: &mut Board,
+    room: u16,
+    lookups: &mut Lookups,
+) -> Result<u16, NoMemory>
     requires sound { IsBoard board.old }
     ensures opens { IfOk result (λ left. record { board = board.new; room = left } ≡ opened opening.now.depth (ahead_of opening.now.request.now opening.now.template.now) (record { board = board.old; room = room })) }
     ensures keeps { KeepsFilled board.old board.new }
@@ -87,25 +94,37 @@ fn walk(opening: &Opening<'_>, board: &mut Board, room: u16) -> Result<u16, NoMe
         let Some(step) = plan.step(at) else {
             return Ok(left);
         };
-        left = visit(opening, step, board, left)?;
-        at += 1 + passed(opening.request, step);
+        left = visit(opening, step, board, left, lookups)?;
+        at += 1 + passed(opening.request, step, lookups);
     }
     Ok(left)
 }
 
 // How many steps the walk skips after this one.
-fn passed(request: &Request, step: &Step) -> usize
+fn passed(request: &Request, step: &Step, lookups: &mut Lookups) -> usize
     ensures { result ≡ passed_by request.now (step_of step.now) }
 {
     match step {
-        Step::Test { test, skip } => { if test.holds(request) { 0 } else { *skip } }
+        Step::Test { test, skip } => {
+            if test.holds_by(request, lookups) {
+                0
+            } else {
+                *skip
+            }
+        }
         Step::Jump { skip } => *skip,
         _ => 0,
     }
 }
 
 // Opens a slot for what this step may ask for, and returns the room that is left.
-fn visit(opening: &Opening<'_>, step: &Step, board: &mut Board, room: u16) -> Result<u16, NoMemory>
+fn visit(
+    opening: &Opening<'_>,
+    step: &Step,
+    board: &mut Board,
+    room: u16,
+    lookups: &mut Lookups,
+) -> Result<u16, NoMemory>
     requires sound { IsBoard board.old }
     ensures opens { IfOk result (λ left. record { board = board.new; room = left } ≡
         opened opening.now.depth (filter_map (asked_by opening.now.request.now opening.now.template.now) (sources_at (step_of step.now))) (record { board = board.old; room = room })) }
@@ -116,7 +135,7 @@ fn visit(opening: &Opening<'_>, step: &Step, board: &mut Board, room: u16) -> Re
     ensures fewer { IfOk result (λ left. length board.new.slots + left ≤ length board.old.slots + room) }
 {
     match step {
-        Step::Leg(source) => open_leg(opening, source, board, room),
+        Step::Leg(source) => open_leg(opening, source, board, room, lookups),
         _ => Ok(room),
     }
 }
@@ -127,6 +146,7 @@ fn open_leg(
     source: &Parts,
     board: &mut Board,
     room: u16,
+    lookups: &mut Lookups,
 ) -> Result<u16, NoMemory>
     requires sound { IsBoard board.old }
     ensures opens { IfOk result (λ left. record { board = board.new; room = left } ≡ with_asked opening.now.depth (asked_by opening.now.request.now opening.now.template.now source.now) (record { board = board.old; room = room })) }
@@ -142,6 +162,7 @@ fn open_leg(
         opening.request,
         template.url(),
         source.as_slice(),
+        lookups,
     )? {
         Some(url) => match template.inline_for(&url) {
             Some(_) => Ok(room),

@@ -15,6 +15,7 @@ use crate::leg::Setting;
 use crate::machine::{check_len, started};
 use crate::step::Reached;
 use edge_types::{Answer, NoMemory, Outcome, PageBody, PageFault, PageUrl, Reply};
+use esi_vars::Lookups;
 use plan_compiler::Form;
 use std::alloc::Global;
 use std::mem;
@@ -109,7 +110,8 @@ fn begin(
         }
         Form::BadAt(place) => Ok(Begun::Done(Outcome::Fault(PageFault::BadTemplate(*place)))),
         Form::Planned(plan) => {
-            progress.machine = started(setting.alloc, slot, plan.len(), levels)?;
+            let lookups = mem::replace(&mut progress.machine.lookups, Lookups::none());
+            progress.machine = started(setting.alloc, slot, plan.len(), levels, lookups)?;
             Ok(Begun::Running)
         }
     }

@@ -9,6 +9,7 @@ use answer_board::Board;
 use edge_types::{NoMemory, PageUrl, Request};
 use esi_meaning::leg_url;
 use esi_tree::Parts;
+use esi_vars::Lookups;
 use plan_compiler::Prepared;
 use std::alloc::Global;
 
@@ -42,6 +43,7 @@ pub(crate) fn find_target(
     template: &Prepared,
     level: u8,
     source: &Parts,
+    lookups: &mut Lookups,
 ) -> Result<Target, NoMemory>
     ensures { IfOk result (λ target. shown_target setting.now.board.now target ≡
         target_of setting.now.request.now (log_of setting.now.board.now) template.now.url (entries_of template.now) source.now level) }
@@ -54,6 +56,7 @@ pub(crate) fn find_target(
         setting.request,
         template.url(),
         source.as_slice(),
+        lookups,
     )? {
         Some(url) => Ok(named(setting, template, url)),
         None => Ok(Target::Nowhere),

@@ -5,6 +5,7 @@
 
 mod advance;
 mod ahead;
+mod answers;
 mod course;
 mod events;
 mod frames;

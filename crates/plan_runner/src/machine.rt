@@ -8,6 +8,7 @@ ghost use Rattle.plan_runner.specs.Shown.{shown_frame, shown_frames, shown_machi
 use crate::frames::{Frame, Frames};
 use crate::handlers::Handlers;
 use edge_types::{NoMemory, PageBody, SharedBytes};
+use esi_vars::Lookups;
 use std::alloc::Global;
 
 #[derive(Drop)]
@@ -20,6 +21,8 @@ pub(crate) struct Machine {
     // machine failed, which it does at a leg.
     pub(crate) last: Option<usize>,
     pub(crate) failed: bool,
+    // What was looked up for the page.
+    pub(crate) lookups: Lookups,
 }
 
 // A machine without a page.
@@ -32,6 +35,7 @@ pub(crate) fn idle(alloc: Global) -> Machine
         legs: 0,
         last: None,
         failed: false,
+        lookups: Lookups::new(alloc),
     }
 }
 
@@ -41,6 +45,7 @@ pub(crate) fn started(
     slot: usize,
     end: usize,
     level: u8,
+    lookups: Lookups,
 ) -> Result<Machine, NoMemory>
     ensures shown { IfOk result (λ m. (board : State) → shown_machine board m ≡ goes 0 [] (shown_frame board (first_frame slot end level) ∷ [])) }
     ensures placed { IfOk result (λ m. (board : State) → IsPlaced board (first_frame slot end level) → ArePlaced board m.frames) }
@@ -51,6 +56,7 @@ pub(crate) fn started(
         legs: 0,
         last: None,
         failed: false,
+        lookups,
     };
     let frame = Frame {
         slot,

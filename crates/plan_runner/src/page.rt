@@ -1,6 +1,6 @@
 //! Pages. Clauses see a page's URL, request and levels, its board, the room that is left for slots
 //! ahead, the count of steps, and how far it is. `specs/Headline.antt` is what a page promises.
-ghost use Rattle.std.specs.Prelude.{◌≡◌, ◌≤◌, ◌+◌, length, List, ◌++◌, ◌∷◌, [], Some, None, Err, IfOk, IfErr, IfSome, OnOk, OnErr, option_and_then, option_map, slice_get};
+ghost use Rattle.std.specs.Prelude.{◌≡◌, ◌≤◌, ◌+◌, length, List, ◌++◌, ◌∷◌, [], Some, None, Err, IfOk, IfErr, IfSome, OnOk, OnErr, option_map, slice_get};
 ghost use Rattle.std.specs.Arc.{arc_value};
 ghost use Rattle.std.specs.List.{AllByRecursion};
 ghost use Rattle.std.specs.Option.{option_copied};
@@ -14,7 +14,7 @@ ghost use Rattle.esi_meaning.specs.Laws.{SameReply};
 ghost use Rattle.esi_meaning.specs.Meaning.{AreLevels, asked};
 ghost use Rattle.esi_meaning.specs.State.{Done, state, waits_at};
 ghost use Rattle.answer_board.specs.Sound.{IsBoard};
-ghost use Rattle.answer_board.specs.Board.{answer_at, log_of};
+ghost use Rattle.answer_board.specs.Board.{log_of};
 ghost use Rattle.plan_machine.specs.Headline.{IsTrueOver};
 ghost use Rattle.plan_machine.specs.LastLeg.{failed_answer};
 ghost use Rattle.plan_runner.specs.Page.{Underway, Finished, Broken, accepted, ClaimsOf};
@@ -27,6 +27,7 @@ ghost use Rattle.plan_runner.specs.Words.{refusal_words};
 
 use crate::advance::Progress;
 use crate::ahead::open_ahead;
+use crate::answers::{answer_in, filled_answer};
 use crate::course::{Came, begin_and_go_on, go_on};
 use crate::leg::Setting;
 use crate::machine::idle;
@@ -363,6 +364,7 @@ impl Page {
             &mut self.board,
             number,
             self.room,
+            &mut self.progress.machine.lookups,
         ) {
             Ok(room) => {
                 self.room = room;
@@ -454,26 +456,6 @@ impl Page {
                 Ok(State::Done(told))
             }
         }
-    }
-}
-
-// The answer that was filled in with this number, from 0.
-fn filled_answer(board: &Board, i: usize) -> Option<&Arc<Answer>>
-    ensures { option_map arc_value (option_copied result) ≡ option_and_then (answer_at board.now.slots) (slice_get board.now.filled i) }
-{
-    match board.filled().get(i) {
-        Some(number) => answer_in(board, *number),
-        None => None,
-    }
-}
-
-// The answer in the slot with this number, if it is filled.
-fn answer_in(board: &Board, number: usize) -> Option<&Arc<Answer>>
-    ensures { option_map arc_value (option_copied result) ≡ answer_at board.now.slots number }
-{
-    match board.prepared(number) {
-        Some(prepared) => Some(prepared.answer()),
-        None => None,
     }
 }
 

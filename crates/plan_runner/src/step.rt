@@ -67,7 +67,8 @@ pub(crate) fn run(
         }
         Step::Values(parts) => give_values(machine, setting, frame, parts)?,
         Step::Test { test, skip: by } => {
-            let by = if test.holds(setting.request) { 0 } else { *by };
+            let holds = test.holds_by(setting.request, &mut machine.lookups);
+            let by = if holds { 0 } else { *by };
             skip(machine, frame, by)?;
         }
         Step::Jump { skip: by } => skip(machine, frame, *by)?,
@@ -185,6 +186,7 @@ fn give_values(
         parts,
         &mut machine.out,
         setting.most,
+        &mut machine.lookups,
     )?;
     frame.at += 1;
     go_on(machine, frame)?;
@@ -277,7 +279,7 @@ fn leg(
         machine.frames.push(frame)?;
         return Ok(Reached::TooMany);
     }
-    match find_target(setting, template, frame.level, source)? {
+    match find_target(setting, template, frame.level, source, &mut machine.lookups)? {
         Target::Missing(url) => {
             let level = frame.level;
             machine.frames.push(frame)?;

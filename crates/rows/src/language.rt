@@ -2,7 +2,7 @@
 
 use crate::row::{Line, number, pair};
 use edge_types::{Request, SharedBytes};
-use esi_vars::{Part, Reference, Variable};
+use esi_vars::{Lookups, Part, Reference, Variable};
 use std::alloc::Global;
 
 /// A request with this cookie.
@@ -82,7 +82,9 @@ pub fn substitute_within(alloc: Global, row: &[u8], line: &mut Line) -> Option<(
     let (cookie, text) = pair(row);
     let request = request(alloc, cookie)?;
     let parts = parts_of(alloc, text)?;
-    match esi_vars::substitute_within(alloc, &request, parts.as_slice(), limit).ok()? {
+    let mut lookups = Lookups::none();
+    let found = esi_vars::substitute_within(alloc, &request, parts.as_slice(), limit, &mut lookups);
+    match found.ok()? {
         Some(text) => line.show(text.as_slice()),
         None => line.push("too long"),
     }

@@ -4,6 +4,7 @@ use crate::language::parts_of;
 use crate::row::{Line, number, pair};
 use crate::values::{push_pieces, push_url, url};
 use edge_types::{Answer, Control, Octets, Outcome, PageUrl, Request, SharedBytes, Table};
+use esi_vars::Lookups;
 use std::alloc::Global;
 use std::sync::Arc;
 
@@ -46,7 +47,8 @@ pub fn leg_url(alloc: Global, row: &[u8], line: &mut Line) -> Option<()> {
     let base = url(alloc, base)?;
     let source = parts_of(alloc, source)?;
     let request = Request::empty();
-    let found = esi_meaning::leg_url(alloc, &request, &base, source.as_slice());
+    let mut lookups = Lookups::none();
+    let found = esi_meaning::leg_url(alloc, &request, &base, source.as_slice(), &mut lookups);
     push_url(line, &found.ok()?);
     Some(())
 }

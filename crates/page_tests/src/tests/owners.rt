@@ -4,7 +4,7 @@ use edge_types::{
     Answer, Control, NoMemory, Octets, PageBody, PageUrl, Request, SharedAnswer, SharedBytes,
 };
 use esi_vars::pieces::LONG_VALUE;
-use esi_vars::{parts, push_values, reference_at, substitute};
+use esi_vars::{Lookups, parts, push_values, reference_at, substitute};
 use std::alloc::Global;
 use std::process::Abort;
 use std::sync::Arc;
@@ -78,7 +78,14 @@ fn pieces(alloc: Global, text: &[u8], bytes: usize) -> Result<PageBody, NoMemory
     request.cookie = SharedBytes::of(cookie)?;
     let parts = parts(alloc, &SharedBytes::copy_of(alloc, text)?)?;
     let mut body = PageBody::new(alloc);
-    push_values(alloc, &request, parts.as_slice(), &mut body, 1000)?;
+    push_values(
+        alloc,
+        &request,
+        parts.as_slice(),
+        &mut body,
+        1000,
+        &mut Lookups::none(),
+    )?;
     Ok(body)
 }
 

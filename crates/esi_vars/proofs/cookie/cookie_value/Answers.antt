@@ -36,7 +36,7 @@ loop-rest-preserved c =
 pub returns : goal.returns
 returns c =
     let name = c.args.name.now in
-    c.whole.ensures ∙ elim c.match-rest.branch [
+    elim c.match-rest.branch [
       | in-Some+in_default-from_name w ↦
           let lacks = subst (λ n. HasSubslice w.in-Some.text.now n → ⊥) c.new-finder.ensures w.in_default-from_name.ensures in
           sym (no_cookie name w.in-Some.text.now lacks) ∙ ap (λ o. named name (map trimmed (parts_left 59 (option_copied o)))) (sym w.in-Some.is) ∙ c.loop-rest.invariant

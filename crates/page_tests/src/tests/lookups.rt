@@ -1,0 +1,169 @@
+//! Values that are looked up in long fields, again and again.
+
+use super::{answer, url_of};
+use edge_types::{NoMemory, Octets, Outcome, Request, SharedBytes, Table};
+use esi_vars::lookups::{LONG_FIELD, MAX_LOOKUPS};
+use esi_vars::{Lookups, Reference, Variable, value_by};
+use plan_runner::run_to_end;
+use std::alloc::Global;
+use std::fmt::Write;
+use std::process::Abort;
+use std::sync::Arc;
+use std::test::Fail;
+
+// This part of a field so many times, and then the others.
+fn field(alloc: Global, part: &str, times: usize, others: &str) -> Result<SharedBytes, NoMemory> {
+    let mut text = part.repeat(alloc, times)?;
+    text.push_str(others)?;
+    SharedBytes::copy_of(alloc, text.as_bytes())
+}
+
+// A request with as many cookies as 60,000 bytes hold, in whose names `b` occurs, and then these.
+fn request(alloc: Global, others: &str) -> Result<Request, NoMemory> {
+    let mut request = Request::empty();
+    request.cookie = field(alloc, "ab=;", 15_000, others)?;
+    Ok(request)
+}
+
+// Twenty comparisons of one cookie, with the numbers from 0.
+fn comparisons(alloc: Global) -> Result<String, NoMemory> {
+    let mut text = String::new(alloc);
+    text.push_str("<esi:choose>")?;
+    for number in 0..20 {
+        write!(
+            text,
+            "<esi:when test=\"$(HTTP_COOKIE{{b}})=='{number}'\">branch {number}</esi:when>"
+        )?;
+    }
+    text.push_str("</esi:choose>")?;
+    Ok(text)
+}
+
+#[test]
+fn twenty_comparisons_of_a_cookie_find_their_branch(rt: HostRuntime) -> Result<(), Fail> {
+    let alloc = rt.alloc();
+    let url = url_of(&rt, alloc, "http://a.test/p")?;
+    let body = comparisons(alloc)?;
+    let page = answer(alloc, url.share()?, 200, true, body.as_str())?.ok_or("an answer")?;
+    let mut table = Table::new(alloc);
+    assert!(rt; table.insert(Arc::new(alloc, page)?).is_ok());
+    let request = request(alloc, "b=19; b=3")?;
+    let (_, outcome) = run_to_end(alloc, url, request, &table, 16, 4, &[])?;
+    let Outcome::Page { body, .. } = &*outcome else {
+        return Err("a fault")?;
+    };
+    assert!(rt; body.piece(0) == Some(b"branch 19".as_slice()));
+    Ok(())
+}
+
+fn reference(alloc: Global, variable: Variable, key: &str) -> Result<Reference, NoMemory> {
+    Ok(Reference {
+        variable,
+        key: Some(Octets::copy_of(alloc, key.as_bytes())?),
+        default: None,
+    })
+}
+
+#[test]
+fn each_request_has_its_own_value(rt: HostRuntime) -> Result<(), Fail> {
+    let mut lookups = Lookups::new(rt.alloc());
+    let (first, second) = (request(rt.alloc(), "b=1")?, request(rt.alloc(), "b=2")?);
+    let b = reference(rt.alloc(), Variable::HttpCookie, "b")?;
+    for _ in 0..2 {
+        assert!(rt; value_by(&first, &b, &mut lookups) == b"1".as_slice());
+        assert!(rt; value_by(&second, &b, &mut lookups) == b"2".as_slice());
+    }
+    assert!(rt; lookups.count() == 2);
+    Ok(())
+}
+
+// A request with a long field for each variable that has parts.
+fn long_request(alloc: Global) -> Result<Request, NoMemory> {
+    let mut request = request(alloc, "c=1")?;
+    request.query = field(alloc, "q=1&", LONG_FIELD, "b=2")?;
+    request.accept_language = field(alloc, "de, ", LONG_FIELD, "fr")?;
+    request.user_agent = field(alloc, "x ", LONG_FIELD, "MSIE 6.0; Windows")?;
+    Ok(request)
+}
+
+// Whether a variable has this value under a key.
+fn says(
+    alloc: Global,
+    request: &Request,
+    lookups: &mut Lookups,
+    variable: Variable,
+    key: &str,
+    wanted: &str,
+) -> Result<bool, NoMemory> {
+    let asked = reference(alloc, variable, key)?;
+    Ok(value_by(request, &asked, lookups) == wanted.as_bytes())
+}
+
+#[test]
+fn values_of_all_kinds_are_the_same_again(rt: HostRuntime) -> Result<(), Fail> {
+    let alloc = rt.alloc();
+    let request = long_request(alloc)?;
+    let mut lookups = Lookups::new(alloc);
+    for _ in 0..2 {
+        for (variable, key, wanted) in [
+            (Variable::HttpCookie, "c", "1"),
+            (Variable::HttpCookie, "b", ""),
+            (Variable::QueryString, "b", "2"),
+            (Variable::HttpAcceptLanguage, "fr", "true"),
+            (Variable::HttpAcceptLanguage, "it", ""),
+            (Variable::HttpUserAgent, "browser", "MSIE"),
+            (Variable::HttpUserAgent, "version", "6.0"),
+            (Variable::HttpUserAgent, "os", "WIN"),
+        ] {
+            assert!(rt;
+                says(alloc, &request, &mut lookups, variable, key, wanted)?,
+                "{wanted}"
+            );
+        }
+        assert!(rt; lookups.count() == 8);
+    }
+    Ok(())
+}
+
+#[test]
+fn values_past_the_most_that_are_remembered_are_right(rt: HostRuntime) -> Result<(), Fail> {
+    let alloc = rt.alloc();
+    let mut others = String::new(alloc);
+    for number in 0..=MAX_LOOKUPS {
+        write!(others, "n{number}=v{number};")?;
+    }
+    let request = request(alloc, others.as_str())?;
+    let mut lookups = Lookups::new(alloc);
+    for number in (0..=MAX_LOOKUPS).chain(0..=MAX_LOOKUPS) {
+        let name = format!(in alloc; "n{number}")?;
+        let wanted = format!(in alloc; "v{number}")?;
+        let asked = reference(alloc, Variable::HttpCookie, name.as_str())?;
+        assert!(rt;
+            value_by(&request, &asked, &mut lookups) == wanted.as_bytes(),
+            "{number}"
+        );
+    }
+    assert!(rt; lookups.count() == MAX_LOOKUPS);
+    Ok(())
+}
+
+// How many values are known once the cookie `b` was looked up, if that is `1`.
+fn known_after(request: &Request, b: &Reference, mut lookups: Lookups) -> Option<usize> {
+    if value_by(request, b, &mut lookups) != b"1".as_slice() {
+        return None;
+    }
+    Some(lookups.count())
+}
+
+#[test]
+fn only_long_fields_are_remembered_and_only_where_asked(rt: HostRuntime) -> Result<(), Fail> {
+    let b = reference(rt.alloc(), Variable::HttpCookie, "b")?;
+    let mut short = Request::empty();
+    short.cookie = field(rt.alloc(), ";", LONG_FIELD - 4, "b=1")?;
+    let mut long = Request::empty();
+    long.cookie = field(rt.alloc(), ";", LONG_FIELD - 3, "b=1")?;
+    assert!(rt; known_after(&short, &b, Lookups::new(rt.alloc())) == Some(0));
+    assert!(rt; known_after(&long, &b, Lookups::new(rt.alloc())) == Some(1));
+    assert!(rt; known_after(&long, &b, Lookups::none()) == Some(0));
+    Ok(())
+}
