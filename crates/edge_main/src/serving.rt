@@ -14,7 +14,7 @@ use access_log::LogFormat;
 use edge_setup::{Addresses, Origin, Place};
 use edge_types::NoMemory;
 use failed_answers::{SharedFailures, SparingSource};
-use fetch_workers::{Assembling, Cache};
+use fetch_workers::{Assembling, Cache, UrlHashing};
 use hyper_edge::{
     Capacity, EdgeService, Journal, Limits, ServeEnd, ServerRuntime, Sockets, serve_accepts,
 };
@@ -294,19 +294,23 @@ fn named(
 }
 
 // What is stored, over this source, of which URLs that failed rest.
-fn cache_of(
-    rt: &impl AllocGlobal,
+fn cache_of<R>(
+    rt: &R,
     source: HyperSource,
     fetches: Fetches,
     capacity: usize,
 ) -> Result<Arc<Kept>, Status>
+where
+    R: RandomSource + AllocGlobal,
     requires some { 1 ≤ capacity }
     requires few { capacity ≤ 1024 }
 {
     let alloc = rt.alloc();
     let failures = SharedFailures::new(alloc, fetches.url_rest)?;
     let spared = SparingSource::new(source, MonotonicSeconds, failures);
-    let kept = Cache::new(alloc, spared, MonotonicSeconds, capacity)?.bounded(fetches.crowd);
+    let hashing = UrlHashing::secret(rt)?;
+    let kept = Cache::hashed(alloc, spared, MonotonicSeconds, capacity, hashing)?;
+    let kept = kept.bounded(fetches.crowd);
     match Arc::new(alloc, kept) {
         Ok(shared) => Ok(shared),
         Err(_) => Err(Status::NoMemory),

@@ -77,6 +77,7 @@ fn call_of_page(rt: &HostRuntime, name: &str) -> Option<()> {
         "Prepared::share" => pages::share_prepared(rt, name),
         "Board::open" => pages::open(rt, name),
         "Shard::new" => shards::new_shard(rt, name),
+        "Shard::hashed" => shards::hashed_shard(rt, name),
         "Shard::begin:lead" => shards::lead(rt, name),
         "Shard::begin:hit" => shards::hit(rt, name),
         "Shard::look" => shards::look(rt, name),

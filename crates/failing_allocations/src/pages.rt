@@ -7,6 +7,7 @@ use allocation_tools::printing::{
 use allocation_tools::values::{answer, processed, request, url};
 use answer_board::Board;
 use edge_types::{Control, NoMemory, Table};
+use esi_vars::Lookups;
 use plan_compiler::{Form, Plan, Prepared, compile};
 use std::alloc::Global;
 use std::sync::Arc;
@@ -41,8 +42,9 @@ pub fn plain_page(rt: &HostRuntime, name: &str) -> Option<()> {
 pub fn leg_url(rt: &HostRuntime, name: &str) -> Option<()> {
     let (base, request) = (url(rt.alloc(), "/p")?, request(rt.alloc())?);
     let source = esi_vars::parts(rt.alloc(), &shared(rt.alloc(), b"x?$(QUERY_STRING)")?).ok()?;
+    let mut lookups = Lookups::none();
     calls(rt, name)?;
-    let found = esi_meaning::leg_url(rt.alloc(), &request, &base, source.as_slice());
+    let found = esi_meaning::leg_url(rt.alloc(), &request, &base, source.as_slice(), &mut lookups);
     answers(rt)?;
     match &found {
         Ok(Some(url)) => bytes(rt, url.as_bytes()),

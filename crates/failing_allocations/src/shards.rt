@@ -8,7 +8,7 @@ ghost use Rattle.fragment_cache.specs.Sound.{NamesUrl};
 use allocation_tools::printing::{answers, bytes, calls, number, out_of_memory, word};
 use allocation_tools::values::{answer, stored, url};
 use edge_types::{Answer, NoMemory, PageUrl};
-use fragment_cache::{Begun, Flight, Picked, Shard};
+use fragment_cache::{Begun, Flight, Picked, Shard, UrlHashing};
 use std::alloc::Global;
 use std::sync::Arc;
 
@@ -22,8 +22,22 @@ pub fn new_shard(rt: &HostRuntime, name: &str) -> Option<()> {
     calls(rt, name)?;
     let made = Shard::new(rt.alloc(), 2);
     answers(rt)?;
+    print_made(rt, made, &url)
+}
+
+pub fn hashed_shard(rt: &HostRuntime, name: &str) -> Option<()> {
+    let url = url(rt.alloc(), "/x")?;
+    let hashing = UrlHashing::secret(rt).ok()?;
+    calls(rt, name)?;
+    let made = Shard::hashed(rt.alloc(), 2, hashing);
+    answers(rt)?;
+    print_made(rt, made, &url)
+}
+
+// What a shard that was made answers first.
+fn print_made(rt: &HostRuntime, made: Result<Shard, NoMemory>, url: &PageUrl) -> Option<()> {
     match made {
-        Ok(mut shard) => print_begun(rt, &mut shard, &url, 0),
+        Ok(mut shard) => print_begun(rt, &mut shard, url, 0),
         Err(NoMemory) => out_of_memory(rt),
     }
 }

@@ -5,7 +5,7 @@ use allocation_tools::values::request;
 use edge_types::{NoMemory, PageBody, SharedBytes};
 use esi_scanner::{Kind, ScanFault, Token};
 use esi_tree::{Node, TreeFault};
-use esi_vars::{Part, Reference};
+use esi_vars::{Lookups, Part, Reference};
 use std::alloc::Global;
 use template_check::{Fault, Message, ReportFault, Told, Warned};
 
@@ -115,8 +115,9 @@ pub fn substitute(rt: &HostRuntime, name: &str) -> Option<()> {
 pub fn substitute_within(rt: &HostRuntime, name: &str) -> Option<()> {
     let request = request(rt.alloc())?;
     let parts = parts_of(rt.alloc())?;
+    let mut lookups = Lookups::none();
     calls(rt, name)?;
-    let made = esi_vars::substitute_within(rt.alloc(), &request, parts.as_slice(), 4);
+    let made = esi_vars::substitute_within(rt.alloc(), &request, parts.as_slice(), 4, &mut lookups);
     answers(rt)?;
     match &made {
         Ok(Some(text)) => bytes(rt, text.as_slice()),
@@ -133,8 +134,16 @@ pub fn push_values(rt: &HostRuntime, name: &str) -> Option<()> {
     request.cookie = SharedBytes::of(cookie).ok()?;
     let parts = parts_of(rt.alloc())?;
     let mut body = PageBody::new(rt.alloc());
+    let mut lookups = Lookups::none();
     calls(rt, name)?;
-    let put = esi_vars::push_values(rt.alloc(), &request, parts.as_slice(), &mut body, 400);
+    let put = esi_vars::push_values(
+        rt.alloc(),
+        &request,
+        parts.as_slice(),
+        &mut body,
+        400,
+        &mut lookups,
+    );
     answers(rt)?;
     match put {
         Ok(()) => print_lengths(rt, &body),

@@ -31,6 +31,7 @@ where
         "TableSource::fetch" => sources::fetch_from_table(rt, name, "/x"),
         "TableSource::fetch:failed" => sources::fetch_from_table(rt, name, "/none"),
         "Cache::new" => sources::new_cache(rt, name),
+        "Cache::hashed" => sources::hashed_cache(rt, name),
         "Cache::on_behalf" => sources::cache_on_behalf(rt, name),
         "Cache::fetch" => sources::fetch_through_cache(rt, name, "/x"),
         "Cache::fetch:failed" => sources::fetch_through_cache(rt, name, "/none"),

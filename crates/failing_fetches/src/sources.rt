@@ -3,12 +3,13 @@
 use allocation_tools::printing::{answers, bytes, calls, out_of_memory, word};
 use allocation_tools::values::{answer, processed, stored, url};
 use edge_types::{NoMemory, PageUrl, Table};
-use fetch_workers::{Cache, Clock as Seconds, Given, OnBehalf, Source, TableSource};
+use fetch_workers::{Cache, Clock as Seconds, Given, OnBehalf, Source, TableSource, UrlHashing};
 use hyper_edge::ServerRuntime;
 use hyper_source::{EdgeName, HyperSource, Origin};
 use std::alloc::{AllocGlobal, Global};
 use std::io::Print;
 use std::net::{Net, SocketAddr, TcpStream};
+use std::random::RandomSource;
 use std::sync::Wait;
 use std::sync::atomic::{AtomicBool, Ordering};
 use std::time::Duration;
@@ -114,7 +115,27 @@ pub fn new_cache<R: Wait + AllocGlobal + Print>(rt: &R, name: &str) -> Option<()
     calls(rt, name)?;
     let made = Cache::new(rt.alloc(), source, Still, CAPACITY);
     answers(rt)?;
-    match &made {
+    print_made(rt, &made)
+}
+
+pub fn hashed_cache<R>(rt: &R, name: &str) -> Option<()>
+where
+    R: Wait + AllocGlobal + RandomSource + Print,
+{
+    let source = TableSource::new(table(rt.alloc())?);
+    let hashing = UrlHashing::secret(rt).ok()?;
+    calls(rt, name)?;
+    let made = Cache::hashed(rt.alloc(), source, Still, CAPACITY, hashing);
+    answers(rt)?;
+    print_made(rt, &made)
+}
+
+// What a cache that was made answers first.
+fn print_made<R>(rt: &R, made: &Result<Cache<TableSource, Still>, NoMemory>) -> Option<()>
+where
+    R: Wait + AllocGlobal + Print,
+{
+    match made {
         Ok(cache) => print_again(rt, cache, "/x"),
         Err(NoMemory) => out_of_memory(rt),
     }

@@ -20,7 +20,7 @@ use Rattle.plan_runner.proofs.advance.Progress.TheSendSync as Progress
 use Rattle.plan_runner.proofs.page.Stage.TheSendSync as Stage
 use Rattle.plan_runner.specs.contracts.page.Page as page
 use Rattle.fetch_workers.proofs.desk.SetAside.TheSendSync as SetAside
-use Rattle.fetch_workers.proofs.shared_shard.SharedShard.TheSendSync as SharedShard
+use Rattle.fetch_workers.proofs.shards.Shards.TheSendSync as Shards
 use Rattle.fetch_workers.specs.contracts.desk.Desk as desk
 use Rattle.fetch_workers.specs.contracts.shared_desk.SharedDesk as shared_desk
 use Rattle.fetch_workers.specs.declared.source.Source.{Ghosts}
@@ -140,4 +140,4 @@ pub kept_plans_sync : IsSync kept_plans.the_row
 kept_plans_sync = search (plan_shelf_send, Crossing.crosses, sendable) depth 60 fits 20000
 
 -- for whoever shares a cache, beside what its source and its clock are
-pub ruleset caches_cross = (kept_plans_send, kept_plans_sync, SharedShard.the_send, SharedShard.the_sync, Crossing.crosses, sendable)
+pub ruleset caches_cross = (kept_plans_send, kept_plans_sync, Shards.the_send, Shards.the_sync, Crossing.crosses, sendable)

@@ -1,7 +1,11 @@
 -- Which shard of a cache keeps the answers of a URL.
-use Rattle.std.specs.Prelude.{ℕ, ◌%◌, List, sum}
+use Rattle.std.specs.Prelude.{ℕ, ◌%◌, ◌/◌, ◌^◌, List, sum}
+use Rattle.fragment_cache.specs.Hashing.{hash_of}
 use Rattle.fetch_workers.specs.declared.cache.TheConstants.{SHARDS}
+use Rattle.fetch_workers.specs.declared.placing.Placing.{Placing}
+use Rattle.fetch_workers.specs.declared.placing.Placing.TheVariants.{BySum, ByHash}
 
--- the sum of its bytes, modulo the number of shards
-abbrev pub shard_of : List ℕ → ℕ
-shard_of url = sum url % SHARDS
+-- the sum of its bytes, or the upper half of its hash, modulo the number of shards
+abbrev pub shard_of : Placing → List ℕ → ℕ
+shard_of BySum url = sum url % SHARDS
+shard_of (ByHash hashing) url = hash_of hashing url / 2 ^ 32 % SHARDS

@@ -1,9 +1,9 @@
 //! One cache shared by all pages.
 
-ghost use Rattle.std.specs.Prelude.{◌≡◌, ◌⊎◌, ◌↔◌, ◌≤◌, ◌<◌, IsTrue, IfOk, IfSome};
+ghost use Rattle.std.specs.Prelude.{◌≡◌, ◌⊎◌, ◌↔◌, ◌≤◌, IsTrue, IfOk, IfSome};
 ghost use Rattle.std.specs.Arc.{arc_value};
 ghost use Rattle.fetch_workers.specs.Circles.{IsForAll, says_circle};
-ghost use Rattle.fetch_workers.specs.Shards.{shard_of};
+ghost use Rattle.fetch_workers.specs.declared.placing.Placing.TheVariants.{BySum, ByHash};
 
 mod concurrent;
 
@@ -11,13 +11,14 @@ use crate::clock::Clock;
 use crate::given::{Given, Way};
 use crate::kept_plans::KeptPlans;
 use crate::on_behalf::OnBehalf;
+use crate::placing::Placing;
+use crate::shards::Shards;
 use crate::shared_shard::SharedShard;
 use crate::source::{Found, Source};
 use edge_types::{Answer, NoMemory, PageUrl, Reply};
-use fragment_cache::{Begun, Flight, MAX_CAPACITY};
+use fragment_cache::{Begun, Flight, MAX_CAPACITY, UrlHashing};
 use plan_compiler::Prepared;
 use std::alloc::Global;
-use std::array;
 use std::sync::{Arc, Wait};
 
 /// How many shards a cache has, each under a lock of its own.
@@ -34,23 +35,11 @@ pub struct Cache<S, C> {
     source: S,
     clock: C,
     // Shared with the caches over sources that are asked on behalf of requests that have passed other edges.
-    pub(crate) shards: Arc<[SharedShard; SHARDS]>,
+    pub(crate) shards: Arc<Shards>,
     // Shared in the same way.
     plans: Arc<KeptPlans>,
     // How many may wait for one flight, where that is bounded.
     most_waiting: Option<u32>,
-}
-
-// The shard of a URL.
-pub(crate) fn shard_of(url: &PageUrl) -> usize
-    ensures value { result ≡ shard_of url.now }
-    ensures few { result < SHARDS }
-{
-    let mut shard: usize = 0;
-    for byte in url.as_bytes() {
-        shard = (shard + usize::from(*byte)) % SHARDS;
-    }
-    shard
 }
 
 // The status of a request that goes in a circle (RFC 5842, "508 Loop Detected").
@@ -76,21 +65,55 @@ fn says_circle(reply: &Reply) -> bool
 
 impl<S: Drop, C: Drop> Cache<S, C> {
     /// A cache that is still empty, over a source and a clock; each of its `SHARDS` shards keeps at
-    /// most `capacity` answers, from 1 to `MAX_CAPACITY` of `fragment_cache`.
+    /// most `capacity` answers, from 1 to `MAX_CAPACITY` of `fragment_cache`. The sum of a URL's bytes picks its shard.
     ///
     /// Our profile.
     pub fn new(alloc: Global, source: S, clock: C, capacity: usize) -> Result<Cache<S, C>, NoMemory>
         requires from { 1 ≤ capacity }
         requires to { capacity ≤ MAX_CAPACITY }
+        ensures shards { IfOk result (λ cache. (arc_value cache.shards).placing ≡ BySum) }
+        ensures plans { IfOk result (λ cache. (arc_value cache.plans).placing ≡ BySum) }
     {
-        let shards: [SharedShard; SHARDS] = array::try_from_fn(|_| SharedShard::new(
-            alloc, capacity,
-        ))?;
+        Cache::placed(alloc, source, clock, capacity, Placing::BySum)
+    }
+
+    /// The same, but a URL's hash picks its shard, and its place there: with a secret, whoever chooses URLs can't have
+    /// them all in one shard, which they would empty.
+    ///
+    /// Our profile.
+    pub fn hashed(
+        alloc: Global,
+        source: S,
+        clock: C,
+        capacity: usize,
+        hashing: UrlHashing,
+    ) -> Result<Cache<S, C>, NoMemory>
+        requires from { 1 ≤ capacity }
+        requires to { capacity ≤ MAX_CAPACITY }
+        ensures shards { IfOk result (λ cache. (arc_value cache.shards).placing ≡ ByHash hashing) }
+        ensures plans { IfOk result (λ cache. (arc_value cache.plans).placing ≡ ByHash hashing) }
+    {
+        Cache::placed(alloc, source, clock, capacity, Placing::ByHash(hashing))
+    }
+
+    fn placed(
+        alloc: Global,
+        source: S,
+        clock: C,
+        capacity: usize,
+        placing: Placing,
+    ) -> Result<Cache<S, C>, NoMemory>
+        requires from { 1 ≤ capacity }
+        requires to { capacity ≤ MAX_CAPACITY }
+        ensures shards { IfOk result (λ cache. (arc_value cache.shards).placing ≡ placing) }
+        ensures plans { IfOk result (λ cache. (arc_value cache.plans).placing ≡ placing) }
+    {
+        let shards = Shards::new(alloc, capacity, placing)?;
         Ok(Cache {
             source,
             clock,
             shards: Arc::new(alloc, shards)?,
-            plans: Arc::new(alloc, KeptPlans::new(alloc, capacity)?)?,
+            plans: Arc::new(alloc, KeptPlans::new(alloc, capacity, placing)?)?,
             most_waiting: None,
         })
     }
@@ -177,7 +200,7 @@ impl<S, C> Cache<S, C> {
         C: Clock<R>,
         ensures { IfOk result (λ given. (arc_value given.answer).url ≡ url.now) }
     {
-        let shard = &self.shards[shard_of(url)];
+        let shard = self.shards.of(url);
         match shard.bridging(rt, url, self.clock.now(rt))? {
             Some(answer) => Ok(Given::new(answer, Way::Bridged)),
             None => Ok(Given::fetched(Arc::new(alloc, Answer::failed(url.share()?))?)),
@@ -221,7 +244,7 @@ impl<R: Wait, S: Source<R>, C: Clock<R>> Source<R> for Cache<S, C> {
     ghost names_url = { λ cache url answer named. named };
 
     fn fetch(&self, rt: &R, alloc: Global, url: &PageUrl) -> Result<Given, NoMemory> {
-        let shard = &self.shards[shard_of(url)];
+        let shard = self.shards.of(url);
         match shard.begin(rt, url, self.clock.now(rt), self.most_waiting) {
             None => self.crowded_out(rt, alloc, url),
             Some(Begun::Hit(answer)) => Ok(Given::new(answer, Way::Kept)),
@@ -232,11 +255,11 @@ impl<R: Wait, S: Source<R>, C: Clock<R>> Source<R> for Cache<S, C> {
     }
 
     fn ready(&self, rt: &R, _alloc: Global, url: &PageUrl) -> Found {
-        self.shards[shard_of(url)].look(rt, url, self.clock.now(rt))
+        self.shards.of(url).look(rt, url, self.clock.now(rt))
     }
 
     fn bridging(&self, rt: &R, _alloc: Global, url: &PageUrl) -> Found {
-        self.shards[shard_of(url)].bridging(rt, url, self.clock.now(rt))
+        self.shards.of(url).bridging(rt, url, self.clock.now(rt))
     }
 
     fn prepared(&self, rt: &R, alloc: Global, answer: Arc<Answer>) -> Result<Prepared, NoMemory> {

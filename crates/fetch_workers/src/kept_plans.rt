@@ -7,10 +7,11 @@ ghost use Rattle.std.specs.Map.{lookup};
 ghost use Rattle.std.specs.NonZero.{non_zero_usize_get};
 ghost use Rattle.lru.specs.LruCache.{lru_cache, promoted, put_entries};
 
-use crate::cache::{SHARDS, shard_of};
+use crate::cache::SHARDS;
+use crate::placing::Placing;
 use crate::same::same_answer;
 use edge_types::{Answer, NoMemory, PageUrl};
-use fragment_cache::is_to_be_stored;
+use fragment_cache::{UrlHashing, is_to_be_stored};
 use lru::LruCache;
 use plan_compiler::{Form, Plan, Prepared, Step};
 use std::alloc::Global;
@@ -26,16 +27,21 @@ const MAX_KEPT_PARTS: usize = 2048;
 // What is kept of the answers of a shard, that of the latest use first.
 #[derive(Drop)]
 struct PlanShelf {
-    plans: LruCache<PageUrl, Prepared>,
+    plans: LruCache<PageUrl, Prepared, UrlHashing>,
 }
 
 impl PlanShelf {
-    fn new(alloc: Global, capacity: NonZeroUsize) -> Result<PlanShelf, NoMemory>
+    // Empty, with no room reserved in the map.
+    fn new(
+        alloc: Global,
+        capacity: NonZeroUsize,
+        hashing: UrlHashing,
+    ) -> Result<PlanShelf, NoMemory>
         ensures { IfOk result (λ shelf. shelf.plans ≡ lru_cache [] (non_zero_usize_get capacity)) }
     {
-        Ok(PlanShelf {
-            plans: LruCache::sparse(alloc, capacity)?,
-        })
+        let mut plans = LruCache::unbounded_with_hasher(alloc, hashing)?;
+        plans.resize(capacity);
+        Ok(PlanShelf { plans })
     }
 
     // A second owner of what is kept for a URL, which becomes the newest.
@@ -67,6 +73,7 @@ impl PlanShelf {
 /// cost nothing to make ready or aren't asked for again. In each shard there are no more of them than of answers.
 #[derive(Drop)]
 pub(crate) struct KeptPlans {
+    placing: Placing,
     shelves: [Mutex<PlanShelf>; SHARDS],
 }
 
@@ -96,17 +103,28 @@ fn parts_of(plan: &Plan) -> usize {
 
 impl KeptPlans {
     /// Nothing is kept yet, and then of at most so many answers in each shard.
-    pub(crate) fn new(alloc: Global, capacity: usize) -> Result<KeptPlans, NoMemory>
+    pub(crate) fn new(
+        alloc: Global,
+        capacity: usize,
+        placing: Placing,
+    ) -> Result<KeptPlans, NoMemory>
         requires { 1 ≤ capacity }
+        ensures { IfOk result (λ plans. plans.placing ≡ placing) }
     {
         let capacity = match NonZeroUsize::new(capacity) {
             Some(capacity) => capacity,
             None => unreachable!(),
         };
+        let hashing = placing.hashing();
         let shelves: [Mutex<PlanShelf>; SHARDS] = array::try_from_fn(|_| empty_shelf(
-            alloc, capacity,
+            alloc, capacity, hashing,
         ))?;
-        Ok(KeptPlans { shelves })
+        Ok(KeptPlans { placing, shelves })
+    }
+
+    // Where what is made of the answers of a URL is kept.
+    fn shelf_of(&self, url: &PageUrl) -> &Mutex<PlanShelf> {
+        &self.shelves[self.placing.shard_of(url)]
     }
 
     /// The answer, made ready: what is kept of this very answer, or what is made of it now, and then kept where that is
@@ -147,9 +165,7 @@ impl KeptPlans {
     fn kept<R: Wait>(&self, rt: &R, answer: &Answer) -> Option<Prepared>
         ensures { IfSome result (λ kept. kept ≡ answer.now) }
     {
-        let found = self.shelves[shard_of(answer.url())]
-            .lock(rt)
-            .find(answer.url());
+        let found = self.shelf_of(answer.url()).lock(rt).find(answer.url());
         match found {
             Ok(Some(kept)) if same_answer(kept.answer(), answer) => Some(kept),
             _ => None,
@@ -159,13 +175,15 @@ impl KeptPlans {
     // Keeps this for its URL, in place of what was kept for it. What it pushes out is dropped once the lock is left.
     fn keep<R: Wait>(&self, rt: &R, prepared: &Prepared) -> Result<(), NoMemory> {
         let (url, own) = (prepared.url().share()?, prepared.share()?);
-        let _pushed_out = self.shelves[shard_of(prepared.url())]
-            .lock(rt)
-            .put(url, own)?;
+        let _pushed_out = self.shelf_of(prepared.url()).lock(rt).put(url, own)?;
         Ok(())
     }
 }
 
-fn empty_shelf(alloc: Global, capacity: NonZeroUsize) -> Result<Mutex<PlanShelf>, NoMemory> {
-    Ok(Mutex::new(PlanShelf::new(alloc, capacity)?))
+fn empty_shelf(
+    alloc: Global,
+    capacity: NonZeroUsize,
+    hashing: UrlHashing,
+) -> Result<Mutex<PlanShelf>, NoMemory> {
+    Ok(Mutex::new(PlanShelf::new(alloc, capacity, hashing)?))
 }

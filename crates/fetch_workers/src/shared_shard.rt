@@ -13,7 +13,7 @@ use crate::given::{Given, Way};
 use crate::source::Found;
 use crate::tally::CacheTally;
 use edge_types::{Answer, NoMemory, PageUrl};
-use fragment_cache::{Begun, Flight, MAX_CAPACITY, Picked, Shard, is_failing};
+use fragment_cache::{Begun, Flight, MAX_CAPACITY, Picked, Shard, UrlHashing, is_failing};
 use std::alloc::Global;
 use std::collections::BTreeMap;
 use std::sync::{Arc, Condvar, Mutex, MutexGuard, Wait};
@@ -134,13 +134,17 @@ impl Shelf {
 impl SharedShard {
     ghost use Rattle.std.specs.Prelude.{◌≤◌};
 
-    pub(crate) fn new(alloc: Global, capacity: usize) -> Result<SharedShard, NoMemory>
+    pub(crate) fn new(
+        alloc: Global,
+        capacity: usize,
+        hashing: UrlHashing,
+    ) -> Result<SharedShard, NoMemory>
         requires from { 1 ≤ capacity }
         requires to { capacity ≤ MAX_CAPACITY }
     {
         Ok(SharedShard {
             shelf: Mutex::new(Shelf {
-                shard: Shard::new(alloc, capacity)?,
+                shard: Shard::hashed(alloc, capacity, hashing)?,
                 asked: CacheTally::new(),
                 left: BTreeMap::new(alloc),
                 bells: BTreeMap::new(alloc),

@@ -1,6 +1,6 @@
 //! What the operator of a cache asks of it.
 
-use crate::cache::{Cache, shard_of};
+use crate::cache::Cache;
 use crate::tally::CacheTally;
 use edge_types::{NoMemory, PageUrl};
 use std::sync::Wait;
@@ -11,7 +11,7 @@ impl<S, C> Cache<S, C> {
     ///
     /// Our profile.
     pub fn purge<R: Wait>(&self, rt: &R, url: &PageUrl) -> bool {
-        self.shards[shard_of(url)].purge(rt, url)
+        self.shards.of(url).purge(rt, url)
     }
 
     /// Forgets the answers of all URLs that begin with these bytes, as `purge` does that of one. Returns how many there
@@ -22,7 +22,7 @@ impl<S, C> Cache<S, C> {
     /// Our profile.
     pub fn purge_prefix<R: Wait>(&self, rt: &R, prefix: &[u8]) -> Result<usize, NoMemory> {
         let mut count: usize = 0;
-        for shard in self.shards.iter() {
+        for shard in self.shards.all.iter() {
             count = count.saturating_add(shard.purge_prefix(rt, prefix)?);
         }
         Ok(count)
@@ -33,7 +33,7 @@ impl<S, C> Cache<S, C> {
     /// Our profile.
     pub fn tally<R: Wait>(&self, rt: &R) -> CacheTally {
         let mut tally = CacheTally::new();
-        for shard in self.shards.iter() {
+        for shard in self.shards.all.iter() {
             tally = tally.plus(shard.tally(rt));
         }
         tally

@@ -1,3 +1,4 @@
+pub mod Hashing
 pub mod Index
 pub mod Law
 pub mod Machine

@@ -8,6 +8,7 @@ ghost use Rattle.std.specs.Map.{keys_of};
 ghost use Rattle.fragment_cache.specs.Machine.{begins, bytes_of};
 ghost use Rattle.fragment_cache.specs.Times.{expiry_of};
 
+use crate::hashing::UrlHashing;
 use crate::times::{expiry, extension};
 use edge_types::{Answer, NoMemory, PageUrl, Reply, SharedAnswer};
 use lru::LruCache;
@@ -53,10 +54,12 @@ impl Stored {
     }
 }
 
+type StoredByUrl = LruCache<PageUrl, Stored, UrlHashing>;
+
 // The stored answers.
 #[derive(Drop)]
 pub(crate) struct Entries {
-    cache: LruCache<PageUrl, Stored>,
+    cache: StoredByUrl,
 }
 
 impl Model for Entries {
@@ -71,14 +74,14 @@ impl Model for Entries {
 }
 
 // States what `len` promises of the cache: its URLs are distinct, and no more than its capacity.
-fn check(cache: &LruCache<PageUrl, Stored>)
+fn check(cache: &StoredByUrl)
     ensures { IsValid bytes_eq cache.now }
 {
     let _ = cache.len();
 }
 
 // Whether the URL's entry is the newest.
-fn is_newest(cache: &LruCache<PageUrl, Stored>, url: &PageUrl) -> bool
+fn is_newest(cache: &StoredByUrl, url: &PageUrl) -> bool
     ensures { IsTrue result → promoted (bytes_eq url.now) cache.now.entries ≡ cache.now.entries }
 {
     match cache.peek_mru() {
@@ -88,7 +91,7 @@ fn is_newest(cache: &LruCache<PageUrl, Stored>, url: &PageUrl) -> bool
 }
 
 // Makes the URL's entry the newest. Nothing is looked up where it is.
-fn make_newest(cache: &mut LruCache<PageUrl, Stored>, url: &PageUrl)
+fn make_newest(cache: &mut StoredByUrl, url: &PageUrl)
     ensures { cache.new ≡ lru_cache (promoted (bytes_eq url.now) cache.old.entries) cache.old.cap }
 {
     if !is_newest(cache, url) {
@@ -97,11 +100,7 @@ fn make_newest(cache: &mut LruCache<PageUrl, Stored>, url: &PageUrl)
 }
 
 // The URLs of the entries that begin so.
-fn begun_by(
-    alloc: Global,
-    cache: &LruCache<PageUrl, Stored>,
-    prefix: &[u8],
-) -> Result<Vec<PageUrl>, NoMemory>
+fn begun_by(alloc: Global, cache: &StoredByUrl, prefix: &[u8]) -> Result<Vec<PageUrl>, NoMemory>
     ensures { IfOk result (λ urls. urls.items ≡ filter (begins prefix.now) (keys_of cache.now.entries)) }
 {
     let mut urls = Vec::new(alloc);
@@ -114,7 +113,7 @@ fn begun_by(
 }
 
 // How many bytes the bodies of the entries have together.
-fn bytes_in(cache: &LruCache<PageUrl, Stored>) -> u64
+fn bytes_in(cache: &StoredByUrl) -> u64
     ensures { result ≡ bytes_of cache.now.entries }
 {
     let mut bytes: u64 = 0;
@@ -128,10 +127,14 @@ impl Entries {
     ghost use Rattle.fragment_cache.specs.Machine.{entry_of, others, left, is_among, begins, bytes_of, used, stored, fresh, bridging};
     ghost use Rattle.fragment_cache.specs.Sound.{AreEntries};
 
-    pub(crate) fn new(alloc: Global, capacity: NonZeroUsize) -> Result<Entries, NoMemory>
+    pub(crate) fn new(
+        alloc: Global,
+        capacity: NonZeroUsize,
+        hashing: UrlHashing,
+    ) -> Result<Entries, NoMemory>
         ensures { IfOk result (λ s. s ≡ record { entries = []; capacity = non_zero_usize_get capacity }) }
     {
-        let cache = LruCache::new(alloc, capacity)?;
+        let cache = LruCache::with_hasher(alloc, capacity, hashing)?;
         check(&cache);
         Ok(Entries { cache })
     }

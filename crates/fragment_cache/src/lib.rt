@@ -4,6 +4,7 @@
 
 mod entries;
 mod flights;
+mod hashing;
 mod kept;
 mod kept_flights;
 pub mod laws;
@@ -11,6 +12,7 @@ mod shard;
 mod times;
 
 pub use flights::{Flight, MAX_FLIGHTS, Picked};
+pub use hashing::UrlHashing;
 pub use kept::MAX_PICKS;
 pub use shard::{Begun, MAX_CAPACITY, Shard};
 pub use times::{is_failing, is_to_be_stored};

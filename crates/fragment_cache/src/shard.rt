@@ -3,6 +3,7 @@
 
 use crate::entries::Entries;
 use crate::flights::{Flight, Flights, Picked};
+use crate::hashing::UrlHashing;
 use crate::times::is_failing;
 use edge_types::{Answer, NoMemory, PageUrl, SharedAnswer};
 use std::alloc::Global;
@@ -59,10 +60,21 @@ impl Shard {
     ghost use Rattle.fragment_cache.specs.Shown.{begun_answer, picked_answer};
     ghost use Rattle.fragment_cache.specs.Sound.{IsSound, NamesUrl};
 
-    /// An empty shard for at most this many entries.
+    /// An empty shard for at most this many entries, whose map hashes URLs in the fixed way.
     ///
     /// Our profile.
     pub fn new(alloc: Global, capacity: usize) -> Result<Shard, NoMemory>
+        requires from { 1 ≤ capacity }
+        requires to { capacity ≤ MAX_CAPACITY }
+        ensures { IfOk result (λ s. s ≡ empty capacity) }
+    {
+        Shard::hashed(alloc, capacity, UrlHashing::fixed())
+    }
+
+    /// An empty shard for at most this many entries, whose map hashes URLs so: only how long look-ups take differs.
+    ///
+    /// Our profile.
+    pub fn hashed(alloc: Global, capacity: usize, hashing: UrlHashing) -> Result<Shard, NoMemory>
         requires from { 1 ≤ capacity }
         requires to { capacity ≤ MAX_CAPACITY }
         ensures { IfOk result (λ s. s ≡ empty capacity) }
@@ -72,7 +84,7 @@ impl Shard {
             None => unreachable!(),
         };
         Ok(Shard {
-            entries: Entries::new(alloc, capacity)?,
+            entries: Entries::new(alloc, capacity, hashing)?,
             flights: Flights::new(alloc),
             alloc,
         })

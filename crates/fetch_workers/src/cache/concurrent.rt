@@ -5,7 +5,7 @@ ghost use Rattle.std.specs.Arc.{arc_value};
 ghost use Rattle.fetch_workers.specs.Circles.{IfLanded, IsForAll};
 
 use crate::bell::Bell;
-use crate::cache::{Cache, is_for_all, shard_of};
+use crate::cache::{Cache, is_for_all};
 use crate::cache_flights::{CacheFlights, Joined, Led};
 use crate::clock::Clock;
 use crate::concurrent_source::{Awaited, ConcurrentSource};
@@ -63,7 +63,7 @@ impl<S, C> Cache<S, C> {
         C: Clock<R>,
     {
         let (flight, ready) = led.into_parts();
-        let shard = &self.shards[shard_of(flight.url())];
+        let shard = self.shards.of(flight.url());
         shard.land(rt, flight, ready, self.clock.now(rt))
     }
 
@@ -83,7 +83,7 @@ impl<S, C> Cache<S, C> {
             return given;
         };
         let (flight, _) = led.into_parts();
-        let shard = &self.shards[shard_of(given.answer.url())];
+        let shard = self.shards.of(given.answer.url());
         self.land(rt, alloc, shard, flight, given.into_answer())
     }
 
@@ -127,7 +127,7 @@ impl<S, C> Cache<S, C> {
         S: ConcurrentSource<R>,
         ensures { IfOk result (λ look. IfLanded look (λ given. IsForAll joined.url (arc_value given.answer))) }
     {
-        match self.shards[shard_of(&joined.url)].pick(rt, joined.number) {
+        match self.shards.of(&joined.url).pick(rt, joined.number) {
             Picked::Here(answer) if is_for_all(&answer, &joined.url) => {
                 Ok(Look::Landed(Given::new(answer, Way::Joined)))
             }
@@ -161,7 +161,7 @@ impl<S, C> Cache<S, C> {
         };
         for joined in in_flight.joined.iter_mut() {
             if !joined.has_bell {
-                let shard = &self.shards[shard_of(&joined.url)];
+                let shard = self.shards.of(&joined.url);
                 shard.ring_once_landed(rt, alloc, joined, bell.share()?)?;
                 joined.has_bell = true;
             }
@@ -178,7 +178,7 @@ impl<S, C> Cache<S, C> {
             let Some(joined) = in_flight.joined.pop_front() else {
                 return;
             };
-            self.shards[shard_of(&joined.url)].leave(rt, joined.number);
+            self.shards.of(&joined.url).leave(rt, joined.number);
         }
         unreachable!()
     }
@@ -193,7 +193,7 @@ impl<S, C> Cache<S, C> {
             let Some(led) = in_flight.take_led_at(place) else {
                 return;
             };
-            let shard = &self.shards[shard_of(led.flight.url())];
+            let shard = self.shards.of(led.flight.url());
             let Some(led) = shard.land_unless_awaited(rt, led, self.clock.now(rt)) else {
                 continue;
             };
@@ -241,7 +241,7 @@ where
     ) -> Result<(), NoMemory> {
         in_flight.reserve()?;
         let own = url.share()?;
-        let shard = &self.shards[shard_of(url)];
+        let shard = self.shards.of(url);
         match shard.begin(rt, url, self.clock.now(rt), self.most_waiting) {
             None => Ok(in_flight.here.push(self.crowded_out(rt, alloc, url)?)?),
             Some(Begun::Hit(answer)) => { Ok(in_flight.here.push(Given::new(answer, Way::Kept))?) }
@@ -305,7 +305,7 @@ where
             return self.source.wait(rt, alloc, &mut in_flight.fetches, most);
         }
         if let Some(joined) = in_flight.joined.front() {
-            self.shards[shard_of(&joined.url)].wait_for(rt, joined, most);
+            self.shards.of(&joined.url).wait_for(rt, joined, most);
         }
         Ok(())
     }

@@ -1,16 +1,19 @@
 //! A source under a cache whose clock is set by hand.
 
+ghost use Rattle.std.specs.Prelude.{◌≤◌};
+
 use super::{Origin, push_outcome, source_of, url};
 use edge_types::{Answer, NoMemory, PageUrl, Request};
-use fetch_workers::{Cache, Clock, Given, OnBehalf, Source, TableSource, assemble};
+use fetch_workers::{Cache, Clock, Given, OnBehalf, Source, TableSource, UrlHashing, assemble};
 use std::alloc::Global;
 use std::fmt::Write;
 use std::process::Abort;
+use std::random::RandomSource;
 use std::sync::Wait;
 use std::sync::atomic::{AtomicU64, Ordering};
 use std::test::Fail;
-use std::thread;
 use std::thread::Threads;
+use std::{io, thread};
 
 #[derive(Clone, Copy)]
 struct Hands<'a>(&'a AtomicU64);
@@ -18,6 +21,44 @@ struct Hands<'a>(&'a AtomicU64);
 impl<R> Clock<R> for Hands<'_> {
     fn now(&self, _rt: &R) -> u64 {
         self.0.load(Ordering::SeqCst)
+    }
+}
+
+// Bytes that are the same in each run.
+struct SameBytes;
+
+impl RandomSource for SameBytes {
+    fn fill_bytes(&self, buf: &mut [u8]) -> io::Result<()> {
+        buf.fill(b'7');
+        Ok(())
+    }
+}
+
+// An origin that always answers, and counts how often.
+fn lasting(table: TableSource, fetches: &AtomicU64) -> Origin<'_> {
+    Origin {
+        table,
+        fetches,
+        refused: u64::MAX,
+        round: u64::MAX,
+        ends: u64::MAX,
+    }
+}
+
+// A cache over an origin, in which a URL's hash picks its shard, else the sum of its bytes.
+fn cache_of<'a>(
+    alloc: Global,
+    origin: Origin<'a>,
+    seconds: &'a AtomicU64,
+    capacity: usize,
+    hashing: Option<UrlHashing>,
+) -> Result<Cache<Origin<'a>, Hands<'a>>, NoMemory>
+    requires from { 1 ≤ capacity }
+    requires to { capacity ≤ 1024 }
+{
+    match hashing {
+        Some(hashing) => Cache::hashed(alloc, origin, Hands(seconds), capacity, hashing),
+        None => Cache::new(alloc, origin, Hands(seconds), capacity),
     }
 }
 
@@ -78,19 +119,25 @@ fn given_for<R: Abort, S: Source<R>>(rt: &R, alloc: Global, source: &S, step: &s
 }
 
 // How many answers each of the eight shards keeps; which fetch runs out of memory; from which on the origin has
-// nothing; the case; the steps; and what is given, and how many times the origin was asked. The last bytes of
-// `/0` and `/8` put these into one shard.
+// nothing; the case; the steps; and what is given, and how many times the origin was asked.
 const ROWS: &str = "8|99|99|/x 200 60 1|/x /x|11 1
 8|99|99|/x 200 60 1|/x +59 /x +1 /x|111 2
 8|99|99|/x 200 60 1|?/x /x ?/x +59 ?/x +1 ?/x|.111. 1
-1|99|99|/0 200 60 0;/1 200 60 1;/8 200 60 8|/0 /8 /0|080 3
-1|99|99|/0 200 60 0;/1 200 60 1;/8 200 60 8|/0 /1 /0|010 2
 8|99|99|/x 404 60 1|/x /x|11 2
 8|99|99|/x failed|/x /x|-- 2
 8|99|1|/x 200 1+60 1|/x +2 /x +59 /x|11- 3
 8|0|99|/x 200 60 1|/x /x /x|?11 2";
 
-fn row_holds<R: Wait + Abort>(rt: &R, alloc: Global, row: &str) -> Result<(), NoMemory> {
+// Where the sum of a URL's bytes picks its shard: the last bytes of `/0` and `/8` put these into one.
+const ROWS_BY_SUM: &str = "1|99|99|/0 200 60 0;/1 200 60 1;/8 200 60 8|/0 /8 /0|080 3
+1|99|99|/0 200 60 0;/1 200 60 1;/8 200 60 8|/0 /1 /0|010 2";
+
+fn row_holds<R: Wait + Abort>(
+    rt: &R,
+    alloc: Global,
+    row: &str,
+    hashing: Option<UrlHashing>,
+) -> Result<(), NoMemory> {
     let mut words = row.split('|');
     let capacity = words.next().unwrap_or("").parse::<usize>().unwrap_or(0);
     let refused = words.next().unwrap_or("").parse::<u64>().unwrap_or(0);
@@ -109,7 +156,7 @@ fn row_holds<R: Wait + Abort>(rt: &R, alloc: Global, row: &str) -> Result<(), No
         round: u64::MAX,
         ends,
     };
-    let cache = Cache::new(alloc, origin, Hands(&seconds), capacity)?;
+    let cache = cache_of(alloc, origin, &seconds, capacity, hashing)?;
     let mut out = given(rt, alloc, &cache, &seconds, steps)?;
     write!(out, " {}", fetches.load(Ordering::SeqCst))?;
     assert!(rt; out.as_str() == wanted, "{row} {out}");
@@ -118,9 +165,60 @@ fn row_holds<R: Wait + Abort>(rt: &R, alloc: Global, row: &str) -> Result<(), No
 
 #[test]
 fn answers_are_kept_and_bridged(rt: HostRuntime) -> Result<(), Fail> {
+    let hashing = UrlHashing::secret(&SameBytes).ok();
+    assert!(rt; hashing.is_some());
     for row in ROWS.lines() {
-        row_holds(&rt, rt.alloc(), row)?;
+        row_holds(&rt, rt.alloc(), row, None)?;
+        row_holds(&rt, rt.alloc(), row, hashing)?;
     }
+    for row in ROWS_BY_SUM.lines() {
+        row_holds(&rt, rt.alloc(), row, None)?;
+    }
+    Ok(())
+}
+
+// One of 64 paths whose bytes have one sum.
+fn path_of_one_sum(alloc: Global, number: u8) -> Result<String, NoMemory> {
+    let (one, other) = (number / 8, number % 8);
+    let mut path = String::new(alloc);
+    path.push('/')?;
+    for byte in [
+        b'a'.wrapping_add(one),
+        b'h'.wrapping_sub(one),
+        b'a'.wrapping_add(other),
+        b'h'.wrapping_sub(other),
+    ] {
+        path.push(char::from(byte))?;
+    }
+    Ok(path)
+}
+
+// How many answers are kept of those paths, where each of the eight shards keeps one.
+fn kept_of_one_sum<R: Wait + Abort>(
+    rt: &R,
+    alloc: Global,
+    hashing: Option<UrlHashing>,
+) -> Result<u64, NoMemory> {
+    let mut case = String::new(alloc);
+    for number in 0..64u8 {
+        case.push_str(path_of_one_sum(alloc, number)?.as_str())?;
+        case.push_str(" 200 60 1;")?;
+    }
+    let (fetches, seconds) = (AtomicU64::new(0), AtomicU64::new(100));
+    let table = source_of(rt, alloc, case.as_str().trim_end_matches(';'))?;
+    let cache = cache_of(alloc, lasting(table, &fetches), &seconds, 1, hashing)?;
+    for number in 0..64u8 {
+        let given = ask(rt, alloc, &cache, path_of_one_sum(alloc, number)?.as_str());
+        assert!(rt; given == b'1', "{number}");
+    }
+    Ok(cache.tally(rt).entries)
+}
+
+#[test]
+fn a_secret_spreads_urls_of_one_sum(rt: HostRuntime) -> Result<(), Fail> {
+    let hashing = UrlHashing::secret(&SameBytes).ok();
+    assert!(rt; kept_of_one_sum(&rt, rt.alloc(), None)? == 1);
+    assert!(rt; kept_of_one_sum(&rt, rt.alloc(), hashing)? == 8);
     Ok(())
 }
 
@@ -129,14 +227,8 @@ fn answers_are_kept_and_bridged(rt: HostRuntime) -> Result<(), Fail> {
 fn what_is_purged_is_fetched_anew(rt: HostRuntime) -> Result<(), Fail> {
     let alloc = rt.alloc();
     let (fetches, seconds) = (AtomicU64::new(0), AtomicU64::new(100));
-    let origin = Origin {
-        table: source_of(&rt, alloc, "/a/x 200 60 1;/a/y 200 60 2;/b 200 60 3")?,
-        fetches: &fetches,
-        refused: u64::MAX,
-        round: u64::MAX,
-        ends: u64::MAX,
-    };
-    let cache = Cache::new(alloc, origin, Hands(&seconds), 8)?;
+    let table = source_of(&rt, alloc, "/a/x 200 60 1;/a/y 200 60 2;/b 200 60 3")?;
+    let cache = Cache::new(alloc, lasting(table, &fetches), Hands(&seconds), 8)?;
     let b = url(&rt, alloc, "/b")?;
     let at_first = given(&rt, alloc, &cache, &seconds, "/a/x /a/y /b /b")?;
     assert!(rt; at_first.as_str() == "1233", "{at_first}");
@@ -170,14 +262,8 @@ fn as_many_answers_are_kept_as_may_be(rt: HostRuntime) -> Result<(), Fail> {
         write!(case, "/{i} 200 60 {i};")?;
     }
     let (fetches, seconds) = (AtomicU64::new(0), AtomicU64::new(100));
-    let origin = Origin {
-        table: source_of(&rt, rt.alloc(), case.as_str().trim_end_matches(';'))?,
-        fetches: &fetches,
-        refused: u64::MAX,
-        round: u64::MAX,
-        ends: u64::MAX,
-    };
-    let cache = Cache::new(rt.alloc(), origin, Hands(&seconds), 1024)?;
+    let table = source_of(&rt, rt.alloc(), case.as_str().trim_end_matches(';'))?;
+    let cache = Cache::new(rt.alloc(), lasting(table, &fetches), Hands(&seconds), 1024)?;
     for i in 0..2000u32 {
         let path = format!(in rt.alloc(); "/{}", i % 1000)?;
         let first = ask(&rt, rt.alloc(), &cache, path.as_str());
