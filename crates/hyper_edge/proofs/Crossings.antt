@@ -20,12 +20,12 @@ use Rattle.fetch_workers.proofs.owed_fetches.OwedFetches.TheSendSync as OwedFetc
 use Rattle.fetch_workers.specs.contracts.owed_fetches.OwedFetches as owed_fetches
 use Rattle.hyper_edge.proofs.parking.ParkingPlace.TheSendSync as ParkingPlace
 use Rattle.hyper_edge.proofs.parking.Waiting.TheSendSync as Waiting
-use Rattle.hyper_edge.proofs.serving.Requested.TheSendSync as Requested
+use Rattle.hyper_edge.proofs.turn.Requested.TheSendSync as Requested
 use Rattle.hyper_edge.proofs.serving.Serving.TheSendSync as Serving
 use Rattle.hyper_edge.proofs.shared_roster.SharedRoster.TheSendSync as SharedRoster
 use Rattle.hyper_edge.specs.contracts.parking.Waiting as waiting
 use Rattle.hyper_edge.specs.contracts.server.Server as server
-use Rattle.hyper_edge.specs.contracts.serving.PageAsked as page_asked
+use Rattle.hyper_edge.specs.contracts.turn.PageAsked as page_asked
 use Rattle.hyper_edge.specs.contracts.serving.Session as session
 
 page_asked_send : (R S F G : RattleType) (source : Ghosts (WithinTime S.Denot) R.Denot) → IsSend R → IsSend (within_time.the_row S) → IsSend G → IsSend (page_asked.the_row R S F G source)

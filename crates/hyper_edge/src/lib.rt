@@ -28,6 +28,7 @@ mod signals;
 mod sockets;
 mod staff;
 mod threads;
+mod turn;
 
 pub use accept::{Accept, AcceptFault};
 pub use access_log::RequestRecord;

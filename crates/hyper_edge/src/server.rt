@@ -10,9 +10,10 @@ use crate::page_time::WithinTime;
 use crate::parking::{ParkingPlace, Waiting};
 use crate::roster::{Admission, AfterFailure, Capacity, Roster, ServeEnd, Work};
 use crate::runtime::ServerRuntime;
-use crate::serving::{Owed, Serving, Session};
-use crate::shared_roster::SharedRoster;
+use crate::serving::{Served, Serving, Session};
+use crate::shared_roster::{SharedRoster, Wanted};
 use crate::signals::Pause;
+use crate::turn::Owed;
 use fetch_workers::{ConcurrentSource, OnBehalf};
 use futures::Future;
 use std::sync::{Arc, Wait};
@@ -66,9 +67,36 @@ where
         self.roster.end(self.serving.rt)
     }
 
-    /// What one thread does again and again: it tells the journal that a moment has passed, and that nobody is accepted any
-    /// longer where that is so, and stops the server if that is asked for.
-    pub(crate) fn tick(&self) {
+    /// Waits until one more thread is wanted, and says for what; `None` once none ever will be. Does some of the work for
+    /// which no thread can be started, in small steps, since it also looks for a stop.
+    pub(crate) fn wait_for_work<M>(
+        &self,
+        opens: &M,
+        executor: &mut Option<Executor>,
+    ) -> Option<Work>
+    where
+        M: Fn(A::Io, Arc<Handover>) -> F,
+        requires callable { M.IsAlwaysCallable opens.now }
+        requires opened { GivesPollable (M.post opens.now) F.can_poll }
+    {
+        let rt = self.serving.rt;
+        for _ in rt.forever() {
+            match self.roster.wait_for_wanted(rt) {
+                Wanted::Thread(work) => return Some(work),
+                Wanted::Hands => {
+                    self.tick();
+                    self.stand_in(opens, executor);
+                }
+                Wanted::Nothing => self.tick(),
+                Wanted::Nobody => return None,
+            }
+        }
+        unreachable!()
+    }
+
+    // What one thread does again and again: it tells the journal that a moment has passed, and that nobody is accepted any
+    // longer where that is so, and stops the server if that is asked for.
+    fn tick(&self) {
         let rt = self.serving.rt;
         self.serving.journal.tick(rt);
         self.look_for_stop();
@@ -99,9 +127,19 @@ where
         }
     }
 
-    /// What one thread does: it accepts and serves as long as there are accepts left to make. Without an executor it
-    /// counts as not started.
-    pub(crate) fn accept_all<M: Fn(A::Io, Arc<Handover>) -> F>(&self, opens: &M)
+    /// What one thread does that is started for this work.
+    pub(crate) fn work<M: Fn(A::Io, Arc<Handover>) -> F>(&self, work: Work, opens: &M)
+        requires callable { M.IsAlwaysCallable opens.now }
+        requires opened { GivesPollable (M.post opens.now) F.can_poll }
+    {
+        match work {
+            Work::Accepting => self.accept_all(opens),
+            Work::Resuming => self.resume_all(),
+        }
+    }
+
+    // Accepts and serves as long as there are accepts left to make. Without an executor it counts as not started.
+    fn accept_all<M: Fn(A::Io, Arc<Handover>) -> F>(&self, opens: &M)
         requires callable { M.IsAlwaysCallable opens.now }
         requires opened { GivesPollable (M.post opens.now) F.can_poll }
     {
@@ -117,9 +155,8 @@ where
         }
     }
 
-    /// What one thread does: it goes on with connections that were parked, until each has ended. Without an executor it
-    /// counts as not started.
-    pub(crate) fn resume_all(&self) {
+    // Goes on with connections that were parked, until each has ended. Without an executor it counts as not started.
+    fn resume_all(&self) {
         let rt = self.serving.rt;
         let Ok(mut executor) = Executor::new(rt) else {
             self.roster.not_started(rt, Work::Resuming);
@@ -133,10 +170,10 @@ where
         }
     }
 
-    /// What whoever starts threads does of the work for which there are none: it accepts and serves one connection, and
-    /// goes on with one that was parked. Waits for either for a moment only, so that its caller may do something else, and
-    /// where it has no executor, for the next try to make one.
-    pub(crate) fn stand_in<M>(&self, opens: &M, executor: &mut Option<Executor>)
+    // What whoever starts threads does of the work for which there are none: it accepts and serves one connection, and
+    // goes on with one that was parked. Waits for either for a moment only, so that its caller may do something else, and
+    // where it has no executor, for the next try to make one.
+    fn stand_in<M>(&self, opens: &M, executor: &mut Option<Executor>)
     where
         M: Fn(A::Io, Arc<Handover>) -> F,
         requires callable { M.IsAlwaysCallable opens.now }
@@ -268,13 +305,12 @@ where
     // Serves a connection by a thread that does this work, until it has ended or is parked. Without room for that, it ends.
     // Once it was parked, no thread waits for its fetches: they have taken long before.
     fn go_on(&self, session: Session<F, R, S>, executor: &mut Executor, work: Work) {
-        let rt = self.serving.rt;
-        let mut owed = Vec::new(rt.alloc());
-        let may_linger = || work == Work::Accepting && self.roster.may_linger(rt);
-        match self
-            .serving
-            .serve(session, executor, &may_linger, &mut owed)
-        {
+        let roster = match work {
+            Work::Accepting => Some(&self.roster),
+            Work::Resuming => None,
+        };
+        let Served { left, owed } = self.serving.serve(session, executor, roster);
+        match left {
             Some((session, pause)) => self.park_connection(session, pause),
             None => self.ended(),
         }

@@ -6,12 +6,11 @@ use crate::accept::Accept;
 use crate::connection::http_of;
 use crate::handover::{Handover, HandsOver};
 use crate::journal::Journal;
-use crate::roster::{Capacity, ServeEnd, Work};
+use crate::roster::{Capacity, ServeEnd};
 use crate::runtime::ServerRuntime;
 use crate::server::Server;
 use crate::service::EdgeService;
 use crate::serving::Serving;
-use crate::shared_roster::Wanted;
 use fetch_workers::{ConcurrentSource, OnBehalf};
 use futures::Future;
 use std::sync::Arc;
@@ -105,8 +104,7 @@ where
     server.end()
 }
 
-// Starts threads as they are wanted, and joins them. Does some of the work for which none can be started, in small steps,
-// since it also looks for a stop.
+// Starts threads as they are wanted, and joins them.
 fn start_all<R, A, S, J, F, M>(rt: &R, server: &Server<'_, R, A, S, J, F>, opens: &M)
 where
     R: ServerRuntime + Send + Sync,
@@ -128,31 +126,16 @@ where
         {
             let mut executor = None;
             for _ in rt.forever() {
-                let work = match server.roster.wait_for_wanted(rt) {
-                    Wanted::Thread(work) => work,
-                    Wanted::Hands => {
-                        server.tick();
-                        server.stand_in(opens, &mut executor);
-                        continue;
-                    }
-                    Wanted::Nothing => {
-                        server.tick();
-                        continue;
-                    }
-                    Wanted::Nobody => return,
+                let Some(work) = server.wait_for_work(opens, &mut executor) else {
+                    return;
                 };
-                let started = match work {
-                    Work::Accepting => scope
-                        .spawn(
-                            move ||
-                                requires callable { M.IsAlwaysCallable opens.now }
-                                requires opened { GivesPollable (M.post opens.now) F.can_poll }
-                            { server.accept_all(opens) },
-                        )
-                        .is_ok(),
-                    Work::Resuming => scope.spawn(move || server.resume_all()).is_ok(),
-                };
-                if !started {
+                let started = scope.spawn(
+                    move ||
+                        requires callable { M.IsAlwaysCallable opens.now }
+                        requires opened { GivesPollable (M.post opens.now) F.can_poll }
+                    { server.work(work, opens) },
+                );
+                if started.is_err() {
                     server.roster.not_started(rt, work);
                 }
             }

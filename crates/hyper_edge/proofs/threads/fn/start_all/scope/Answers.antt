@@ -16,12 +16,14 @@ use Rattle.hyper_edge.proofs.page_time.WithinTime.TheSendSync as WithinTime
 use Rattle.hyper_edge.specs.contracts.page_time.FlightsInTime as flights_in_time
 use Rattle.hyper_edge.specs.contracts.page_time.WithinTime as within_time
 use Rattle.hyper_edge.specs.contracts.page_time.WithinTimeSource.TheImpl as in_time
+use Rattle.hyper_edge.proofs.roster.Work.TheSendSync as Work
+use Rattle.hyper_edge.specs.contracts.roster.Work as work
 use Rattle.hyper_edge.specs.contracts.server.Server as server
 use Rattle.hyper_edge.proofs.Crossings.{server_sync}
 use Rattle.hyper_edge.proofs.threads.fn.start_all.scope.Goals as goal
 
-pub spawn-requires-send-F : goal.spawn-requires-send-F
-spawn-requires-send-F g c κs within =
+pub spawn-started-requires-send-F : goal.spawn-started-requires-send-F
+spawn-started-requires-send-F g c κs within =
     let r : IsSend (param 0 g.row.R) = c.requires-raw.1.1.1.1.1.1.1.1.0 in
     let ry : IsSync (param 0 g.row.R) = c.requires-raw.1.1.1.1.1.1.1.1.1.1.1.1.1.0 in
     let a : IsSync (param 1 g.row.A) = c.requires-raw.1.1.1.1.1.1.1.1.1.1.1.1.1.1.0 in
@@ -49,32 +51,6 @@ spawn-requires-send-F g c κs within =
     let v : IsSync shared = server_sync lent R A S J C F G O (in_time.ghosts R S g.R.Clock in_time.no_dict g.S.Source in_time.no_dict) g.F.Future r ry a s y j f w t in
     let p : IsSend (shr_ref_field here shared tt).row = search (v, shr_send) in
     let q : IsSend (shr_ref_field opens M tt).row = search (m, shr_send) in
-    param_send _ _ (arg_send _ no _ (declared_send (tuple.type_at _ ((shr_ref_field here shared tt).row ∷ (shr_ref_field opens M tt).row ∷ [])) (as_row_send (row_field (shr_ref_field here shared tt).row) p, (as_row_send (row_field (shr_ref_field opens M tt).row) q, tt))))
-
-pub spawn-requires-in-Resuming-send-F : goal.spawn-requires-in-Resuming-send-F
-spawn-requires-in-Resuming-send-F g c κs within =
-    let r : IsSend (param 0 g.row.R) = c.requires-raw.1.1.1.1.1.1.1.1.0 in
-    let ry : IsSync (param 0 g.row.R) = c.requires-raw.1.1.1.1.1.1.1.1.1.1.1.1.1.0 in
-    let a : IsSync (param 1 g.row.A) = c.requires-raw.1.1.1.1.1.1.1.1.1.1.1.1.1.1.0 in
-    let s : IsSend (param 2 g.row.S) = c.requires-raw.1.1.1.1.1.1.1.1.1.0 in
-    let y : IsSync (param 2 g.row.S) = c.requires-raw.1.1.1.1.1.1.1.1.1.1.1.1.1.1.1.0 in
-    let j : IsSync (param 3 g.row.J) = c.requires-raw.1.1.1.1.1.1.1.1.1.1.1.1.1.1.1.1.0 in
-    let f : IsSend (param 4 g.row.F) = c.requires-raw.1.1.1.1.1.1.1.1.1.1.0 in
-    let m : IsSync (param 5 g.row.M) = c.requires-raw.1.1.1.1.1.1.1.1.1.1.1.1.1.1.1.1.1.0 in
-    let i : IsSend (param 7 g.row.S-InFlight) = c.requires-raw.1.1.1.1.1.1.1.1.1.1.1.1.0 in
-    let w : IsSend (within_time.the_row (param 2 g.row.S)) = search (WithinTime.the_send, s, y, Crossing.crosses, sendable) in
-    let t : IsSend (flights_in_time.the_row (param 7 g.row.S-InFlight)) = search (FlightsInTime.the_send, i, Crossing.crosses, sendable) in
-    let here : NamedLft = record { mir = named 5; lft = κs.1.1.1.1.1.0 } in
-    let lent : NamedLft = record { mir = named 6; lft = κs.1.1.1.1.1.1.0 } in
-    let R : RattleType = param 0 g.row.R in
-    let A : RattleType = param 1 g.row.A in
-    let S : RattleType = param 2 g.row.S in
-    let J : RattleType = param 3 g.row.J in
-    let C : RattleType = param 4 g.row.F in
-    let F : RattleType = param 7 g.row.S-InFlight in
-    let G : RattleType = flights_in_time.the_row F in
-    let O : RattleType = result.the_row unit-field.row error.the_row in
-    let shared : RattleType = server.the_row lent R A S J C F G O (in_time.ghosts R S g.R.Clock in_time.no_dict g.S.Source in_time.no_dict) g.F.Future in
-    let v : IsSync shared = server_sync lent R A S J C F G O (in_time.ghosts R S g.R.Clock in_time.no_dict g.S.Source in_time.no_dict) g.F.Future r ry a s y j f w t in
-    let p : IsSend (shr_ref_field here shared tt).row = search (v, shr_send) in
-    param_send _ _ (arg_send _ no _ (declared_send (tuple.type_at _ ((shr_ref_field here shared tt).row ∷ [])) (as_row_send (row_field (shr_ref_field here shared tt).row) p, tt)))
+    let k : IsSend work.the_row = search (Work.the_send, sendable) in
+    param_send _ _ (arg_send _ no _ (declared_send (tuple.type_at _ ((shr_ref_field here shared tt).row ∷ work.the_row ∷ (shr_ref_field opens M tt).row ∷ []))
+    (as_row_send (row_field (shr_ref_field here shared tt).row) p, (as_row_send (row_field work.the_row) k, (as_row_send (row_field (shr_ref_field opens M tt).row) q, tt)))))

@@ -1,0 +1,326 @@
+//! A thread's turn at a connection: it answers what the connection asks, until that has to wait.
+
+use crate::connection::{Connection, Stop};
+use crate::handover::{Answered, Asked};
+use crate::journal::{Journal, Unreported};
+use crate::page_time::WithinTime;
+use crate::responding::{Responded, Told, go_on_with};
+use crate::serving::Serving;
+use crate::shared_roster::SharedRoster;
+use crate::signals::Pause;
+use edge_types::NoMemory;
+use fetch_workers::{ConcurrentSource, OnBehalf, OwedFetches, PageInProgress};
+use futures::Future;
+use http::header::HeaderValue;
+use http::{Response, header};
+use page_http::EdgeBody;
+use std::alloc::AllocError;
+use std::mem;
+use std::net::IpAddr;
+use std::sync::Wait;
+use std::thread::Threads;
+use std::time::{Clock, Duration, Instant};
+
+// For how many milliseconds at most a page holds its thread while it waits for its fetches, where there are threads in
+// reserve: longer than a near origin takes.
+const LINGERS_MILLIS: u64 = 30;
+
+// After how many of them it looks again whether there are.
+const STEP_MILLIS: u64 = 5;
+
+/// A page that is being assembled, and the request that asked for it.
+#[derive(Drop)]
+pub(crate) struct PageAsked<R, S>
+where
+    R: Wait + Clock + Drop,
+    S: ConcurrentSource<R> + Drop,
+    WithinTime<S>: ConcurrentSource<R> + Drop,
+{
+    page: PageInProgress<R, WithinTime<S>>,
+    request: Requested,
+}
+
+// A request that waits for its response, and when its head had come, where that is to be reported.
+#[derive(Drop)]
+struct Requested {
+    asked: Asked,
+    begun: Option<Instant>,
+}
+
+/// Fetches of a page that has ended, for which others wait.
+pub(crate) type Owed<R, S> = OwedFetches<R, WithinTime<S>>;
+
+/// Why a connection has to wait.
+#[derive(Drop)]
+pub(crate) struct Halt<R, S>
+where
+    R: Wait + Clock + Drop,
+    S: ConcurrentSource<R> + Drop,
+    WithinTime<S>: ConcurrentSource<R> + Drop,
+{
+    /// The page that waits for its fetches, if one does.
+    pub page: Option<Box<PageAsked<R, S>>>,
+    /// What is waited for.
+    pub pause: Pause,
+}
+
+/// What a thread needs to answer the requests of a connection, and what comes of them beside the responses.
+#[derive(Drop)]
+pub(crate) struct Turn<'t, 'a, R, S, J>
+where
+    R: Wait + Clock + Drop,
+    S: ConcurrentSource<R> + Drop,
+    WithinTime<S>: ConcurrentSource<R> + Drop,
+{
+    serving: &'t Serving<'a, R, S, J>,
+    // What knows whether a page may hold the thread while it waits for its fetches; without it none may.
+    roster: Option<&'t SharedRoster>,
+    /// The client, where it is known.
+    pub client: Option<IpAddr>,
+    /// What is to be reported.
+    pub unreported: Vec<Unreported>,
+    /// What the pages that have ended owe to others.
+    pub owed: Vec<Owed<R, S>>,
+}
+
+impl<'t, 'a, R, S, J> Turn<'t, 'a, R, S, J>
+where
+    R: Wait + Threads + Clock + Clone + Sync + Drop,
+    S: ConcurrentSource<R> + OnBehalf<R> + Send + Sync + Drop,
+    J: Journal<R>,
+{
+    /// A turn at a connection of this client, of whose requests this is to be reported.
+    pub(crate) fn new(
+        serving: &'t Serving<'a, R, S, J>,
+        roster: Option<&'t SharedRoster>,
+        client: Option<IpAddr>,
+        unreported: Vec<Unreported>,
+    ) -> Turn<'t, 'a, R, S, J> {
+        Turn {
+            serving,
+            roster,
+            client,
+            unreported,
+            owed: Vec::new(serving.service.alloc()),
+        }
+    }
+
+    /// Does what the connection stopped for. Tells why it has to wait, if it does.
+    pub(crate) fn stopped<F>(
+        &mut self,
+        stop: Stop,
+        connection: &Connection<F>,
+    ) -> Option<Halt<R, S>>
+    where
+        F: Future<Output = hyper::Result<()>>,
+    {
+        match stop {
+            Stop::Asked(asked) => self.begun(asked, connection),
+            Stop::Written => {
+                self.report();
+                None
+            }
+            Stop::Paused(pause) => Some(Halt { page: None, pause }),
+        }
+    }
+
+    /// Reports what is to be reported of a connection that has ended; and that the HTTP library refused it with this status,
+    /// if it did.
+    pub(crate) fn ended(&mut self, refusal: Option<u16>) {
+        self.report();
+        self.serving.report_refusal(self.client, refusal);
+    }
+
+    // Reports what is to be reported, now that the responses have been written or the connection has ended.
+    fn report(&mut self) {
+        let alloc = self.serving.service.alloc();
+        let unreported = mem::replace(&mut self.unreported, Vec::new(alloc));
+        self.serving.report(unreported);
+    }
+
+    // Begins the response to a request, and goes on with the page that is to be assembled for it, if it is none that is
+    // there at once, as `paged` does.
+    fn begun<F>(&mut self, asked: Asked, connection: &Connection<F>) -> Option<Halt<R, S>>
+    where
+        F: Future<Output = hyper::Result<()>>,
+    {
+        let serving = self.serving;
+        let begun = match serving.journal.is_kept() {
+            true => Instant::now(serving.rt).ok(),
+            false => None,
+        };
+        let request = Requested { asked, begun };
+        match serving
+            .service
+            .begin(&request.asked.head, connection.socket())
+        {
+            Ok(Err(page)) => return self.paged(PageAsked { page, request }, connection),
+            Ok(Ok(responded)) => {
+                let answered = self.answered(responded, &request);
+                connection.handover().answer(answered);
+            }
+            Err(NoMemory) => connection.handover().answer(Err(AllocError)),
+        }
+        None
+    }
+
+    /// Goes on with a page until its response was given to the connection, or it has to wait for its fetches for longer
+    /// than the thread may linger.
+    pub(crate) fn paged<F>(
+        &mut self,
+        asked: PageAsked<R, S>,
+        connection: &Connection<F>,
+    ) -> Option<Halt<R, S>>
+    where
+        F: Future<Output = hyper::Result<()>>,
+    {
+        let PageAsked { page, request } = asked;
+        let mut waiting = self.gone_on(page, &request, connection)?;
+        let rt = self.serving.rt;
+        let lingers = Lingers::begun(rt);
+        for _ in rt.forever() {
+            if lingers.lasts(rt) && self.may_linger() {
+                waiting.wait(Some(Duration::from_millis(STEP_MILLIS)));
+            } else {
+                match self.pause(&mut waiting, connection) {
+                    Some(pause) => return self.left(waiting, request, pause, connection),
+                    None => waiting.wait(None),
+                }
+            }
+            waiting = self.gone_on(waiting, &request, connection)?;
+        }
+        unreachable!()
+    }
+
+    // Goes on with a page. It comes back if it has to wait; else its response is given to the connection.
+    fn gone_on<F>(
+        &mut self,
+        page: PageInProgress<R, WithinTime<S>>,
+        request: &Requested,
+        connection: &Connection<F>,
+    ) -> Option<PageInProgress<R, WithinTime<S>>>
+    where
+        F: Future<Output = hyper::Result<()>>,
+    {
+        match go_on_with(self.serving.service.alloc(), page) {
+            Ok(Err(page)) => return Some(page),
+            Ok(Ok(Told { responded, owed })) => {
+                let answered = self.answered(responded, request);
+                connection.handover().answer(answered);
+                if let Some(owed) = owed {
+                    // Without room for them they are given up.
+                    let _ = self.owed.push(owed);
+                }
+            }
+            Err(NoMemory) => connection.handover().answer(Err(AllocError)),
+        }
+        None
+    }
+
+    // Whether there are threads in reserve, so that a page may hold this one.
+    fn may_linger(&self) -> bool {
+        match self.roster {
+            Some(roster) => roster.may_linger(self.serving.rt),
+            None => false,
+        }
+    }
+
+    // Why a page can't go on now; `None` where only a wait in this thread would tell when it can.
+    fn pause<F>(
+        &self,
+        page: &mut PageInProgress<R, WithinTime<S>>,
+        connection: &Connection<F>,
+    ) -> Option<Pause>
+    where
+        F: Future<Output = hyper::Result<()>>,
+    {
+        if !connection.may_pause() {
+            return None;
+        }
+        let client = self.serving.service.watch(connection.socket());
+        Some(Pause::for_fetches(page.awaited()?, client))
+    }
+
+    // A page that is left by its thread. Without room for it, its connection ends.
+    fn left<F>(
+        &self,
+        page: PageInProgress<R, WithinTime<S>>,
+        request: Requested,
+        pause: Pause,
+        connection: &Connection<F>,
+    ) -> Option<Halt<R, S>>
+    where
+        F: Future<Output = hyper::Result<()>>,
+    {
+        match Box::new(self.serving.service.alloc(), PageAsked { page, request }) {
+            Ok(asked) => Some(Halt {
+                page: Some(asked),
+                pause,
+            }),
+            Err(_) => {
+                connection.handover().answer(Err(AllocError));
+                None
+            }
+        }
+    }
+
+    // The response to a request, which is to be reported. Over a connection that is kept it says that it is the last one,
+    // where something of the request's body is left, which nobody reads.
+    fn answered(&mut self, responded: Responded, request: &Requested) -> Answered {
+        let serving = self.serving;
+        let asked = &request.asked;
+        if let Some(begun) = request.begun {
+            let client = serving.service.client_of(&asked.head, self.client);
+            let answer = Unreported::new(
+                serving.rt,
+                serving.journal,
+                serving.service.alloc(),
+                begun,
+                client,
+                &asked.head,
+                &responded,
+            );
+            let _ = self.unreported.push(answer);
+        }
+        let mut response = responded.response;
+        if serving.keeps && !asked.is_whole {
+            closes(&mut response)?;
+        }
+        Ok(response)
+    }
+}
+
+// Until when a page may hold its thread; `None` where the clock can't be read, and it may not.
+#[derive(Clone, Copy)]
+struct Lingers {
+    until: Option<Instant>,
+}
+
+impl Lingers {
+    // From now on.
+    fn begun(clock: &impl Clock) -> Lingers {
+        let until = match Instant::now(clock) {
+            Ok(now) => now.checked_add(Duration::from_millis(LINGERS_MILLIS)),
+            Err(_) => None,
+        };
+        Lingers { until }
+    }
+
+    fn lasts(self, clock: &impl Clock) -> bool {
+        match (self.until, Instant::now(clock)) {
+            (Some(until), Ok(now)) => now < until,
+            _ => false,
+        }
+    }
+}
+
+// Says of a response that it is the last one of its connection.
+fn closes(response: &mut Response<EdgeBody>) -> Result<(), AllocError> {
+    match response
+        .headers_mut()
+        .insert(header::CONNECTION, HeaderValue::from_static("close"))
+    {
+        Ok(_) => Ok(()),
+        Err(_) => Err(AllocError),
+    }
+}
