@@ -256,6 +256,32 @@ def a_page_of_205_has_no_body():
         same("the page", (205, b""), told(edge))
 
 
+def processor_ticks(edge):
+    """The processor time that a server has taken, in ticks of the system's clock."""
+    with open("/proc/%d/stat" % edge.process.pid) as it:
+        fields = it.read().rpartition(") ")[2].split()
+    return int(fields[11]) + int(fields[12])
+
+
+def a_long_field_is_searched_once_for_a_page():
+    """A page that compares a cookie twenty times, or asks for a language as often, costs little more than one that does so
+    once, though each is at the end of 60,000 bytes that are slow to search."""
+    cookie, language = "Cookie: %sb=20\r\n" % ("ab=; " * 11900), "Accept-Language: %sbc\r\n" % ("b, " * 19900)
+    for fields, test in ((cookie, "$(HTTP_COOKIE{b})=='%d'"), (language, "$(HTTP_ACCEPT_LANGUAGE{bc})=='no'|%d>19")):
+        whens = ['<esi:when test="%s">%d</esi:when>' % (test % i, i) for i in range(1, 21)]
+        head = 'HTTP/1.1 200 OK|surrogate-control: max-age=600, content="ESI/1.0"'
+        texts = {"/%d" % count: sized(head, "<esi:choose>%s</esi:choose>" % "".join(whens[-count:])) for count in (1, 20)}
+        with Wires(texts) as origin, before(origin) as edge:
+            took = {}
+            for target in texts:
+                begun = processor_ticks(edge)
+                for _ in range(100):
+                    came = get(edge, target, fields=fields)
+                    same(target, (200, b"20"), (came.status, came.body))
+                took[target] = processor_ticks(edge) - begun
+            same("ticks: %r" % took, True, took["/20"] < 3 * took["/1"] + 10)
+
+
 TESTS = (
     pages_are_those_of_case,
     pages_are_what_origins_send,
@@ -267,4 +293,5 @@ TESTS = (
     a_page_may_take_its_time,
     targets_have_bytes_of_targets,
     a_page_of_205_has_no_body,
+    a_long_field_is_searched_once_for_a_page,
 )

@@ -44,13 +44,25 @@ def equal_requests_cost_one_fetch():
 
 
 def a_cache_is_free_while_it_is_fetched_for():
-    """Two URLs that one lock keeps: the last bytes of their paths put them together. Each is answered once both are asked for."""
-    meeting = Meeting(2)
-    texts = {path: meeting.of(wire("HTTP/1.1 200 OK|surrogate-control: max-age=60||" + path[1:])) for path in ("/0", "/8")}
-    with Wires(texts) as origin, before(origin, "--threads", "2") as edge:
+    """Nine URLs, at least two of which one lock keeps. Each is answered once all are asked for."""
+    meeting = Meeting(9)
+    texts = {"/%d" % i: meeting.of(wire("HTTP/1.1 200 OK|surrogate-control: max-age=60||%d" % i)) for i in range(9)}
+    with Wires(texts) as origin, before(origin, "--threads", "16") as edge:
         came = all_at_once([lambda path=path: told(edge, path) for path in texts])
-        same("what they got", [(200, b"0"), (200, b"8")], sorted(came))
+        same("what they got", [(200, b"%d" % i) for i in range(9)], sorted(came))
         same("fetches that gave up", 0, meeting.gave_up)
+
+
+def urls_of_one_sum_leave_each_other_kept():
+    """216 URLs whose bytes have one sum: that would put them all into one part of the cache, which keeps 128."""
+    letters = range(15)
+    paths = ["/%c%c%c%c" % (97 + one, 122 - one, 97 + other, 122 - other) for one in letters for other in letters][:216]
+    same("their sums", 1, len({sum(it.encode()) for it in paths}))
+    texts = {it: sized("HTTP/1.1 200 OK|surrogate-control: max-age=600", it) for it in paths}
+    with Wires(texts) as origin, before(origin) as edge:
+        for _ in range(2):
+            same("what comes", [(200, it.encode()) for it in paths], [told(edge, it) for it in paths])
+        same("times that the origin was asked", len(paths), len(origin.heads))
 
 
 def two_workers_fetch_at_one_time():
@@ -150,6 +162,7 @@ def answers_are_kept_no_longer_where_the_clock_is_set_back():
 TESTS = (
     equal_requests_cost_one_fetch,
     a_cache_is_free_while_it_is_fetched_for,
+    urls_of_one_sum_leave_each_other_kept,
     two_workers_fetch_at_one_time,
     as_many_fetch_at_once_as_are_missing,
     pages_share_what_is_kept,
