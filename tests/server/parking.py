@@ -1,8 +1,8 @@
 """Clients who are waited for, and hold no thread meanwhile: what others get beside many of them, what they cost, for
 how long they are waited for, and what they get in the end.
 
-With PARKING=full in the environment there are as many as docs/SERVING.md has figures of, and the figures are
-printed; the machine should have little else to do then."""
+With PARKING=full in the environment there are thousands of them, and what they cost is printed; the machine should have
+little else to do then."""
 import contextlib
 import http.client
 import os
