@@ -4,10 +4,12 @@ import re
 from dataclasses import dataclass
 
 from what_proofs_see import is_hidden
-from wrong_edits import functions_of, text_of
+from wrong_checks import Repository
+from wrong_edits import functions_of
 
 TOP = os.path.dirname(os.path.dirname(os.path.realpath(__file__)))
-# What has ghost members.
+CRATES = Repository(TOP).crates
+# What has ghost members: the trait of an `impl`, if it is of one, and the name of the type or trait.
 OWNER = re.compile(r" *(?:pub(?:\(\w+\))? )?(?:impl\b(?:<.*?>)? (?:&?(?:\w+::)*(\w+)(?:<.*>)? for )?|(?:trait|struct|enum) )(?:&(?:'\w+ )?(?:mut )?)?(?:\w+::)*(\w+)")
 GHOST = re.compile(r" *(?:pub )?ghost (?!use\b)(\w+)(?: = |: )\{")
 # A clause, as a line of a contract: its name, if it has one.
@@ -35,20 +37,6 @@ class Promise:
     is_private: bool
     clauses: tuple
     said: str
-
-
-def files_of(crate, folder, ending):
-    """The paths of a crate's files with this ending below one of its folders, in order."""
-    found = []
-    for at, _, names in os.walk(f"{TOP}/crates/{crate}/{folder}"):
-        found += [f"{at}/{name}" for name in names if name.endswith(ending)]
-    return sorted(found)
-
-
-def sources_of(crate):
-    """The texts of a crate's sources, by their path in the crate."""
-    top = f"{TOP}/crates/{crate}/"
-    return {it.removeprefix(top): text_of(it) for it in files_of(crate, "src", ".rt")}
 
 
 def plain(text):
@@ -89,7 +77,7 @@ def contract_lines(source, function):
 
 def clause_from(name, lines, claim):
     """The clause that begins with the brace in the first of these lines, and ends with the brace that closes it."""
-    text, depth, at = "\n".join(it for it in lines if not it.lstrip().startswith("//")), 0, 0
+    text, depth = "\n".join(it for it in lines if not it.lstrip().startswith("//")), 0
     begin = text.index("{")
     for at in range(begin, len(text)):
         depth += {"{": 1, "}": -1}.get(text[at], 0)
@@ -104,13 +92,6 @@ def clauses_of(source, function):
     for at, line in enumerate(lines):
         if it := CLAUSE.match(line):
             yield clause_from(it[1], lines[at:], said_above(lines, at))
-
-
-def contract_of(source, function):
-    """The head and the clauses of a function of a source, with the ghost members that stand beside a trait's."""
-    text = " ".join(it for it in contract_lines(source, function) if not it.lstrip().startswith("//"))
-    beside = re.findall(r"^ *ghost \w+ = .*?;$", source, re.M | re.S) if function.is_of_trait else []
-    return plain(" ".join([text, *beside]))
 
 
 def owner_above(lines, at):

@@ -1,14 +1,16 @@
 """What the tables of a document name: rows `Promise | Function | Clause` and rows `Body | Test`, and whether each name is there.
 
-A function is named with its crate, as `plan_runner::Page::advance`. Clause has names or texts of its clauses (`..` is
-whatever is left out); in parentheses stand definitions. Test has functions of tests, or files and folders of them.
+A function, type or trait is named with its crate, as `plan_runner::Page::advance`. Clause has names of its clauses, or
+texts in them (`..` is whatever is left out); in parentheses stand definitions that these texts name. Test has functions
+of tests, or files and folders of them.
 """
 import functools
 import os
 import re
 
-from contracts import TOP, contract_of, files_of, plain, promises_of, sources_of
-from wrong_edits import functions_of, text_of
+from contracts import CRATES, TOP, plain, promises_of
+from wrong_checks import sources_of
+from wrong_edits import text_of
 
 QUOTED = re.compile(r"`([^`]+)`")
 
@@ -26,37 +28,19 @@ def tables(text):
         head = (head or cells(line)) if line.startswith("|") else None
 
 
-def has_words(text, piece):
-    """Whether a text has a piece, or one that leaves something out by `..`, as whole words."""
-    pieces = [plain(it) for it in piece.split("..") if it.strip()]
-    return all(re.search(rf"(?<!\w){re.escape(it)}(?!\w)", text) for it in pieces)
-
-
-class Crate:
-    """What a crate promises: by path the contract of each function, and the ghost members of each type; and what it defines."""
-
-    def __init__(self, name):
-        sources = sources_of(name)
-        self.contracts = [(it.path, contract_of(source, it)) for file, source in sources.items() for it in functions_of(file, source)]
-        promises = [it for file, source in sources.items() for it in promises_of(file, source)]
-        self.contracts += [(it.path.partition(" as ")[0], " ".join(f"{c.name} {c.text}" for c in it.clauses)) for it in promises]
-        definitions = files_of(name, "specs", ".antt")
-        self.text = plain(" ".join([*sources.values(), *map(text_of, definitions)]))
-        self.files = {os.path.basename(it).removesuffix(".antt") for it in definitions}
-
-    def of(self, path):
-        """The contracts of the functions and types of a path. An `impl` whose head takes several lines gives its functions no owner."""
-        own = path.rpartition("::")[2]
-        found = [text for it, text in self.contracts if f"::{it}".endswith(f"::{path}")]
-        return found or [text for it, text in self.contracts if it.rpartition("::")[2] == own and not re.search(r"::[A-Z]\w*::", f"::{it}")]
-
-    def defines(self, name):
-        return has_words(self.text, name) or name.removeprefix("specs/") in self.files
-
-
 @functools.lru_cache(None)
-def crate_of(name):
-    return Crate(name) if os.path.isdir(f"{TOP}/crates/{name}") else None
+def promises_by_path(crate):
+    """The clauses of each function, trait and type of a crate, with its path."""
+    found = [it for file, source in sources_of(CRATES[crate]).items() for it in promises_of(file, source)] if crate in CRATES else []
+    return [(it.path.partition(" as ")[0], it.clauses) for it in found]
+
+
+def clauses_of(name):
+    """The clauses of the functions and types of a name, by function. An `impl` whose head takes several lines gives its functions no owner."""
+    crate, _, path = name.partition("::")
+    own, every = path.rpartition("::")[2], promises_by_path(crate)
+    found = [clauses for it, clauses in every if f"::{it}".endswith(f"::{path}")]
+    return found or [clauses for it, clauses in every if it.rpartition("::")[2] == own and not re.search(r"::[A-Z]\w*::", f"::{it}")]
 
 
 @functools.lru_cache(None)
@@ -69,14 +53,26 @@ def tests():
             for it in files:
                 if it == "run" or it.endswith(".py"):
                     found |= set(re.findall(r"^(?:def )?(\w+)\(.*\)(?: \{.*|:)$", text_of(f"{at}/{it}"), re.M))
-    for crate in os.listdir(f"{TOP}/crates"):
-        found.add(crate)
+    for name, crate in CRATES.items():
+        found.add(name)
         for source in sources_of(crate).values():
             found |= set(re.findall(r"^ *#\[test\]\n *(?:pub )?fn (\w+)", source, re.M))
     return found
 
 
-def clauses_in(cell):
+def has_words(text, told):
+    """Whether a text has another one, or each piece of one that leaves something out by `..`, as whole words."""
+    pieces = [plain(it) for it in told.split("..") if it.strip()]
+    return all(re.search(rf"(?<!\w){re.escape(it)}(?!\w)", text) for it in pieces)
+
+
+def is_in(clause, told, is_definition):
+    """Whether a name is that of a clause, or a text or a definition is in it."""
+    is_name = not is_definition and re.fullmatch(r"[a-z]\w*", told)
+    return clause.name == told if is_name else has_words(clause.text, told)
+
+
+def names_in(cell):
     """Each name or text in a cell of clauses, and whether it is a definition."""
     depth = 0
     for before, name in re.findall(r"([^`]*)`([^`]+)`", cell):
@@ -86,16 +82,14 @@ def clauses_in(cell):
 
 def named_by(functions, clauses):
     """What a row of promises names, and whether it is there."""
-    crates, contracts = [], []
+    promised = []
     for name in QUOTED.findall(functions):
-        crate, _, path = name.partition("::")
-        crates.append(crate_of(crate))
-        found = crates[-1].of(path) if crates[-1] and path else []
-        contracts += found
+        found = clauses_of(name)
+        promised += [clause for it in found for clause in it]
         yield f"function `{name}`", bool(found)
-    for name, is_definition in clauses_in(clauses):
-        is_promised = any(has_words(it, name) for it in contracts)
-        yield f"clause `{name}`", is_promised or is_definition and any(it and it.defines(name) for it in crates)
+    for told, is_definition in names_in(clauses):
+        what = "definition" if is_definition else "clause"
+        yield f"{what} `{told}`", any(is_in(it, told, is_definition) for it in promised)
 
 
 def wrong_names(text):
