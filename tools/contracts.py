@@ -31,7 +31,7 @@ class Clause:
 
 @dataclass(frozen=True)
 class Promise:
-    """A function, or a type or trait with ghost members: its path in the crate, whether no other crate can use it, the clauses, and the first sentence of what is said above it."""
+    """A function, or a type or trait with ghost members: its path in the crate, whether it is not public, the clauses, and the first sentence of what is said above it."""
 
     path: str
     is_private: bool
@@ -107,7 +107,7 @@ def module_of(file):
 
 
 def ghosts_of(file, source):
-    """The ghost members of traits and types in a source that promise something: each its owner's path, whether that is private, the clause, and what is said of the owner."""
+    """The ghost members of traits and types in a source that promise something: each its owner's path, whether that is not public, the clause, and what is said of the owner."""
     lines = source.split("\n")
     for at, line in enumerate(lines):
         it = GHOST.match(line)
@@ -119,7 +119,8 @@ def ghosts_of(file, source):
         top = owner_above(lines, at)
         trait, name = OWNER.match(lines[top]).groups()
         kind = name if trait in (None, "Model") else f"{name} as {trait}"
-        is_private = not trait and not lines[top].startswith("pub ")
+        declared = re.search(rf"^(.*)\b(?:struct|enum|trait) {name}\b", source, re.M)
+        is_private = bool(declared) and declared[1] != "pub "
         yield "::".join([*module_of(file), kind]), is_private, clause, said_above(lines, top)
 
 
