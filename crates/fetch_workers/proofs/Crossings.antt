@@ -75,51 +75,52 @@ shared_desk_send = search (desk_send, Crossing.crosses, sendable) depth 60 fits 
 pub shared_desk_sync : IsSync shared_desk.the_row
 shared_desk_sync = search (desk_send, Crossing.crosses, sendable) depth 60 fits 20000
 
-ruleset under_way_crosses = (shared_desk_send, Flights.the_send, Flights.the_field_send, SetAside.the_send, Crossing.crosses, sendable)
-
-under_way_send : (F : RattleType) → IsSend F → IsSend (under_way.the_row F)
-under_way_send F f = declared_send (under_way.the_type F) (
-  search (under_way_crosses) depth 60 fits 20000,
-  (
-    search (under_way_crosses) depth 60 fits 20000,
-    (
-      search (under_way_crosses) depth 60 fits 20000,
-      tt,
-    ),
-  ),
-)
-
-ruleset works_cross = (
-  under_way_send,
-  Posted.the_send,
-  Posted.the_field_send,
+ruleset under_way_crosses = (
+  shared_desk_send,
+  Flights.the_send,
+  Flights.the_field_send,
+  SetAside.the_send,
   PageUrl.the_send,
   Request.the_field_send,
   Crossing.crosses,
   sendable,
 )
 
-work_send : (R S F : RattleType) (source : Ghosts S.Denot R.Denot) → IsSend R → IsSend S → IsSend F → IsSend (work.the_row R S F source)
-work_send R S F source r s f = declared_send (work.the_type R S F source) (
-  search (works_cross) depth 60 fits 20000,
+under_way_send : (R F : RattleType) → IsSend R → IsSend F → IsSend (under_way.the_row R F)
+under_way_send R F r f = declared_send (under_way.the_type R F) (
+  search (under_way_crosses) depth 60 fits 20000,
   (
-    search (works_cross) depth 60 fits 20000,
+    search (under_way_crosses) depth 60 fits 20000,
     (
-      search (works_cross) depth 60 fits 20000,
+      search (under_way_crosses) depth 60 fits 20000,
       (
-        search (works_cross) depth 60 fits 20000,
+        search (under_way_crosses) depth 60 fits 20000,
         (
-          search (works_cross) depth 60 fits 20000,
+          search (under_way_crosses) depth 60 fits 20000,
           (
-            search (works_cross) depth 60 fits 20000,
+            search (under_way_crosses) depth 60 fits 20000,
             (
-              search (works_cross) depth 60 fits 20000,
-              tt,
+              search (under_way_crosses) depth 60 fits 20000,
+              (
+                search (under_way_crosses) depth 60 fits 20000,
+                tt,
+              ),
             ),
           ),
         ),
       ),
     ),
+  ),
+)
+
+ruleset works_cross = (under_way_send, Posted.the_send, Posted.the_field_send, Crossing.crosses, sendable)
+
+work_send : (R S F : RattleType) (source : Ghosts S.Denot R.Denot) → IsSend R → IsSend S → IsSend F → IsSend (work.the_row R S F source)
+work_send R S F source r s f = declared_send (work.the_type R S F source) (
+  search (works_cross) depth 60 fits 20000,
+  (
+    search (works_cross) depth 60 fits 20000,
+    tt,
   ),
 )
 

@@ -1,6 +1,6 @@
 //! Pages that are assembled by several threads.
 
-ghost use Rattle.std.specs.Prelude.{◌≡◌, ◌<◌, ◌≤◌, map, option_map, IfOk, IfErr, IsTrue};
+ghost use Rattle.std.specs.Prelude.{◌≡◌, ◌<◌, ◌≤◌, box_value, map, option_map, IfOk, IfErr, IsTrue};
 ghost use Rattle.std.specs.Arc.{arc_value};
 ghost use Rattle.edge_types.specs.Outcome.{Shown, shown};
 ghost use Rattle.esi_meaning.specs.Ahead.{IsLegal};
@@ -251,9 +251,9 @@ impl Assembling {
         R: Wait + Drop,
         S: ConcurrentSource<R> + Drop,
         ensures source { IfOk result (λ page. page.work.posted.source ≡ source) }
-        ensures url { IfOk result (λ page. page.work.url ≡ url) }
-        ensures request { IfOk result (λ page. page.work.request ≡ request) }
-        ensures levels { IfOk result (λ page. page.work.levels ≡ self.levels) }
+        ensures url { IfOk result (λ page. (box_value page.work.under_way).url ≡ url) }
+        ensures request { IfOk result (λ page. (box_value page.work.under_way).request ≡ request) }
+        ensures levels { IfOk result (λ page. (box_value page.work.under_way).levels ≡ self.levels) }
     {
         let page = self.accept(alloc, &url, &request)?;
         PageInProgress::new(

@@ -8,7 +8,8 @@ use std::time::Duration;
 /// Fetches of a page that needs them no longer, for which others wait, who have joined them. Whoever has them goes on with
 /// them, one thread at a time. They are given up where this is dropped: then who waits has a failed answer.
 pub struct OwedFetches<R: Wait + Drop, S: ConcurrentSource<R> + Drop> {
-    owing: Owing<R, S>,
+    // In a box, since most pages owe nothing, and what they might owe is moved with each.
+    owing: Box<Owing<R, S>>,
 }
 
 /// What is in flight for a page that needs it no longer.
@@ -22,15 +23,19 @@ pub(crate) struct Owing<R: Wait + Drop, S: ConcurrentSource<R> + Drop> {
 impl<R: Wait + Drop, S: ConcurrentSource<R> + Drop> Drop for OwedFetches<R, S> {
     fn drop(self) {
         let OwedFetches { owing } = self;
-        owing.give_up();
+        Box::into_inner(owing).give_up();
     }
 }
 
 impl<R: Wait + Drop, S: ConcurrentSource<R> + Drop> OwedFetches<R, S> {
     /// Goes on as far as it gets without waiting. They come back if somebody still waits for them.
     pub fn go_on(self) -> Option<OwedFetches<R, S>> {
-        let OwedFetches { owing } = self;
-        owing.owed()
+        let OwedFetches { mut owing } = self;
+        if owing.has_let_go() {
+            Box::into_inner(owing).give_up();
+            return None;
+        }
+        Some(OwedFetches { owing })
     }
 
     /// What they wait for; `None` where only `wait` tells.
@@ -45,25 +50,26 @@ impl<R: Wait + Drop, S: ConcurrentSource<R> + Drop> OwedFetches<R, S> {
 }
 
 impl<R: Wait + Drop, S: ConcurrentSource<R> + Drop> Owing<R, S> {
-    /// What others wait for. What nobody waits for ends.
+    /// What others wait for. What nobody waits for ends, and so does all of it where there is no room for it.
     pub(crate) fn owed(self) -> Option<OwedFetches<R, S>> {
-        let Owing {
-            rt,
-            alloc,
-            source,
-            mut fetches,
-        } = self;
-        if source.let_go(&rt, alloc, &mut fetches) {
-            source.give_up(&rt, alloc, fetches);
+        let mut owing = self;
+        if owing.has_let_go() {
+            owing.give_up();
             return None;
         }
-        let owing = Owing {
-            rt,
-            alloc,
-            source,
-            fetches,
-        };
-        Some(OwedFetches { owing })
+        match Box::new(owing.alloc, owing) {
+            Ok(owing) => Some(OwedFetches { owing }),
+            Err(failed) => {
+                failed.value.give_up();
+                None
+            }
+        }
+    }
+
+    // Ends what nobody waits for. Whether nothing is left.
+    fn has_let_go(&mut self) -> bool {
+        let source = &self.source;
+        source.let_go(&self.rt, self.alloc, &mut self.fetches)
     }
 
     /// Ends all of it: who waits has a failed answer.

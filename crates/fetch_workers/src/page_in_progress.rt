@@ -1,6 +1,6 @@
 //! Pages that wait for their fetches as values, and hold no thread.
 
-ghost use Rattle.std.specs.Prelude.{◌≡◌, map, option_map, IfErr, IfOk, OnOk};
+ghost use Rattle.std.specs.Prelude.{◌≡◌, box_value, map, option_map, IfErr, IfOk, OnOk};
 ghost use Rattle.std.specs.Arc.{arc_value};
 ghost use Rattle.edge_types.specs.Outcome.{shown};
 ghost use Rattle.fetch_workers.specs.Progress.{AreGiven};
@@ -28,7 +28,7 @@ use std::time::Duration;
 pub type Made = Result<Assembled, AssembleFault>;
 
 /// A page that is being assembled, by whoever has it: one thread at a time, not always the same one. It has fetches in
-/// flight, and holds no thread while it waits for them. One that is dropped gives them up.
+/// flight, and holds no thread while it waits for them. One that is dropped gives them up, by its own runtime.
 pub struct PageInProgress<R: Wait + Drop, S: ConcurrentSource<R> + Drop> {
     pub(crate) work: Work<R, S>,
 }
@@ -61,20 +61,22 @@ impl<R: Wait, S: ConcurrentSource<R>> Posted<R, S> {
     // The same once nothing can be done without waiting, or the work has ended; and whether it has, and how.
     fn worked(
         self,
-        rt: &R,
-        alloc: Global,
-        under_way: &mut UnderWay<S::InFlight>,
+        under_way: &mut UnderWay<R, S::InFlight>,
     ) -> (Posted<R, S>, Result<bool, AssembleFault>)
-        ensures { result.0.source ≡ self.source }
+        ensures source { result.0.source ≡ self.source }
+        ensures url { under_way.new.url ≡ under_way.old.url }
+        ensures request { under_way.new.request ≡ under_way.old.request }
+        ensures levels { under_way.new.levels ≡ under_way.old.levels }
     {
         self.known();
+        let alloc = under_way.alloc;
         let Posted {
             source,
             mut own,
             runtime: _,
         } = self;
         let worker = Worker {
-            rt,
+            rt: &under_way.rt,
             alloc,
             source: &source,
             gate: &OpenGate,
@@ -101,36 +103,24 @@ impl<R: Wait, S: ConcurrentSource<R>> Posted<R, S> {
     }
 }
 
-// What a page has under way. It lies in a box, so that a page is moved at little cost.
-struct UnderWay<F> {
+// What a page has under way, and what was asked for.
+struct UnderWay<R, F> {
+    rt: R,
+    alloc: Global,
     // The page, whose desk nobody else shares.
     desk: SharedDesk,
     flights: Flights<F>,
     // How many fetches it may have in flight.
     most: u16,
-}
-
-impl<F> UnderWay<F> {
-    fn into_fetches(self) -> F {
-        let UnderWay {
-            desk: _,
-            flights,
-            most: _,
-        } = self;
-        flights.into_fetches()
-    }
-}
-
-// The work for a page.
-pub(crate) struct Work<R: Wait + Drop, S: ConcurrentSource<R> + Drop> {
-    rt: R,
-    alloc: Global,
-    posted: Posted<R, S>,
-    under_way: Box<UnderWay<S::InFlight>>,
-    // What was asked for.
     url: PageUrl,
     request: Request,
     levels: u8,
+}
+
+// The work for a page. Most of it lies in a box, so that a page is moved at little cost.
+pub(crate) struct Work<R: Wait + Drop, S: ConcurrentSource<R> + Drop> {
+    posted: Posted<R, S>,
+    under_way: Box<UnderWay<R, S::InFlight>>,
 }
 
 impl<R: Wait + Drop, S: ConcurrentSource<R> + Drop> Drop for PageInProgress<R, S> {
@@ -153,53 +143,51 @@ impl<R: Wait + Drop, S: ConcurrentSource<R> + Drop> PageInProgress<R, S> {
         levels: u8,
     ) -> Result<PageInProgress<R, S>, NoMemory>
         ensures source { IfOk result (λ page. page.work.posted.source ≡ source) }
-        ensures url { IfOk result (λ page. page.work.url ≡ url) }
-        ensures request { IfOk result (λ page. page.work.request ≡ request) }
-        ensures levels { IfOk result (λ page. page.work.levels ≡ levels) }
+        ensures url { IfOk result (λ page. (box_value page.work.under_way).url ≡ url) }
+        ensures request { IfOk result (λ page. (box_value page.work.under_way).request ≡ request) }
+        ensures levels { IfOk result (λ page. (box_value page.work.under_way).levels ≡ levels) }
     {
-        let under_way = UnderWay {
-            desk: SharedDesk::new(alloc, page, 1),
-            flights: Flights {
-                fetches: source.nothing_in_flight(&rt, alloc),
-                tickets: Vec::new(alloc),
-            },
-            most,
+        let flights = Flights {
+            fetches: source.nothing_in_flight(&rt, alloc),
+            tickets: Vec::new(alloc),
         };
-        let under_way = match Box::new(alloc, under_way) {
-            Ok(under_way) => under_way,
-            Err(failed) => {
-                source.give_up(&rt, alloc, failed.value.into_fetches());
-                return Err(NoMemory);
-            }
+        let under_way = UnderWay {
+            rt,
+            alloc,
+            desk: SharedDesk::new(alloc, page, 1),
+            flights,
+            most,
+            url,
+            request,
+            levels,
         };
         let posted = Posted {
             source,
             own: Vec::new(alloc),
             runtime: PhantomData,
         };
-        let work = Work {
-            rt,
-            alloc,
-            posted,
-            under_way,
-            url,
-            request,
-            levels,
-        };
-        Ok(PageInProgress { work })
+        match Box::new(alloc, under_way) {
+            Ok(under_way) => Ok(PageInProgress {
+                work: Work { posted, under_way },
+            }),
+            Err(failed) => {
+                owing_of(posted, failed.value).give_up();
+                Err(NoMemory)
+            }
+        }
     }
 
     /// Goes on as far as it gets without waiting for a fetch. The page comes back if it is to be gone on with, once what
     /// it waits for has moved: see `awaited`.
     pub fn go_on(self) -> Result<Ended<R, S>, PageInProgress<R, S>>
         ensures page { IfOk result (λ ended. IfOk ended.made (λ page.
-            IsAssembled (S.gives self.work.posted.source) self.work.request self.work.levels self.work.url (map arc_value page.log.items) (shown (arc_value page.outcome)))) }
+            IsAssembled (S.gives self.work.posted.source) (box_value self.work.under_way).request (box_value self.work.under_way).levels (box_value self.work.under_way).url (map arc_value page.log.items) (shown (arc_value page.outcome)))) }
         ensures ways { IfOk result (λ ended. IfOk ended.made (λ page. AreWaysOf (map arc_value page.log.items) page.ways)) }
-        ensures failed_leg { IfOk result (λ ended. IfOk ended.made (λ page. IsFailedLeg self.work.request self.work.levels self.work.url (map arc_value page.log.items) (shown (arc_value page.outcome)) (option_map arc_value page.failed_leg))) }
+        ensures failed_leg { IfOk result (λ ended. IfOk ended.made (λ page. IsFailedLeg (box_value self.work.under_way).request (box_value self.work.under_way).levels (box_value self.work.under_way).url (map arc_value page.log.items) (shown (arc_value page.outcome)) (option_map arc_value page.failed_leg))) }
         ensures source { IfErr result (λ page. page.work.posted.source ≡ self.work.posted.source) }
-        ensures url { IfErr result (λ page. page.work.url ≡ self.work.url) }
-        ensures request { IfErr result (λ page. page.work.request ≡ self.work.request) }
-        ensures levels { IfErr result (λ page. page.work.levels ≡ self.work.levels) }
+        ensures url { IfErr result (λ page. (box_value page.work.under_way).url ≡ (box_value self.work.under_way).url) }
+        ensures request { IfErr result (λ page. (box_value page.work.under_way).request ≡ (box_value self.work.under_way).request) }
+        ensures levels { IfErr result (λ page. (box_value page.work.under_way).levels ≡ (box_value self.work.under_way).levels) }
     {
         let PageInProgress { work } = self;
         let (work, has_ended) = work.worked();
@@ -213,9 +201,9 @@ impl<R: Wait + Drop, S: ConcurrentSource<R> + Drop> PageInProgress<R, S> {
     /// What it waits for; `None` where only `wait` tells.
     pub fn awaited(&mut self) -> Option<Awaited>
         ensures source { self.new.work.posted.source ≡ self.old.work.posted.source }
-        ensures url { self.new.work.url ≡ self.old.work.url }
-        ensures request { self.new.work.request ≡ self.old.work.request }
-        ensures levels { self.new.work.levels ≡ self.old.work.levels }
+        ensures url { (box_value self.new.work.under_way).url ≡ (box_value self.old.work.under_way).url }
+        ensures request { (box_value self.new.work.under_way).request ≡ (box_value self.old.work.under_way).request }
+        ensures levels { (box_value self.new.work.under_way).levels ≡ (box_value self.old.work.under_way).levels }
     {
         self.work.awaited()
     }
@@ -223,9 +211,9 @@ impl<R: Wait + Drop, S: ConcurrentSource<R> + Drop> PageInProgress<R, S> {
     /// Waits until it may be gone on with, or for `most`, where there is one.
     pub fn wait(&mut self, most: Option<Duration>)
         ensures source { self.new.work.posted.source ≡ self.old.work.posted.source }
-        ensures url { self.new.work.url ≡ self.old.work.url }
-        ensures request { self.new.work.request ≡ self.old.work.request }
-        ensures levels { self.new.work.levels ≡ self.old.work.levels }
+        ensures url { (box_value self.new.work.under_way).url ≡ (box_value self.old.work.under_way).url }
+        ensures request { (box_value self.new.work.under_way).request ≡ (box_value self.old.work.under_way).request }
+        ensures levels { (box_value self.new.work.under_way).levels ≡ (box_value self.old.work.under_way).levels }
     {
         self.work.wait(most);
     }
@@ -235,52 +223,35 @@ impl<R: Wait + Drop, S: ConcurrentSource<R> + Drop> Work<R, S> {
     // The same once nothing can be done without waiting, or the work has ended; and whether it has, and how.
     fn worked(self) -> (Work<R, S>, Result<bool, AssembleFault>)
         ensures source { result.0.posted.source ≡ self.posted.source }
-        ensures url { result.0.url ≡ self.url }
-        ensures request { result.0.request ≡ self.request }
-        ensures levels { result.0.levels ≡ self.levels }
+        ensures url { (box_value result.0.under_way).url ≡ (box_value self.under_way).url }
+        ensures request { (box_value result.0.under_way).request ≡ (box_value self.under_way).request }
+        ensures levels { (box_value result.0.under_way).levels ≡ (box_value self.under_way).levels }
     {
         let Work {
-            rt,
-            alloc,
             posted,
             mut under_way,
-            url,
-            request,
-            levels,
         } = self;
-        let (posted, has_ended) = posted.worked(&rt, alloc, &mut *under_way);
-        let work = Work {
-            rt,
-            alloc,
-            posted,
-            under_way,
-            url,
-            request,
-            levels,
-        };
-        (work, has_ended)
+        let (posted, has_ended) = posted.worked(&mut *under_way);
+        (Work { posted, under_way }, has_ended)
     }
 
     // What has come of the page, once its work has ended.
     fn ended(self) -> Ended<R, S>
         ensures page { IfOk result.made (λ page.
-            IsAssembled (S.gives self.posted.source) self.request self.levels self.url (map arc_value page.log.items) (shown (arc_value page.outcome))) }
+            IsAssembled (S.gives self.posted.source) (box_value self.under_way).request (box_value self.under_way).levels (box_value self.under_way).url (map arc_value page.log.items) (shown (arc_value page.outcome))) }
         ensures ways { IfOk result.made (λ page. AreWaysOf (map arc_value page.log.items) page.ways) }
-        ensures failed_leg { IfOk result.made (λ page. IsFailedLeg self.request self.levels self.url (map arc_value page.log.items) (shown (arc_value page.outcome)) (option_map arc_value page.failed_leg)) }
+        ensures failed_leg { IfOk result.made (λ page. IsFailedLeg (box_value self.under_way).request (box_value self.under_way).levels (box_value self.under_way).url (map arc_value page.log.items) (shown (arc_value page.outcome)) (option_map arc_value page.failed_leg)) }
     {
-        let Work {
+        let Work { posted, under_way } = self;
+        let UnderWay {
             rt,
             alloc,
-            posted,
-            under_way,
-            url,
-            request,
-            levels,
-        } = self;
-        let UnderWay {
             desk,
             flights,
             most: _,
+            url,
+            request,
+            levels,
         } = Box::into_inner(under_way);
         posted.known();
         let Posted {
@@ -314,52 +285,64 @@ impl<R: Wait + Drop, S: ConcurrentSource<R> + Drop> Work<R, S> {
 
     // What is in flight.
     fn into_owing(self) -> Owing<R, S> {
-        let Work {
-            rt,
-            alloc,
-            posted,
-            under_way,
-            url: _,
-            request: _,
-            levels: _,
-        } = self;
-        let Posted {
-            source,
-            own: _,
-            runtime: _,
-        } = posted;
-        Owing {
-            rt,
-            alloc,
-            source,
-            fetches: Box::into_inner(under_way).into_fetches(),
-        }
+        let Work { posted, under_way } = self;
+        owing_of(posted, Box::into_inner(under_way))
     }
 
     fn awaited(&mut self) -> Option<Awaited>
         ensures source { self.new.posted.source ≡ self.old.posted.source }
-        ensures url { self.new.url ≡ self.old.url }
-        ensures request { self.new.request ≡ self.old.request }
-        ensures levels { self.new.levels ≡ self.old.levels }
+        ensures url { (box_value self.new.under_way).url ≡ (box_value self.old.under_way).url }
+        ensures request { (box_value self.new.under_way).request ≡ (box_value self.old.under_way).request }
+        ensures levels { (box_value self.new.under_way).levels ≡ (box_value self.old.under_way).levels }
     {
         let posted = &self.posted;
         let under_way = &mut *self.under_way;
+        let alloc = under_way.alloc;
         posted
             .source
-            .awaited(&self.rt, self.alloc, &mut under_way.flights.fetches)
+            .awaited(&under_way.rt, alloc, &mut under_way.flights.fetches)
     }
 
     fn wait(&mut self, most: Option<Duration>)
         ensures source { self.new.posted.source ≡ self.old.posted.source }
-        ensures url { self.new.url ≡ self.old.url }
-        ensures request { self.new.request ≡ self.old.request }
-        ensures levels { self.new.levels ≡ self.old.levels }
+        ensures url { (box_value self.new.under_way).url ≡ (box_value self.old.under_way).url }
+        ensures request { (box_value self.new.under_way).request ≡ (box_value self.old.under_way).request }
+        ensures levels { (box_value self.new.under_way).levels ≡ (box_value self.old.under_way).levels }
     {
         // Without memory for what is told, the page is gone on with at once.
         let posted = &self.posted;
         let under_way = &mut *self.under_way;
+        let alloc = under_way.alloc;
         let _ = posted
             .source
-            .wait(&self.rt, self.alloc, &mut under_way.flights.fetches, most);
+            .wait(&under_way.rt, alloc, &mut under_way.flights.fetches, most);
+    }
+}
+
+// What is in flight for a page.
+fn owing_of<R: Wait + Drop, S: ConcurrentSource<R> + Drop>(
+    posted: Posted<R, S>,
+    under_way: UnderWay<R, S::InFlight>,
+) -> Owing<R, S> {
+    let Posted {
+        source,
+        own: _,
+        runtime: _,
+    } = posted;
+    let UnderWay {
+        rt,
+        alloc,
+        desk: _,
+        flights,
+        most: _,
+        url: _,
+        request: _,
+        levels: _,
+    } = under_way;
+    Owing {
+        rt,
+        alloc,
+        source,
+        fetches: flights.into_fetches(),
     }
 }

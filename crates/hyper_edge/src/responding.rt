@@ -1,6 +1,6 @@
 //! From the head of a request to its response.
 
-ghost use Rattle.std.specs.Prelude.{◌≡◌, ◌⊎◌, IfOk, IfErr, IfSome, MatchOption, Some};
+ghost use Rattle.std.specs.Prelude.{◌≡◌, ◌⊎◌, box_value, IfOk, IfErr, IfSome, MatchOption, Some};
 ghost use Rattle.std.specs.Arc.{arc_value};
 ghost use Rattle.page_http.specs.Sent.{IsRefusal, Tells, refusal, sent};
 ghost use Rattle.hyper_edge.specs.Responses as spec;
@@ -178,9 +178,9 @@ where
     ensures at_once { IfOk result (λ begun. IfOk begun (λ responded.
         spec.Responds (S.gives source) head.now.method.now head.now.target.now head.now.fields.now how.levels (sent responded.response))) }
     ensures page { IfOk result (λ begun. IfErr begun (λ page.
-        spec.IsAskedFor head.now.method.now head.now.target.now head.now.fields.now page.work.url page.work.request)) }
+        spec.IsAskedFor head.now.method.now head.now.target.now head.now.fields.now (box_value page.work.under_way).url (box_value page.work.under_way).request)) }
     ensures source { IfOk result (λ begun. IfErr begun (λ page. page.work.posted.source ≡ source)) }
-    ensures levels { IfOk result (λ begun. IfErr begun (λ page. page.work.levels ≡ how.levels)) }
+    ensures levels { IfOk result (λ begun. IfErr begun (λ page. (box_value page.work.under_way).levels ≡ how.levels)) }
 {
     if how.fetches == 1 {
         return Ok(Ok(respond_with_log(&rt, alloc, &source, head, how)?));
@@ -216,11 +216,11 @@ where
     S: ConcurrentSource<R> + Drop,
     ensures told { IfOk result (λ went. IfOk went (λ told.
         (sent told.responded.response ≡ refusal 503)
-        ⊎ spec.TellsPageAt (S.gives page.work.posted.source) page.work.url page.work.request page.work.levels (sent told.responded.response))) }
+        ⊎ spec.TellsPageAt (S.gives page.work.posted.source) (box_value page.work.under_way).url (box_value page.work.under_way).request (box_value page.work.under_way).levels (sent told.responded.response))) }
     ensures source { IfOk result (λ went. IfErr went (λ left. left.work.posted.source ≡ page.work.posted.source)) }
-    ensures url { IfOk result (λ went. IfErr went (λ left. left.work.url ≡ page.work.url)) }
-    ensures request { IfOk result (λ went. IfErr went (λ left. left.work.request ≡ page.work.request)) }
-    ensures levels { IfOk result (λ went. IfErr went (λ left. left.work.levels ≡ page.work.levels)) }
+    ensures url { IfOk result (λ went. IfErr went (λ left. (box_value left.work.under_way).url ≡ (box_value page.work.under_way).url)) }
+    ensures request { IfOk result (λ went. IfErr went (λ left. (box_value left.work.under_way).request ≡ (box_value page.work.under_way).request)) }
+    ensures levels { IfOk result (λ went. IfErr went (λ left. (box_value left.work.under_way).levels ≡ (box_value page.work.under_way).levels)) }
 {
     match page.go_on() {
         Ok(Ended { made, owed }) => match made {
