@@ -15,6 +15,7 @@ use origin_queue::Place;
 use slab::Slab;
 use std::alloc::Global;
 use std::collections::VecDeque;
+use std::mem;
 use std::sync::{Arc, Wait};
 use std::time::{Clock, Duration, Instant};
 
@@ -30,6 +31,8 @@ pub struct FetchesInFlight {
     pub(crate) answers: VecDeque<Arc<Answer>>,
     // What is to be fetched once its address lets it through.
     queued: VecDeque<Queued>,
+    // Whether a wait has just told what there is to tell.
+    has_told: bool,
 }
 
 /// A fetch that is to be made.
@@ -103,6 +106,7 @@ impl FetchesInFlight {
             due: VecDeque::new(alloc),
             answers: VecDeque::new(alloc),
             queued: VecDeque::new(alloc),
+            has_told: false,
         }
     }
 
@@ -188,11 +192,21 @@ impl FetchesInFlight {
         most: Option<Duration>,
     ) -> Result<(), NoMemory> {
         let patience = at_most(self.patience(clock), most);
-        self.look(clock, patience)
+        self.told(clock, patience)?;
+        self.has_told = true;
+        Ok(())
     }
 
-    /// The same, for at most so many milliseconds, or as long as it takes if below 0.
-    pub(crate) fn look(&mut self, clock: &impl Clock, millis: i32) -> Result<(), NoMemory> {
+    /// Looks once which fetches are to have a turn, and doesn't wait. After a wait there is nothing new to see.
+    pub(crate) fn look(&mut self, clock: &impl Clock) -> Result<(), NoMemory> {
+        if mem::replace(&mut self.has_told, false) {
+            return Ok(());
+        }
+        self.told(clock, 0)
+    }
+
+    // Lists what is to have a turn, after at most this many milliseconds, or as long as it takes if below 0.
+    fn told(&mut self, clock: &impl Clock, millis: i32) -> Result<(), NoMemory> {
         if let Some(poller) = &self.poller {
             poller.wait(millis, &mut self.due)?;
         }
@@ -264,6 +278,7 @@ impl FetchesInFlight {
             due: _,
             answers: _,
             mut queued,
+            has_told: _,
         } = self;
         // Before the permits, which would call them.
         leave_each(rt, &mut queued);

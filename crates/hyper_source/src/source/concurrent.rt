@@ -344,7 +344,7 @@ where
         Ok(())
     }
 
-    // It looks for what has moved, and takes a ring of the bell by that.
+    // It looks for what has moved, and takes a ring of the bell by that, unless a wait has just done so.
     fn next(
         &self,
         rt: &R,
@@ -360,7 +360,7 @@ where
                 Some(key) => self.turned(rt, alloc, in_flight, key)?,
                 None if has_looked && !in_flight.goes_on() => return Ok(None),
                 None => {
-                    in_flight.look(rt, 0)?;
+                    in_flight.look(rt)?;
                     self.looked_at_queue(rt, alloc, in_flight)?;
                     has_looked = true;
                     None
