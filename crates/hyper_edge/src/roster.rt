@@ -285,12 +285,15 @@ impl Roster {
         self.accepting.has_spare()
     }
 
-    /// Whether a thread may wait for what is fetched for a page of a connection that it accepted: there are threads in
-    /// reserve.
-    pub(crate) fn may_linger(&self) -> bool
-        ensures { IsTrue result ↔ HasReserve self.now.accepting }
+    /// Whether a thread that does this work may wait for what is fetched for a page: there are threads for it in reserve.
+    pub(crate) fn may_linger(&self, work: Work) -> bool
+        ensures accepting { work ≡ kind.Accepting → IsTrue result ↔ HasReserve self.now.accepting }
+        ensures resuming { work ≡ kind.Resuming → IsTrue result ↔ HasReserve self.now.resuming }
     {
-        self.accepting.has_reserve()
+        match work {
+            Work::Accepting => self.accepting.has_reserve(),
+            Work::Resuming => self.resuming.has_reserve(),
+        }
     }
 
     /// Whether no more accepts are begun.

@@ -11,7 +11,7 @@ use crate::parking::{ParkingPlace, Waiting};
 use crate::roster::{Admission, AfterFailure, Capacity, Roster, ServeEnd, Work};
 use crate::runtime::ServerRuntime;
 use crate::serving::{Served, Serving, Session};
-use crate::shared_roster::{SharedRoster, Wanted};
+use crate::shared_roster::{Duty, SharedRoster, Wanted};
 use crate::signals::Pause;
 use crate::turn::Owed;
 use fetch_workers::{ConcurrentSource, OnBehalf};
@@ -303,13 +303,12 @@ where
     }
 
     // Serves a connection by a thread that does this work, until it has ended or is parked. Without room for that, it ends.
-    // Once it was parked, no thread waits for its fetches: they have taken long before.
     fn go_on(&self, session: Session<F, R, S>, executor: &mut Executor, work: Work) {
-        let roster = match work {
-            Work::Accepting => Some(&self.roster),
-            Work::Resuming => None,
+        let duty = Duty {
+            roster: &self.roster,
+            work,
         };
-        let Served { left, owed } = self.serving.serve(session, executor, roster);
+        let Served { left, owed } = self.serving.serve(session, executor, Some(duty));
         match left {
             Some((session, pause)) => self.park_connection(session, pause),
             None => self.ended(),

@@ -8,7 +8,7 @@ use crate::handover::{Handover, HandsOver};
 use crate::journal::{Journal, NoJournal, Unreported, refused_head};
 use crate::page_time::WithinTime;
 use crate::service::EdgeService;
-use crate::shared_roster::SharedRoster;
+use crate::shared_roster::Duty;
 use crate::signals::{Pause, Signals};
 use crate::turn::{Halt, Owed, PageAsked, Turn};
 use fetch_workers::{ConcurrentSource, OnBehalf};
@@ -159,13 +159,13 @@ where
         })
     }
 
-    /// Serves a connection until it has ended, or has to wait for its client, or for fetches. Fetches are first waited for
-    /// in the thread, as long as the roster lets pages linger; without one they aren't.
+    /// Serves a connection until it has ended, or has to wait for its client, or for fetches. Those of a new page are first
+    /// waited for in the thread, as long as its duty lets pages linger; without one they aren't.
     pub(crate) fn serve<F>(
         &self,
         session: Session<F, R, S>,
         executor: &mut Executor,
-        roster: Option<&SharedRoster>,
+        duty: Option<Duty<'_>>,
     ) -> Served<F, R, S>
     where
         F: Future<Output = hyper::Result<()>>,
@@ -176,9 +176,9 @@ where
             client,
             unreported,
         } = session;
-        let mut turn = Turn::new(self, roster, client, unreported);
+        let mut turn = Turn::new(self, duty, client, unreported);
         let mut halt = match page {
-            Some(asked) => turn.paged(Box::into_inner(asked), &connection),
+            Some(asked) => turn.resumed(Box::into_inner(asked), &connection),
             None => None,
         };
         for _ in self.rt.forever() {

@@ -31,6 +31,20 @@ pub(crate) struct SharedRoster {
     room: Condvar,
 }
 
+/// The work that a thread does, and the roster that counts it.
+#[derive(Drop)]
+pub(crate) struct Duty<'r> {
+    pub roster: &'r SharedRoster,
+    pub work: Work,
+}
+
+impl<'r> Duty<'r> {
+    /// Whether a page may hold the thread while it waits for its fetches.
+    pub(crate) fn may_linger(&self, rt: &impl Wait) -> bool {
+        self.roster.roster.lock(rt).may_linger(self.work)
+    }
+}
+
 impl SharedRoster {
     pub(crate) fn new(roster: Roster) -> SharedRoster {
         SharedRoster {
@@ -105,10 +119,6 @@ impl SharedRoster {
 
     pub(crate) fn lacks(&self, rt: &impl Wait, work: Work) -> bool {
         self.roster.lock(rt).lacks(work)
-    }
-
-    pub(crate) fn may_linger(&self, rt: &impl Wait) -> bool {
-        self.roster.lock(rt).may_linger()
     }
 
     pub(crate) fn is_done(&self, rt: &impl Wait) -> bool {

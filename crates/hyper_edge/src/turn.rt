@@ -6,7 +6,7 @@ use crate::journal::{Journal, Unreported};
 use crate::page_time::WithinTime;
 use crate::responding::{Responded, Told, go_on_with};
 use crate::serving::Serving;
-use crate::shared_roster::SharedRoster;
+use crate::shared_roster::Duty;
 use crate::signals::Pause;
 use edge_types::NoMemory;
 use fetch_workers::{ConcurrentSource, OnBehalf, OwedFetches, PageInProgress};
@@ -74,7 +74,7 @@ where
 {
     serving: &'t Serving<'a, R, S, J>,
     // What knows whether a page may hold the thread while it waits for its fetches; without it none may.
-    roster: Option<&'t SharedRoster>,
+    duty: Option<Duty<'t>>,
     /// The client, where it is known.
     pub client: Option<IpAddr>,
     /// What is to be reported.
@@ -92,13 +92,13 @@ where
     /// A turn at a connection of this client, of whose requests this is to be reported.
     pub(crate) fn new(
         serving: &'t Serving<'a, R, S, J>,
-        roster: Option<&'t SharedRoster>,
+        duty: Option<Duty<'t>>,
         client: Option<IpAddr>,
         unreported: Vec<Unreported>,
     ) -> Turn<'t, 'a, R, S, J> {
         Turn {
             serving,
-            roster,
+            duty,
             client,
             unreported,
             owed: Vec::new(serving.service.alloc()),
@@ -154,7 +154,7 @@ where
             .service
             .begin(&request.asked.head, connection.socket())
         {
-            Ok(Err(page)) => return self.paged(PageAsked { page, request }, connection),
+            Ok(Err(page)) => return self.paged(page, request, connection),
             Ok(Ok(responded)) => {
                 let answered = self.answered(responded, &request);
                 connection.handover().answer(answered);
@@ -164,9 +164,23 @@ where
         None
     }
 
-    /// Goes on with a page until its response was given to the connection, or it has to wait for its fetches for longer
-    /// than the thread may linger.
-    pub(crate) fn paged<F>(
+    // Goes on with a page from its beginning: the thread may linger for its fetches.
+    fn paged<F>(
+        &mut self,
+        page: PageInProgress<R, WithinTime<S>>,
+        request: Requested,
+        connection: &Connection<F>,
+    ) -> Option<Halt<R, S>>
+    where
+        F: Future<Output = hyper::Result<()>>,
+    {
+        let waiting = self.gone_on(page, &request, connection)?;
+        let lingers = Lingers::begun(self.serving.rt);
+        self.waited(waiting, request, lingers, connection)
+    }
+
+    /// Goes on with a page that was parked. Its fetches have taken long before, so that the thread doesn't linger.
+    pub(crate) fn resumed<F>(
         &mut self,
         asked: PageAsked<R, S>,
         connection: &Connection<F>,
@@ -175,9 +189,24 @@ where
         F: Future<Output = hyper::Result<()>>,
     {
         let PageAsked { page, request } = asked;
-        let mut waiting = self.gone_on(page, &request, connection)?;
+        let waiting = self.gone_on(page, &request, connection)?;
+        self.waited(waiting, request, Lingers::not(), connection)
+    }
+
+    // Goes on with a page that waits for its fetches, until its response was given to the connection, or it has to wait for
+    // longer than the thread may linger.
+    fn waited<F>(
+        &mut self,
+        page: PageInProgress<R, WithinTime<S>>,
+        request: Requested,
+        lingers: Lingers,
+        connection: &Connection<F>,
+    ) -> Option<Halt<R, S>>
+    where
+        F: Future<Output = hyper::Result<()>>,
+    {
         let rt = self.serving.rt;
-        let lingers = Lingers::begun(rt);
+        let mut waiting = page;
         for _ in rt.forever() {
             if lingers.lasts(rt) && self.may_linger() {
                 waiting.wait(Some(Duration::from_millis(STEP_MILLIS)));
@@ -219,8 +248,8 @@ where
 
     // Whether there are threads in reserve, so that a page may hold this one.
     fn may_linger(&self) -> bool {
-        match self.roster {
-            Some(roster) => roster.may_linger(self.serving.rt),
+        match &self.duty {
+            Some(duty) => duty.may_linger(self.serving.rt),
             None => false,
         }
     }
@@ -290,7 +319,7 @@ where
     }
 }
 
-// Until when a page may hold its thread; `None` where the clock can't be read, and it may not.
+// Until when a page may hold its thread; `None` where it may not, as where the clock can't be read.
 #[derive(Clone, Copy)]
 struct Lingers {
     until: Option<Instant>,
@@ -304,6 +333,11 @@ impl Lingers {
             Err(_) => None,
         };
         Lingers { until }
+    }
+
+    // Not at all.
+    fn not() -> Lingers {
+        Lingers { until: None }
     }
 
     fn lasts(self, clock: &impl Clock) -> bool {
