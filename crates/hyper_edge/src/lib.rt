@@ -36,6 +36,7 @@ pub use client_stream::ClientStream;
 pub use exchange::Limits;
 pub use executor::Executor;
 pub use journal::{Journal, NoJournal};
+// For whoever serves. `hyper_source` isn't among these: a server needs no client of HTTP.
 pub use page_http::{
     EdgeBody, Field, HeadFault, answer_head, has_passed, passed_edges, refusal_of, response_of,
 };

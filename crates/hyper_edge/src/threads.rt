@@ -44,8 +44,8 @@ use tokio::io::{AsyncRead, AsyncWrite};
 /// Where the acceptor keeps connections, each serves one request after another.
 ///
 /// Each request that was answered is reported to the journal by the thread that served it, once its
-/// response has been written or its connection has ended. What never became a request, or what the HTTP
-/// library answered on its own, isn't reported.
+/// response has been written or its connection has ended; so is a head that the HTTP library refused, as
+/// far as it tells of that.
 ///
 /// Our profile.
 pub fn serve_accepts<'a, R, A, S, J>(
@@ -104,7 +104,8 @@ where
     server.end()
 }
 
-// Starts threads as they are wanted, and joins them.
+// Starts threads as they are wanted, and joins them. The calling thread starts all: one that started another would call
+// itself in a circle.
 fn start_all<R, A, S, J, F, M>(rt: &R, server: &Server<'_, R, A, S, J, F>, opens: &M)
 where
     R: ServerRuntime + Send + Sync,

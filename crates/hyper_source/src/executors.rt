@@ -9,7 +9,8 @@ use std::sync::{Mutex, Wait};
 /// Runs the futures of one fetch at a time.
 pub(crate) type Executor = LocalPool<Ready<()>>;
 
-/// Executors that no fetch needs now. To make one costs more than to keep it.
+/// Executors that no fetch needs now, under a lock, since a thread has no place to keep one. To make one takes a call for
+/// random bytes, so it is kept.
 #[derive(Drop)]
 pub(crate) struct IdleExecutors {
     free: Mutex<Vec<Executor>>,

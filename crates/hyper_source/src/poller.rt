@@ -151,7 +151,7 @@ impl Poller {
     }
 }
 
-/// Pollers that no page needs now. To make one costs more than to keep it.
+/// Pollers that no page needs now. To make one takes descriptors and a call for random bytes, so it is kept.
 #[derive(Drop)]
 pub(crate) struct IdlePollers {
     free: Mutex<Vec<Poller>>,
