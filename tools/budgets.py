@@ -1,6 +1,7 @@
 """Words that documents may have, as docs/budget says: a line for each, WORDS PATH. A path with `*` gives the words that all its documents have together, or with `each` each of them. `all` gives those of all documents but the printed ones."""
 import fnmatch
 import os
+import subprocess
 
 from contracts import TOP
 from wrong_edits import text_of
@@ -11,7 +12,10 @@ ASIDE = ("out", "target", "node_modules")
 
 
 def documents():
-    """The paths of all documents of the repository."""
+    """The paths of all documents of the repository: those that git knows, or all that are there outside of a checkout."""
+    ran = subprocess.run(["git", "-C", TOP, "ls-files", "*.md"], stdout=subprocess.PIPE, stderr=subprocess.DEVNULL, text=True)
+    if ran.returncode == 0 and ran.stdout:
+        return ran.stdout.splitlines()
     found = []
     for at, folders, names in os.walk(TOP):
         folders[:] = [it for it in folders if it not in ASIDE and not it.startswith(".")]
