@@ -6,7 +6,7 @@ use Rattle.hyper_source.proofs.source.HyperSource.TheSendSync as HyperSource
 use Rattle.hyper_source.proofs.notes.FetchNotes.TheSendSync as FetchNotes
 use Rattle.access_log.proofs.queue.LineQueue.TheSendSync as LineQueue
 use Rattle.edge_metrics.proofs.history.History.TheSendSync as History
-use Rattle.fetch_workers.proofs.Crossings.{caches_cross}
+use Rattle.shared_cache.proofs.Crossings.{caches_cross}
 use Rattle.edge_main.specs.contracts.measures.Measures as measures
 use Rattle.edge_main.specs.contracts.reports.Reports as reports
 

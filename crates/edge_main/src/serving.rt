@@ -14,12 +14,14 @@ use access_log::LogFormat;
 use edge_setup::{Addresses, Origin, Place};
 use edge_types::NoMemory;
 use failed_answers::{SharedFailures, SparingSource};
-use fetch_workers::{Assembling, Cache, UrlHashing};
+use fetch_workers::Assembling;
+use fragment_cache::UrlHashing;
 use hyper_edge::{
     Capacity, EdgeService, Journal, Limits, ServeEnd, ServerRuntime, Sockets, serve_accepts,
 };
 use hyper_source::{EdgeName, FetchNotes, HyperSource};
 use operator_http::Operated;
+use shared_cache::Cache;
 use std::alloc::{AllocGlobal, Global};
 use std::fs::File;
 use std::io::{Eprint, Print};
@@ -377,7 +379,7 @@ where
 #[derive(Clone, Copy)]
 pub(crate) struct MonotonicSeconds;
 
-impl<R: Clock> fetch_workers::Clock<R> for MonotonicSeconds {
+impl<R: Clock> answer_sources::Clock<R> for MonotonicSeconds {
     fn now(&self, rt: &R) -> u64 {
         match rt.monotonic() {
             Ok(time) => time.as_secs(),

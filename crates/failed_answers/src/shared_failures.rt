@@ -4,8 +4,8 @@ ghost use Rattle.std.specs.Prelude.{◌≡◌, false, nat_lt, IfOk, IfSome, None
 ghost use Rattle.std.specs.Arc.{arc_value};
 
 use crate::failed_answers::FailedAnswers;
+use answer_sources::{Clock, Found};
 use edge_types::{Answer, NoMemory, PageUrl};
-use fetch_workers::{Clock, Found};
 use std::alloc::Global;
 use std::marker::Model;
 use std::sync::{Arc, Mutex, Wait};

@@ -3,8 +3,8 @@
 ghost use Rattle.std.specs.Prelude.{◌≡◌};
 
 use crate::shared_failures::SharedFailures;
+use answer_sources::{Awaited, Bell, Clock, ConcurrentSource, Found, Given, OnBehalf, Source};
 use edge_types::{Answer, NoMemory, PageUrl};
-use fetch_workers::{Awaited, Bell, Clock, ConcurrentSource, Found, Given, OnBehalf, Source};
 use std::alloc::Global;
 use std::sync::{Arc, Wait};
 use std::time::Duration;

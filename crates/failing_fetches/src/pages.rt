@@ -6,10 +6,10 @@
 use crate::sources::{cache, print_again, table};
 use allocation_tools::printing::{answers, calls, out_of_memory, print_outcome, word};
 use allocation_tools::values::{request, url};
+use answer_sources::{ConcurrentSource, OpenGate, Source, TableSource};
 use edge_types::{NoMemory, Table};
 use fetch_workers::{
-    AssembleFault, Assembled, Assembling, ConcurrentSource, Ended, Made, OpenGate, PageInProgress,
-    Source, TableSource, assemble, assemble_gated,
+    AssembleFault, Assembled, Assembling, Ended, Made, PageInProgress, assemble, assemble_gated,
 };
 use http::Response;
 use http_body::Body;

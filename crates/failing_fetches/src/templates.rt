@@ -3,8 +3,8 @@
 use crate::sources::cache;
 use allocation_tools::printing::{answers, calls, out_of_memory, word};
 use allocation_tools::values::{answer, stored};
+use answer_sources::Source;
 use edge_types::{Answer, Control, NoMemory};
-use fetch_workers::Source;
 use plan_compiler::{Form, Prepared};
 use std::alloc::{AllocGlobal, Global};
 use std::io::Print;

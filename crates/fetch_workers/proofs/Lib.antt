@@ -1,4 +1,3 @@
-pub mod Replies
 pub mod Filled
 pub mod Posted
 pub mod Crossings

@@ -2,9 +2,10 @@
 use Rattle.std.proofs.Common.{◌≡◌, List, [], ◌∷◌, ◌++◌, length, map, refl, sym, ◌∙◌, ap}
 use Rattle.std.proofs.lemmas.List.{length-map, map-append}
 use Rattle.edge_types.specs.Answered.{Answered}
-use Rattle.fetch_workers.specs.Ways.{counted, counted_all, counts_of, no_way}
-use Rattle.fetch_workers.specs.declared.given.Way.{Way}
-use Rattle.fetch_workers.specs.declared.given.WayCounts.{WayCounts}
+use Rattle.answer_sources.specs.Ways.{counted, no_way}
+use Rattle.fetch_workers.specs.Ways.{counted_all, counts_of}
+use Rattle.answer_sources.specs.declared.given.Way.{Way}
+use Rattle.answer_sources.specs.declared.given.WayCounts.{WayCounts}
 use Rattle.fetch_workers.specs.declared.log.Own.{Own}
 
 counted_last : (counts : WayCounts) (ways : List Way) (last : Way) → counted_all counts (ways ++ last ∷ []) ≡ counted last (counted_all counts ways)

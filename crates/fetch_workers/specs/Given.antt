@@ -1,7 +1,6 @@
 -- Answers that a source gave.
-use Rattle.std.specs.Prelude.{◌≡◌, ℕ, List, All}
+use Rattle.std.specs.Prelude.{ℕ, List, All}
 use Rattle.edge_types.specs.Answered.{Answered}
-use Rattle.edge_types.specs.Table.{reply_of}
 use Rattle.fetch_workers.specs.declared.log.Own.{Own}
 
 -- each of these answers was given for the URL that it names
@@ -11,11 +10,3 @@ AllGiven gives answers = All (λ (a : Answered). gives a.url a) answers
 -- and so was each that a worker posted
 abbrev pub AllOwn : (List ℕ → Answered → Type 0) → List Own → Type 0
 AllOwn gives own = All (λ (o : Own). gives o.answer.url o.answer) own
-
--- what a table has for a URL: one that isn't there can't be fetched
-abbrev pub replied : List Answered → List ℕ → Answered
-replied table url = record { url = url; reply = reply_of table url }
-
--- a table gives exactly that
-abbrev pub GivenByTable : List Answered → List ℕ → Answered → Type 0
-GivenByTable table url answer = answer ≡ replied table url

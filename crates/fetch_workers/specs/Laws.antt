@@ -4,7 +4,8 @@ use Rattle.edge_types.specs.declared.request.Request.{Request}
 use Rattle.edge_types.specs.Answered.{Answered}
 use Rattle.edge_types.specs.Outcome.{Shown}
 use Rattle.esi_meaning.specs.Meaning.{outcome}
-use Rattle.fetch_workers.specs.Given.{AllGiven, GivenByTable}
+use Rattle.answer_sources.specs.Given.{GivenByTable}
+use Rattle.fetch_workers.specs.Given.{AllGiven}
 use Rattle.fetch_workers.specs.Rests.{RestsOn}
 
 -- A page whose logged answers a table gave has its outcome over this table: the one that the plain evaluator returns.

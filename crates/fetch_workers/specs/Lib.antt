@@ -3,6 +3,4 @@ pub mod Ways
 pub mod Faults
 pub mod Rests
 pub mod Laws
-pub mod Shards
-pub mod Circles
 pub mod Progress

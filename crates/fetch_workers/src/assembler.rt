@@ -14,17 +14,13 @@ ghost use Rattle.fetch_workers.specs.Given.{AllOwn};
 ghost use Rattle.fetch_workers.specs.Rests.{AreFetches, AreWorkers, IsAssembled, IsFailedLeg, RestsOn};
 ghost use Rattle.fetch_workers.specs.Ways.{AreWaysOf, counts_of};
 
-use crate::concurrent_source::ConcurrentSource;
 use crate::crew::run_workers;
 use crate::fault::AssembleFault;
-use crate::gate::{Gate, OpenGate};
-use crate::given::WayCounts;
 use crate::log::{Own, answers_of, is_log_of};
-use crate::one_by_one::OneByOne;
 use crate::page_in_progress::PageInProgress;
 use crate::shared_desk::SharedDesk;
-use crate::source::Source;
 use crate::worker::Worker;
+use answer_sources::{ConcurrentSource, Gate, OneByOne, OpenGate, Source, WayCounts};
 use edge_types::{Answer, NoMemory, Outcome, PageUrl, Request};
 use plan_runner::{Page, State};
 use std::alloc::Global;

@@ -4,14 +4,13 @@
 ghost use Rattle.std.specs.Prelude.{◌≡◌, IfOk, IfSome, IsTrue, OnOk};
 ghost use Rattle.fetch_workers.specs.Given.{AllOwn};
 
-use crate::concurrent_source::ConcurrentSource;
 use crate::desk::{SetAside, Turn};
 use crate::fault::AssembleFault;
-use crate::gate::Gate;
 use crate::log::Own;
 use crate::shared_desk::Shared;
 use crate::worker::Worker;
 use answer_board::Ticket;
+use answer_sources::{ConcurrentSource, Gate};
 use edge_types::{NoMemory, PageUrl};
 use std::alloc::Global;
 use std::sync::Wait;

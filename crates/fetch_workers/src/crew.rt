@@ -6,11 +6,10 @@ ghost use Rattle.fetch_workers.specs.Faults.{fault_of_both};
 ghost use Rattle.fetch_workers.specs.Given.{AllOwn};
 
 use crate::fault::AssembleFault;
-use crate::gate::Gate;
 use crate::log::Own;
 use crate::shared_desk::Shared;
-use crate::source::Source;
 use crate::worker::Worker;
+use answer_sources::{Gate, Source};
 use std::alloc::Global;
 use std::marker::PhantomData;
 use std::sync::Wait;

@@ -5,7 +5,6 @@ ghost use Rattle.std.specs.Prelude.{◌≡◌};
 ghost use Rattle.fetch_workers.specs.Laws.{TablesGiveThePage};
 
 use crate::assembler::{MAX_FETCHES, MAX_WORKERS};
-use crate::cache::SHARDS;
 
 /// Over a `TableSource` a page has the outcome that `plain_page` returns over its table, for every
 /// number of workers and every number of slots ahead. Takes no memory.
@@ -27,11 +26,4 @@ pub fn limit_of_workers()
 /// Our profile.
 pub fn limit_of_fetches()
     ensures { MAX_FETCHES ≡ 256 }
-{}
-
-/// A cache has eight shards. Takes no memory.
-///
-/// Our profile.
-pub fn number_of_shards()
-    ensures { SHARDS ≡ 8 }
 {}

@@ -6,8 +6,7 @@ ghost use Rattle.answer_board.specs.Board.{log_of};
 ghost use Rattle.fetch_workers.specs.Ways.{counts_of};
 ghost use Rattle.fetch_workers.specs.declared.log.Own.{Own};
 
-use crate::given::{Way, WayCounts};
-use crate::same::same_answer;
+use answer_sources::{Way, WayCounts, same_answer};
 use edge_types::{Answer, NoMemory, SharedAnswer};
 use plan_runner::Page;
 use std::alloc::Global;

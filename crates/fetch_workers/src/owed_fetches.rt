@@ -1,6 +1,6 @@
 //! Fetches that a page owes to others.
 
-use crate::concurrent_source::{Awaited, ConcurrentSource};
+use answer_sources::{Awaited, ConcurrentSource};
 use std::alloc::Global;
 use std::sync::Wait;
 use std::time::Duration;

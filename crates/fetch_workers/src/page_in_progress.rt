@@ -8,15 +8,13 @@ ghost use Rattle.fetch_workers.specs.Rests.{IsAssembled, IsFailedLeg};
 ghost use Rattle.fetch_workers.specs.Ways.{AreWaysOf};
 
 use crate::assembler::{Assembled, put_together};
-use crate::concurrent_source::{Awaited, ConcurrentSource};
 use crate::concurrent_worker::Flights;
 use crate::fault::AssembleFault;
-use crate::gate::OpenGate;
 use crate::log::Own;
 use crate::owed_fetches::{OwedFetches, Owing};
 use crate::shared_desk::SharedDesk;
-use crate::source::Source;
 use crate::worker::Worker;
+use answer_sources::{Awaited, ConcurrentSource, OpenGate, Source};
 use edge_types::{NoMemory, PageUrl, Request};
 use plan_runner::Page;
 use std::alloc::Global;

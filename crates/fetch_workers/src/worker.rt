@@ -7,12 +7,10 @@ ghost use Rattle.fetch_workers.specs.Given.{AllOwn};
 
 use crate::desk::Turn;
 use crate::fault::AssembleFault;
-use crate::gate::Gate;
-use crate::given::{Given, Way};
 use crate::log::Own;
 use crate::shared_desk::Shared;
-use crate::source::Source;
 use answer_board::{Receipt, Ticket};
+use answer_sources::{Gate, Given, Source, Way};
 use edge_types::{Answer, NoMemory, SharedAnswer};
 use plan_compiler::Prepared;
 use std::alloc::Global;

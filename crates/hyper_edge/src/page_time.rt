@@ -8,8 +8,8 @@ ghost use Rattle.hyper_edge.specs.Departure.{is_over};
 ghost use Rattle.hyper_edge.specs.PageTime.{GivesInTime, earlier_of, names_url};
 
 use crate::departure::ClientWatch;
+use answer_sources::{Awaited, Bell, ConcurrentSource, Given, Source, Way};
 use edge_types::{Answer, NoMemory, PageUrl};
-use fetch_workers::{Awaited, Bell, ConcurrentSource, Given, Source, Way};
 use plan_compiler::Prepared;
 use std::alloc::Global;
 use std::sync::Arc;

@@ -7,11 +7,9 @@ ghost use Rattle.hyper_edge.specs.Responses as spec;
 
 use crate::faults::{reason_of, status_of};
 use access_log::Reason;
+use answer_sources::{ConcurrentSource, OneByOne, OpenGate, Source, WayCounts};
 use edge_types::{Answer, NoMemory, PageUrl, Request};
-use fetch_workers::{
-    AssembleFault, Assembled, Assembling, ConcurrentSource, Ended, OneByOne, OpenGate, OwedFetches,
-    PageInProgress, Source, WayCounts,
-};
+use fetch_workers::{AssembleFault, Assembled, Assembling, Ended, OwedFetches, PageInProgress};
 use http::Response;
 use page_http::{EdgeBody, Field, HeadFault, answer_head, refusal_of, response_of};
 use std::alloc::Global;

@@ -14,7 +14,7 @@ use crate::serving::{Served, Serving, Session};
 use crate::shared_roster::{Duty, SharedRoster, Wanted};
 use crate::signals::Pause;
 use crate::turn::Owed;
-use fetch_workers::{ConcurrentSource, OnBehalf};
+use answer_sources::{ConcurrentSource, OnBehalf};
 use futures::Future;
 use std::sync::{Arc, Wait};
 use std::time::{Clock, Duration, Instant};

@@ -11,7 +11,7 @@ use crate::service::EdgeService;
 use crate::shared_roster::Duty;
 use crate::signals::{Pause, Signals};
 use crate::turn::{Halt, Owed, PageAsked, Turn};
-use fetch_workers::{ConcurrentSource, OnBehalf};
+use answer_sources::{ConcurrentSource, OnBehalf};
 use futures::Future;
 use std::net::IpAddr;
 use std::sync::{Arc, Wait};

@@ -11,7 +11,7 @@ use crate::runtime::ServerRuntime;
 use crate::server::Server;
 use crate::service::EdgeService;
 use crate::serving::Serving;
-use fetch_workers::{ConcurrentSource, OnBehalf};
+use answer_sources::{ConcurrentSource, OnBehalf};
 use futures::Future;
 use std::sync::Arc;
 use std::thread;

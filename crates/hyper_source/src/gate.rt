@@ -9,8 +9,8 @@ ghost use Rattle.hyper_source.specs.declared.gate.Called.TheVariants as called;
 ghost use Rattle.hyper_source.specs.Gate.{Asks, Ends, Goes, Joins, Leaves, LooksWaiting, Looks, Withholds};
 
 use crate::gathered::Lost;
+use answer_sources::Bell;
 use fetch_outcomes::FetchFault;
-use fetch_workers::Bell;
 use origin_health::{FetchEnd, Leave, OriginHealth, Permit};
 use origin_queue::{OriginQueue, Place, QueueBounds, Turn};
 use std::alloc::{AllocError, Global};

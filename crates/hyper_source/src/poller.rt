@@ -5,8 +5,8 @@ ghost use Rattle.hyper_source.specs.declared.poller.Watched.TheVariants as tells
 ghost use Rattle.hyper_source.specs.declared.stream_signals.Readiness.TheVariants as awaits;
 
 use crate::stream_signals::Readiness;
+use answer_sources::Bell;
 use edge_types::NoMemory;
-use fetch_workers::Bell;
 use futures::task::{Doorbell, Solo};
 use libc::net::{
     EPOLL_CTL_ADD, EPOLL_CTL_DEL, EPOLL_CTL_MOD, EPOLLET, EPOLLIN, EPOLLOUT, EPOLLRDHUP,

@@ -3,9 +3,10 @@
 use crate::sharing::Still;
 use crate::site::{Site, table};
 use crate::workers::assembled;
+use answer_sources::{Source, TableSource};
 use bench_tools::inputs::{or_io_error, repeated};
 use bench_tools::timing::{Least, ratio};
-use fetch_workers::{Cache, Source, TableSource};
+use shared_cache::Cache;
 use std::alloc::{AllocError, Global};
 use std::io;
 use std::rt::Clock;

@@ -1,10 +1,11 @@
 //! A cache that threads share: hits by several threads compared with those by one, and one fetch for all who
 //! ask at the same time.
 
+use answer_sources::{Clock as Seconds, Given, Source, TableSource};
 use bench_tools::inputs::{answer, or_input_error, or_io_error, url};
 use bench_tools::timing::{Least, nanoseconds_each, ratio};
 use edge_types::{Control, NoMemory, PageUrl, SharedBytes, Table};
-use fetch_workers::{Cache, Clock as Seconds, Given, Source, TableSource};
+use shared_cache::Cache;
 use std::alloc::Global;
 use std::rt::Clock;
 use std::sync::Wait;

@@ -2,10 +2,11 @@
 //! core alone if nothing has to be waited for.
 
 use crate::site::{Site, includes, page_url, ran, table};
+use answer_sources::{Given, Source, TableSource};
 use bench_tools::inputs::or_input_error;
 use bench_tools::timing::{Least, ratio};
 use edge_types::{Answer, NoMemory, PageUrl, Request, Table};
-use fetch_workers::{Given, MAX_WORKERS, Source, TableSource, assemble};
+use fetch_workers::{MAX_WORKERS, assemble};
 use plan_runner::MAX_AHEAD;
 use std::alloc::Global;
 use std::rt::Clock;

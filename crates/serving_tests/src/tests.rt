@@ -1,8 +1,8 @@
 // A case has answers with a `;` between two: a path, `failed` or a status with what its control says, and
 // the body. A control is `plain`, or `esi` if the body is processed; a number in its place, or behind `esi`, is
 // the max-age, and a second one after a `+` the extension.
+use answer_sources::{Given, Source, TableSource};
 use edge_types::{Answer, Control, NoMemory, Octets, Outcome, PageUrl, SharedBytes, Table};
-use fetch_workers::{Given, Source, TableSource};
 use std::alloc::Global;
 use std::process::Abort;
 use std::str;

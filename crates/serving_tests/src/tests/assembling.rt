@@ -2,10 +2,9 @@
 
 use super::meeting::{Held, Meeting};
 use super::{push_outcome, source_of, url};
+use answer_sources::{OpenGate, Source, TableSource};
 use edge_types::{NoMemory, Request};
-use fetch_workers::{
-    AssembleFault, Assembled, Assembling, OpenGate, Source, TableSource, assemble, assemble_gated,
-};
+use fetch_workers::{AssembleFault, Assembled, Assembling, assemble, assemble_gated};
 use futures::FutureExt;
 use http::Response;
 use http_body_util::BodyExt;

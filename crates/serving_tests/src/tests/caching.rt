@@ -3,8 +3,11 @@
 ghost use Rattle.std.specs.Prelude.{◌≤◌};
 
 use super::{Origin, push_outcome, source_of, url};
+use answer_sources::{Clock, Given, OnBehalf, Source, TableSource};
 use edge_types::{Answer, NoMemory, PageUrl, Request};
-use fetch_workers::{Cache, Clock, Given, OnBehalf, Source, TableSource, UrlHashing, assemble};
+use fetch_workers::assemble;
+use fragment_cache::UrlHashing;
+use shared_cache::Cache;
 use std::alloc::Global;
 use std::fmt::Write;
 use std::process::Abort;

@@ -4,7 +4,8 @@ ghost use Rattle.std.specs.Prelude.{⊤};
 ghost use Rattle.std.specs.Io.{ReadsAtMost, WritesAtMost};
 
 use super::source_of;
-use fetch_workers::{Assembling, TableSource};
+use answer_sources::TableSource;
+use fetch_workers::Assembling;
 use futures::task::{Context, Poll};
 use hyper_edge::{
     Accept, AcceptFault, Capacity, EdgeService, Executor, Journal, NoJournal, RequestRecord,

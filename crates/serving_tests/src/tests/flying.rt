@@ -1,10 +1,10 @@
 //! Pages whose thread has several fetches in flight.
 
 use super::{push_outcome, source_of, url};
+use answer_sources::{Clock, ConcurrentSource, Given, OneByOne, OpenGate, Source, TableSource};
 use edge_types::{NoMemory, PageUrl, Request};
-use fetch_workers::{
-    Assembling, Cache, Clock, ConcurrentSource, Given, OneByOne, OpenGate, Source, TableSource,
-};
+use fetch_workers::Assembling;
+use shared_cache::Cache;
 use std::alloc::{AllocGlobal, Global};
 use std::process::Abort;
 use std::sync::Wait;

@@ -1,7 +1,7 @@
 //! Where fetches of one page meet.
 
+use answer_sources::{Gate, Given, Source, TableSource};
 use edge_types::{NoMemory, PageUrl};
-use fetch_workers::{Gate, Given, Source, TableSource};
 use std::alloc::Global;
 use std::sync::atomic::{AtomicU64, Ordering};
 use std::thread;

@@ -1,6 +1,6 @@
 use Rattle.failed_answers.proofs.sparing_source.SparingSource.TheSendSync as SparingSource
 use Rattle.hyper_source.proofs.source.HyperSource.TheSendSync as HyperSource
-use Rattle.fetch_workers.proofs.Crossings.{caches_cross}
+use Rattle.shared_cache.proofs.Crossings.{caches_cross}
 use Rattle.edge_main.proofs.serving.serve_all.Goals as goal
 
 pub serve_accepts-requires-send-S : goal.serve_accepts-requires-send-S

@@ -1,5 +1,5 @@
-use Rattle.fetch_workers.proofs.table_source.TableSource.TheSendSync as TableSource
-use Rattle.fetch_workers.proofs.Crossings.{caches_cross}
+use Rattle.answer_sources.proofs.table_source.TableSource.TheSendSync as TableSource
+use Rattle.shared_cache.proofs.Crossings.{caches_cross}
 use Rattle.failing_fetches.proofs.pages.assemble_through_cache.Goals as goal
 
 pub assemble_and_fetch-requires-sync-S : goal.assemble_and_fetch-requires-sync-S

@@ -1,6 +1,6 @@
 use Rattle.std.proofs.Common.{arith, ◌∙◌, ap, sym}
 use Rattle.std.proofs.lemmas.Grind.{common_steps}
-use Rattle.fetch_workers.specs.Ways.{counted}
+use Rattle.answer_sources.specs.Ways.{counted}
 use Rattle.fetch_workers.proofs.Ways.{counts_of_push}
 use Rattle.fetch_workers.proofs.log.answers_of.Goals as goal
 

@@ -1,5 +1,5 @@
-use Rattle.fetch_workers.proofs.table_source.TableSource.TheSendSync as TableSource
-use Rattle.fetch_workers.proofs.Crossings.{caches_cross}
+use Rattle.answer_sources.proofs.table_source.TableSource.TheSendSync as TableSource
+use Rattle.shared_cache.proofs.Crossings.{caches_cross}
 use Rattle.page_bench.proofs.sharing.hits.Goals as goal
 
 pub hits_told-requires-sync-S : goal.hits_told-requires-sync-S

@@ -1,5 +1,5 @@
-use Rattle.fetch_workers.proofs.table_source.TableSource.TheSendSync as TableSource
-use Rattle.fetch_workers.proofs.Crossings.{caches_cross}
+use Rattle.answer_sources.proofs.table_source.TableSource.TheSendSync as TableSource
+use Rattle.shared_cache.proofs.Crossings.{caches_cross}
 use Rattle.serving_tests.proofs.tests.caching.kept_templates_go_with_their_answers.Goals as goal
 
 pub push_pages-requires-sync-S : goal.push_pages-requires-sync-S

@@ -3,9 +3,9 @@ use Rattle.std.specs.Prelude.{◌≡◌, ⊤, ℕ, Bool, false, ◌==◌, List}
 use Rattle.edge_types.specs.Answered.{Answered}
 use Rattle.edge_types.specs.declared.answer.Reply.{Reply}
 use Rattle.edge_types.specs.declared.answer.Reply.TheVariants.{Failed, Got}
-use Rattle.fetch_workers.specs.declared.cache.concurrent.Look.{Look}
-use Rattle.fetch_workers.specs.declared.cache.concurrent.Look.TheVariants.{Landed, Begun, Flying}
-use Rattle.fetch_workers.specs.declared.given.Given.{Given}
+use Rattle.shared_cache.specs.declared.cache.concurrent.Look.{Look}
+use Rattle.shared_cache.specs.declared.cache.concurrent.Look.TheVariants.{Landed, Begun, Flying}
+use Rattle.answer_sources.specs.declared.given.Given.{Given}
 
 -- the request for it went in a circle, so it was refused (RFC 5842, section 7.2)
 unfoldable pub says_circle : Reply → Bool

@@ -2,14 +2,11 @@
 
 ghost use Rattle.std.specs.Prelude.{◌≡◌, [], IfOk, IfSome};
 ghost use Rattle.std.specs.Arc.{arc_value};
-ghost use Rattle.fetch_workers.specs.Circles.{IfLanded, IsForAll};
+ghost use Rattle.shared_cache.specs.Circles.{IfLanded, IsForAll};
 
-use crate::bell::Bell;
 use crate::cache::{Cache, is_for_all};
 use crate::cache_flights::{CacheFlights, Joined, Led};
-use crate::clock::Clock;
-use crate::concurrent_source::{Awaited, ConcurrentSource};
-use crate::given::{Given, Way};
+use answer_sources::{Awaited, Bell, Clock, ConcurrentSource, Given, Way};
 use edge_types::{NoMemory, PageUrl};
 use fragment_cache::{Begun, Picked};
 use std::alloc::Global;

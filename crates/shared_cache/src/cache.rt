@@ -2,19 +2,16 @@
 
 ghost use Rattle.std.specs.Prelude.{◌≡◌, ◌⊎◌, ◌↔◌, ◌≤◌, IsTrue, IfOk, IfSome};
 ghost use Rattle.std.specs.Arc.{arc_value};
-ghost use Rattle.fetch_workers.specs.Circles.{IsForAll, says_circle};
-ghost use Rattle.fetch_workers.specs.declared.placing.Placing.TheVariants.{BySum, ByHash};
+ghost use Rattle.shared_cache.specs.Circles.{IsForAll, says_circle};
+ghost use Rattle.shared_cache.specs.declared.placing.Placing.TheVariants.{BySum, ByHash};
 
 mod concurrent;
 
-use crate::clock::Clock;
-use crate::given::{Given, Way};
 use crate::kept_plans::KeptPlans;
-use crate::on_behalf::OnBehalf;
 use crate::placing::Placing;
 use crate::shards::Shards;
 use crate::shared_shard::SharedShard;
-use crate::source::{Found, Source};
+use answer_sources::{Clock, Found, Given, OnBehalf, Source, Way};
 use edge_types::{Answer, NoMemory, PageUrl, Reply};
 use fragment_cache::{Begun, Flight, MAX_CAPACITY, UrlHashing};
 use plan_compiler::Prepared;

@@ -1,7 +1,7 @@
 use Rattle.std.proofs.Common.{rules}
 use Rattle.std.specs.Arc.{arc_value}
-use Rattle.fetch_workers.proofs.Replies.{is_replied}
-use Rattle.fetch_workers.proofs.table_source.TableSourceSource.fetch.Goals as goal
+use Rattle.answer_sources.proofs.Replies.{is_replied}
+use Rattle.answer_sources.proofs.table_source.TableSourceSource.fetch.Goals as goal
 
 pub returns-in_ok-try_clone-in-Some : goal.returns-in_ok-try_clone-in-Some
 returns-in_ok-try_clone-in-Some g c =

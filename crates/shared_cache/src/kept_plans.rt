@@ -9,7 +9,7 @@ ghost use Rattle.lru.specs.LruCache.{lru_cache, promoted, put_entries};
 
 use crate::cache::SHARDS;
 use crate::placing::Placing;
-use crate::same::same_answer;
+use answer_sources::same_answer;
 use edge_types::{Answer, NoMemory, PageUrl};
 use fragment_cache::{UrlHashing, is_to_be_stored};
 use lru::LruCache;

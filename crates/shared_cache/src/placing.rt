@@ -1,7 +1,7 @@
 //! Which shard of a cache keeps the answers of a URL.
 
 ghost use Rattle.std.specs.Prelude.{◌≡◌, ◌<◌, ◌%◌, sum};
-ghost use Rattle.fetch_workers.specs.Shards.{shard_of};
+ghost use Rattle.shared_cache.specs.Shards.{shard_of};
 
 use crate::cache::SHARDS;
 use edge_types::PageUrl;

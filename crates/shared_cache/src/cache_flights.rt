@@ -3,7 +3,7 @@
 ghost use Rattle.std.specs.Prelude.{◌≡◌, [], length, IfNone, IfSome, IsTrue};
 ghost use Rattle.std.specs.Arc.{arc_value};
 
-use crate::given::Given;
+use answer_sources::Given;
 use edge_types::{Answer, NoMemory, PageUrl};
 use fragment_cache::Flight;
 use std::alloc::Global;

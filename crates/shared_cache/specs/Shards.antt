@@ -1,9 +1,9 @@
 -- Which shard of a cache keeps the answers of a URL.
 use Rattle.std.specs.Prelude.{ℕ, ◌%◌, ◌/◌, ◌^◌, List, sum}
 use Rattle.fragment_cache.specs.Hashing.{hash_of}
-use Rattle.fetch_workers.specs.declared.cache.TheConstants.{SHARDS}
-use Rattle.fetch_workers.specs.declared.placing.Placing.{Placing}
-use Rattle.fetch_workers.specs.declared.placing.Placing.TheVariants.{BySum, ByHash}
+use Rattle.shared_cache.specs.declared.cache.TheConstants.{SHARDS}
+use Rattle.shared_cache.specs.declared.placing.Placing.{Placing}
+use Rattle.shared_cache.specs.declared.placing.Placing.TheVariants.{BySum, ByHash}
 
 -- the sum of its bytes, or the upper half of its hash, modulo the number of shards
 abbrev pub shard_of : Placing → List ℕ → ℕ

@@ -7,11 +7,9 @@ ghost use Rattle.std.specs.Sync.Mutex.{mutex_guard_value};
 ghost use Rattle.fragment_cache.specs.Shown.{begun_answer};
 ghost use Rattle.fragment_cache.specs.Sound.{IsSound, NamesUrl};
 
-use crate::bell::Bell;
 use crate::cache_flights::{Joined, Led};
-use crate::given::{Given, Way};
-use crate::source::Found;
 use crate::tally::CacheTally;
+use answer_sources::{Bell, Found, Given, Way};
 use edge_types::{Answer, NoMemory, PageUrl};
 use fragment_cache::{Begun, Flight, MAX_CAPACITY, Picked, Shard, UrlHashing, is_failing};
 use std::alloc::Global;

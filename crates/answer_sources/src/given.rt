@@ -2,8 +2,8 @@
 
 ghost use Rattle.std.specs.Prelude.{◌≡◌};
 ghost use Rattle.std.specs.Arc.{arc_value};
-ghost use Rattle.fetch_workers.specs.Ways.{counted, no_way, way_told};
-ghost use Rattle.fetch_workers.specs.declared.given.Way.TheVariants as way;
+ghost use Rattle.answer_sources.specs.Ways.{counted, no_way, way_told};
+ghost use Rattle.answer_sources.specs.declared.given.Way.TheVariants as way;
 
 use edge_types::{Answer, Reply};
 use std::sync::Arc;
@@ -96,7 +96,7 @@ impl WayCounts {
     }
 
     /// The same and one more answer.
-    pub(crate) fn with(mut self, way: Way) -> WayCounts
+    pub fn with(mut self, way: Way) -> WayCounts
         ensures { result ≡ counted way self }
     {
         match way {

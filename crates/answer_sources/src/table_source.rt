@@ -40,7 +40,7 @@ impl TableSource {
 
 impl<R> Source<R> for TableSource {
     ghost use Rattle.std.proofs.Common.{ap};
-    ghost use Rattle.fetch_workers.specs.Given.{GivenByTable};
+    ghost use Rattle.answer_sources.specs.Given.{GivenByTable};
 
     ghost gives = { GivenByTable };
 

@@ -1,0 +1,24 @@
+//! Where answers come from: a `Source` gives them, and a `ConcurrentSource` several at once to one page.
+#![tactic(auto)]
+
+mod bell;
+mod clock;
+mod concurrent_source;
+mod gate;
+mod given;
+mod on_behalf;
+mod one_by_one;
+mod same;
+mod source;
+mod table_source;
+
+pub use bell::Bell;
+pub use clock::Clock;
+pub use concurrent_source::{Awaited, ConcurrentSource};
+pub use gate::{Gate, OpenGate};
+pub use given::{Given, Way, WayCounts};
+pub use on_behalf::OnBehalf;
+pub use one_by_one::OneByOne;
+pub use same::same_answer;
+pub use source::{Found, Source};
+pub use table_source::TableSource;

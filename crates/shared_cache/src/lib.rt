@@ -1,0 +1,16 @@
+//! A cache that all pages share: a `Cache` is a source that keeps what another one gives.
+#![tactic(auto)]
+
+mod cache;
+mod cache_flights;
+mod kept_plans;
+pub mod laws;
+mod placing;
+mod shards;
+mod shared_shard;
+mod tally;
+mod upkeep;
+
+pub use cache::{Cache, SHARDS};
+pub use cache_flights::CacheFlights;
+pub use tally::CacheTally;
