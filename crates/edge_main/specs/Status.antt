@@ -11,8 +11,8 @@ use Rattle.edge_case.specs.declared.ending.CaseFault.TheVariants as fault
 use Rattle.clap.specs.Words.{kind_of}
 use Rattle.edge_setup.specs.declared.setup.Named.TheVariants as named
 use Rattle.edge_setup.specs.Words.{refusal_of}
-use Rattle.hyper_edge.specs.declared.roster.ServeEnd.{ServeEnd}
-use Rattle.hyper_edge.specs.declared.roster.ServeEnd.TheVariants as end
+use Rattle.edge_connections.specs.declared.roster.ServeEnd.{ServeEnd}
+use Rattle.edge_connections.specs.declared.roster.ServeEnd.TheVariants as end
 use Rattle.template_check.specs.declared.reporting.ReportFault.{ReportFault}
 use Rattle.template_check.specs.declared.reporting.ReportFault.TheVariants as report
 use Rattle.edge_main.specs.declared.asked.Refusal.{Refusal}

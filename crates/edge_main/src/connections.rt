@@ -1,7 +1,7 @@
 //! How many connections of clients the server has, and has had.
 
+use edge_connections::ServeEnd;
 use edge_metrics::ConnectionCounts;
-use hyper_edge::ServeEnd;
 use std::sync::atomic::{AtomicBool, AtomicU64, Ordering};
 
 /// What the threads that serve have counted of connections, without a lock.

@@ -1,7 +1,7 @@
 //! The end of standard input, by which a server may be stopped.
 
 use crate::readiness::is_readable;
-use hyper_edge::StopSign;
+use edge_connections::StopSign;
 use std::fs::File;
 use std::io::{self, ErrorKind, Read};
 use std::rt::Files;

@@ -2,7 +2,7 @@
 
 use crate::end_of_input::EndOfInput;
 use crate::status::Status;
-use hyper_edge::StopSign;
+use edge_connections::StopSign;
 use operator_http::{HostNames, OperatorListener, StopRequest};
 use std::alloc::AllocGlobal;
 use std::net::{Net, SocketAddr, TcpListener, TcpStream};

@@ -4,9 +4,9 @@ ghost use Rattle.edge_setup.specs.Words.{IsWithin};
 ghost use Rattle.edge_main.specs.Server.{AreBounds, IsServerOf, IsUnbounded, bytes_of, crowd_of, fetch_millis, idle_of, limit_of, nanos_of};
 
 use crate::server::{Fetches, Server};
+use edge_connections::{Capacity, Limits};
 use edge_setup::{Fetching, Pages, Setup};
 use fetch_workers::Assembling;
-use hyper_edge::{Capacity, Limits};
 use hyper_source::Bounds;
 use std::time::Duration;
 

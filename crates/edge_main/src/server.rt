@@ -2,9 +2,9 @@
 ghost use Rattle.std.specs.Prelude.{◌≤◌};
 
 use access_log::LogFormat;
+use edge_connections::{Capacity, Limits};
 use edge_setup::{Addresses, Origin};
 use fetch_workers::Assembling;
-use hyper_edge::{Capacity, Limits};
 use hyper_source::Bounds;
 use std::time::Duration;
 

@@ -11,14 +11,13 @@ use crate::requests_log::AccessLog;
 use crate::server::{Fetches, Server};
 use crate::status::Status;
 use access_log::LogFormat;
+use edge_connections::{Capacity, Limits, ServeEnd, ServerRuntime, Sockets};
 use edge_setup::{Addresses, Origin, Place};
 use edge_types::NoMemory;
 use failed_answers::{SharedFailures, SparingSource};
 use fetch_workers::Assembling;
 use fragment_cache::UrlHashing;
-use hyper_edge::{
-    Capacity, EdgeService, Journal, Limits, ServeEnd, ServerRuntime, Sockets, serve_accepts,
-};
+use hyper_edge::{EdgeService, Journal, serve_accepts};
 use hyper_source::{EdgeName, FetchNotes, HyperSource};
 use operator_http::Operated;
 use shared_cache::Cache;

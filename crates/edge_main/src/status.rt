@@ -6,9 +6,9 @@ ghost use Rattle.edge_main.specs.Status.{code_of, failed_as, help_status, line_o
 ghost use Rattle.edge_main.specs.declared.status.Status.TheVariants as ends;
 
 use edge_case::{CaseEnd, CaseFault};
+use edge_connections::ServeEnd;
 use edge_setup::Named;
 use edge_types::NoMemory;
-use hyper_edge::ServeEnd;
 use std::io;
 use std::process::ExitCode;
 use template_check::ReportFault;

@@ -10,7 +10,7 @@ mod sources;
 mod templates;
 
 use allocation_tools::printing::ends;
-use hyper_edge::ServerRuntime;
+use edge_connections::ServerRuntime;
 use std::io::Print;
 use std::net::{Net, TcpStream};
 use std::{env, io};

@@ -3,9 +3,9 @@
 use allocation_tools::printing::{answers, bytes, calls, out_of_memory, word};
 use allocation_tools::values::{answer, processed, stored, url};
 use answer_sources::{Clock as Seconds, Given, OnBehalf, Source, TableSource};
+use edge_connections::ServerRuntime;
 use edge_types::{NoMemory, PageUrl, Table};
 use fragment_cache::UrlHashing;
-use hyper_edge::ServerRuntime;
 use hyper_source::{EdgeName, HyperSource, Origin};
 use shared_cache::Cache;
 use std::alloc::{AllocGlobal, Global};

@@ -12,18 +12,18 @@ use Rattle.std.specs.contracts.option.Option as option
 use Rattle.futures.specs.declared.future.Future as future
 use Rattle.fetch_workers.proofs.Crossings.{page_in_progress_send}
 use Rattle.answer_sources.specs.declared.source.Source.{Ghosts}
-use Rattle.hyper_edge.proofs.connection.Connection.TheSendSync as Connection
+use Rattle.edge_connections.proofs.connection.Connection.TheSendSync as Connection
 use Rattle.hyper_edge.proofs.journal.Unreported.TheSendSync as Unreported
 use Rattle.hyper_edge.specs.declared.page_time.WithinTime.{WithinTime}
 use Rattle.hyper_edge.specs.contracts.page_time.WithinTime as within_time
 use Rattle.fetch_workers.proofs.owed_fetches.OwedFetches.TheSendSync as OwedFetches
 use Rattle.fetch_workers.specs.contracts.owed_fetches.OwedFetches as owed_fetches
-use Rattle.hyper_edge.proofs.parking.ParkingPlace.TheSendSync as ParkingPlace
-use Rattle.hyper_edge.proofs.parking.Waiting.TheSendSync as Waiting
+use Rattle.edge_connections.proofs.parking.ParkingPlace.TheSendSync as ParkingPlace
+use Rattle.edge_connections.proofs.parking.Waiting.TheSendSync as Waiting
 use Rattle.hyper_edge.proofs.turn.Requested.TheSendSync as Requested
 use Rattle.hyper_edge.proofs.serving.Serving.TheSendSync as Serving
-use Rattle.hyper_edge.proofs.shared_roster.SharedRoster.TheSendSync as SharedRoster
-use Rattle.hyper_edge.specs.contracts.parking.Waiting as waiting
+use Rattle.edge_connections.proofs.shared_roster.SharedRoster.TheSendSync as SharedRoster
+use Rattle.edge_connections.specs.contracts.parking.Waiting as waiting
 use Rattle.hyper_edge.specs.contracts.server.Server as server
 use Rattle.hyper_edge.specs.contracts.turn.PageAsked as page_asked
 use Rattle.hyper_edge.specs.contracts.serving.Session as session

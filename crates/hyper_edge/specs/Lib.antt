@@ -1,12 +1,9 @@
 pub mod Opening
-pub mod Staff
 pub mod PageTime
 pub mod Departure
-pub mod Roster
 pub mod Responses
 pub mod Records
 pub mod Lines
 pub mod Methods
 pub mod Forwarded
 pub mod Circles
-pub mod Refusals

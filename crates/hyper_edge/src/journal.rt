@@ -11,8 +11,8 @@ ghost use Rattle.hyper_edge.specs.Records.{IsCopyOrEmpty};
 
 use crate::faults::fault_of;
 use crate::responding::Responded;
-use crate::roster::ServeEnd;
 use access_log::{Fault, Reason, RequestRecord, Version};
+use edge_connections::ServeEnd;
 use edge_types::PageUrl;
 use fetch_outcomes::FetchFault;
 use http::Request;

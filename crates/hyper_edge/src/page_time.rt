@@ -7,8 +7,8 @@ ghost use Rattle.std.specs.Time.{instant_nanos};
 ghost use Rattle.hyper_edge.specs.Departure.{is_over};
 ghost use Rattle.hyper_edge.specs.PageTime.{GivesInTime, earlier_of, names_url};
 
-use crate::departure::ClientWatch;
 use answer_sources::{Awaited, Bell, ConcurrentSource, Given, Source, Way};
+use edge_connections::ClientWatch;
 use edge_types::{Answer, NoMemory, PageUrl};
 use plan_compiler::Prepared;
 use std::alloc::Global;

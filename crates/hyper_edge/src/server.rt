@@ -2,19 +2,15 @@
 
 ghost use Rattle.hyper_edge.specs.Opening.{GivesPollable};
 
-use crate::accept::{Accept, AcceptFault};
-use crate::executor::Executor;
-use crate::handover::Handover;
 use crate::journal::Journal;
 use crate::page_time::WithinTime;
-use crate::parking::{ParkingPlace, Waiting};
-use crate::roster::{Admission, AfterFailure, Capacity, Roster, ServeEnd, Work};
-use crate::runtime::ServerRuntime;
 use crate::serving::{Served, Serving, Session};
-use crate::shared_roster::{Duty, SharedRoster, Wanted};
-use crate::signals::Pause;
 use crate::turn::Owed;
 use answer_sources::{ConcurrentSource, OnBehalf};
+use edge_connections::{
+    Accept, AcceptFault, Admission, AfterFailure, Capacity, Duty, Executor, Handover, ParkingPlace,
+    Pause, Roster, ServeEnd, ServerRuntime, SharedRoster, Waiting, Wanted, Work,
+};
 use futures::Future;
 use std::sync::{Arc, Wait};
 use std::time::{Clock, Duration, Instant};
@@ -345,7 +341,7 @@ where
         let Some(awaited) = fetches.awaited() else {
             return self.serving.see_through(fetches);
         };
-        let pause = Pause::for_fetches(awaited, None);
+        let pause = Pause::for_fetches(awaited.descriptor, awaited.until, None);
         let waiting = Waiting::Fetches(fetches);
         match self
             .parked

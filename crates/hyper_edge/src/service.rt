@@ -9,14 +9,12 @@ ghost use Rattle.hyper_edge.specs.Circles.{is_circle};
 ghost use Rattle.hyper_edge.specs.Lines.{line, lines_of};
 ghost use Rattle.hyper_edge.specs.Methods.{answered_as};
 
-use crate::date::DateClock;
-use crate::departure::{ClientWatch, watch_of};
-use crate::exchange::deadline;
 use crate::forwarded::client_of;
 use crate::page_time::WithinTime;
 use crate::responding::{Begun, RequestHead, begin_response, no_room, refused};
 use access_log::Reason;
 use answer_sources::{ConcurrentSource, OnBehalf};
+use edge_connections::{ClientWatch, DateClock, deadline, watch_of};
 use edge_types::NoMemory;
 use fetch_workers::Assembling;
 use http::header::{HeaderName, HeaderNameError, HeaderValue};

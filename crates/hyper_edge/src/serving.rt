@@ -2,17 +2,16 @@
 
 ghost use Rattle.hyper_edge.specs.Opening.{GivesPollable};
 
-use crate::connection::{Connection, Went, http_of};
-use crate::executor::Executor;
-use crate::handover::{Handover, HandsOver};
 use crate::journal::{Journal, NoJournal, Unreported, refused_head};
 use crate::page_time::WithinTime;
 use crate::service::EdgeService;
-use crate::shared_roster::Duty;
-use crate::signals::{Pause, Signals};
 use crate::turn::{Halt, Owed, PageAsked, Turn};
 use answer_sources::{ConcurrentSource, OnBehalf};
+use edge_connections::{
+    Connection, DateClock, Duty, Executor, Handover, HandsOver, Pause, Signals, Went,
+};
 use futures::Future;
+use hyper::server::conn::http1::Builder;
 use std::net::IpAddr;
 use std::sync::{Arc, Wait};
 use std::thread::Threads;
@@ -41,6 +40,25 @@ where
     let http = http_of(&service, false);
     let opens = |io: I, handover: Arc<Handover>| http.serve_connection(io, HandsOver { handover });
     serving.serve_one(&opens, io, executor);
+}
+
+/// How the requests of connections are read and their responses written, by the HTTP library, as a service needs it;
+/// and whether connections are kept for further requests.
+pub(crate) fn http_of<S, R>(
+    service: &EdgeService<S, R>,
+    keeps: bool,
+) -> Builder<Option<DateClock<R>>>
+where
+    S: Drop,
+    R: Clock + Clone + Drop,
+{
+    let mut http = Builder::new(service.alloc(), service.keys());
+    http.keep_alive(keeps);
+    // Without it a long body waits for the client to send more.
+    http.half_close(true);
+    // The stream has limits of its own.
+    http.header_read_timeout(None);
+    http.timer(service.date_clock())
 }
 
 /// A connection, the page that waits for its fetches, if one does, and what is to be reported of its requests.

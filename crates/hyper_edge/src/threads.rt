@@ -2,16 +2,12 @@
 
 ghost use Rattle.hyper_edge.specs.Opening.{GivesPollable};
 
-use crate::accept::Accept;
-use crate::connection::http_of;
-use crate::handover::{Handover, HandsOver};
 use crate::journal::Journal;
-use crate::roster::{Capacity, ServeEnd};
-use crate::runtime::ServerRuntime;
 use crate::server::Server;
 use crate::service::EdgeService;
-use crate::serving::Serving;
+use crate::serving::{Serving, http_of};
 use answer_sources::{ConcurrentSource, OnBehalf};
+use edge_connections::{Accept, Capacity, Handover, HandsOver, ServeEnd, ServerRuntime};
 use futures::Future;
 use std::sync::Arc;
 use std::thread;

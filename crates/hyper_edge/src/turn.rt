@@ -1,14 +1,11 @@
 //! A thread's turn at a connection: it answers what the connection asks, until that has to wait.
 
-use crate::connection::{Connection, Stop};
-use crate::handover::{Answered, Asked};
 use crate::journal::{Journal, Unreported};
 use crate::page_time::WithinTime;
 use crate::responding::{Responded, Told, go_on_with};
 use crate::serving::Serving;
-use crate::shared_roster::Duty;
-use crate::signals::Pause;
 use answer_sources::{ConcurrentSource, OnBehalf};
+use edge_connections::{Answered, Asked, Connection, Duty, Pause, Stop};
 use edge_types::NoMemory;
 use fetch_workers::{OwedFetches, PageInProgress};
 use futures::Future;
@@ -268,7 +265,8 @@ where
             return None;
         }
         let client = self.serving.service.watch(connection.socket());
-        Some(Pause::for_fetches(page.awaited()?, client))
+        let awaited = page.awaited()?;
+        Some(Pause::for_fetches(awaited.descriptor, awaited.until, client))
     }
 
     // A page that is left by its thread. Without room for it, its connection ends.

@@ -3,12 +3,13 @@
 use super::meeting::{Held, Meeting};
 use super::{push_outcome, source_of, url};
 use answer_sources::{OpenGate, Source, TableSource};
+use edge_connections::ServerRuntime;
 use edge_types::{NoMemory, Request};
 use fetch_workers::{AssembleFault, Assembled, Assembling, assemble, assemble_gated};
 use futures::FutureExt;
 use http::Response;
 use http_body_util::BodyExt;
-use hyper_edge::{EdgeBody, Field, ServerRuntime, respond};
+use hyper_edge::{EdgeBody, Field, respond};
 use std::alloc::Global;
 use std::fmt::Write;
 use std::process::Abort;

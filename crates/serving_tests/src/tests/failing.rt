@@ -5,12 +5,10 @@ ghost use Rattle.std.specs.Io.{ReadsAtMost, WritesAtMost};
 
 use super::source_of;
 use answer_sources::TableSource;
+use edge_connections::{Accept, AcceptFault, Capacity, Executor, ServeEnd, Signals};
 use fetch_workers::Assembling;
 use futures::task::{Context, Poll};
-use hyper_edge::{
-    Accept, AcceptFault, Capacity, EdgeService, Executor, Journal, NoJournal, RequestRecord,
-    ServeEnd, Signals, serve_accepts, serve_io,
-};
+use hyper_edge::{EdgeService, Journal, NoJournal, RequestRecord, serve_accepts, serve_io};
 use std::alloc::AllocGlobal;
 use std::io;
 use std::io::{ErrorKind, Read};

@@ -16,8 +16,8 @@ use Rattle.hyper_edge.proofs.page_time.WithinTime.TheSendSync as WithinTime
 use Rattle.hyper_edge.specs.contracts.page_time.FlightsInTime as flights_in_time
 use Rattle.hyper_edge.specs.contracts.page_time.WithinTime as within_time
 use Rattle.hyper_edge.specs.contracts.page_time.WithinTimeSource.TheImpl as in_time
-use Rattle.hyper_edge.proofs.roster.Work.TheSendSync as Work
-use Rattle.hyper_edge.specs.contracts.roster.Work as work
+use Rattle.edge_connections.proofs.roster.Work.TheSendSync as Work
+use Rattle.edge_connections.specs.contracts.roster.Work as work
 use Rattle.hyper_edge.specs.contracts.server.Server as server
 use Rattle.hyper_edge.proofs.Crossings.{server_sync}
 use Rattle.hyper_edge.proofs.threads.fn.start_all.scope.Goals as goal

@@ -77,8 +77,8 @@ impl Exchange {
     }
 }
 
-/// When a limit that begins now ends; never, if the clock doesn't reach that far.
-pub(crate) fn deadline(clock: &impl Clock, limit: Option<Duration>) -> io::Result<Option<Instant>> {
+/// When a limit that begins now ends; never, if the clock doesn't reach that far. Refused where it can't be read.
+pub fn deadline(clock: &impl Clock, limit: Option<Duration>) -> io::Result<Option<Instant>> {
     match limit {
         Some(limit) => Ok(Instant::now(clock)?.checked_add(limit)),
         None => Ok(None),

@@ -2,12 +2,12 @@
 //! started, and when the work has ended.
 
 ghost use Rattle.std.specs.Prelude.{◌≡◌, ◌↔◌, ◌<◌, not, None, Some, IsTrue, IsFalse, MatchBool, MatchOption};
-ghost use Rattle.hyper_edge.specs.Roster as spec;
-ghost use Rattle.hyper_edge.specs.Staff.{HasReserve, HasSpare, IsDue, Lacks, WantsThread};
-ghost use Rattle.hyper_edge.specs.declared.roster.Admission.TheVariants as admission;
-ghost use Rattle.hyper_edge.specs.declared.roster.AfterFailure.TheVariants as after;
-ghost use Rattle.hyper_edge.specs.declared.roster.ServeEnd.TheVariants as ended;
-ghost use Rattle.hyper_edge.specs.declared.roster.Work.TheVariants as kind;
+ghost use Rattle.edge_connections.specs.Roster as spec;
+ghost use Rattle.edge_connections.specs.Staff.{HasReserve, HasSpare, IsDue, Lacks, WantsThread};
+ghost use Rattle.edge_connections.specs.declared.roster.Admission.TheVariants as admission;
+ghost use Rattle.edge_connections.specs.declared.roster.AfterFailure.TheVariants as after;
+ghost use Rattle.edge_connections.specs.declared.roster.ServeEnd.TheVariants as ended;
+ghost use Rattle.edge_connections.specs.declared.roster.Work.TheVariants as kind;
 
 use crate::accept::AcceptFault;
 use crate::staff::Staff;
@@ -38,7 +38,7 @@ pub enum ServeEnd {
 
 /// Whether a thread may accept.
 #[derive(Clone, Copy, Debug, PartialEq, Eq)]
-pub(crate) enum Admission {
+pub enum Admission {
     /// It may, and its accept is counted.
     Accepts,
     /// Not now: as many others accept as there is room for connections, or an accept has failed just now.
@@ -51,7 +51,7 @@ pub(crate) enum Admission {
 
 /// What follows from a failed accept.
 #[derive(Clone, Copy, Debug, PartialEq, Eq)]
-pub(crate) enum AfterFailure {
+pub enum AfterFailure {
     /// It was one failure too many: no more accepts are made.
     Ends,
     /// Nobody accepts until the thread has rested for so many milliseconds.
@@ -65,7 +65,7 @@ pub(crate) enum AfterFailure {
 
 /// What a thread is started for.
 #[derive(Clone, Copy, Debug, PartialEq, Eq)]
-pub(crate) enum Work {
+pub enum Work {
     /// To accept and to serve.
     Accepting,
     /// To go on with clients who waited.
@@ -74,7 +74,7 @@ pub(crate) enum Work {
 
 /// The state under the lock that serving threads share.
 #[derive(Drop)]
-pub(crate) struct Roster {
+pub struct Roster {
     // How many accepts nobody has begun yet, and how many have been begun and haven't ended.
     left: u64,
     begun: u32,
@@ -94,7 +94,7 @@ pub(crate) struct Roster {
 
 impl Roster {
     /// For this many accepts. The first thread is wanted.
-    pub(crate) fn new(count: u64, capacity: Capacity) -> Roster
+    pub fn new(count: u64, capacity: Capacity) -> Roster
         ensures { result ≡ spec.opened count capacity }
     {
         Roster {

@@ -1,6 +1,6 @@
 -- When one more thread is wanted for one kind of work, and when it is started.
 use Rattle.std.specs.Prelude.{ℕ, Bool, ◌≡◌, ◌+◌, ◌-◌, ◌*◌, ◌^◌, ◌<◌, ◌≤◌, min, true, false, None, Some, IfSome, IsTrue, IsFalse}
-use Rattle.hyper_edge.specs.declared.staff.Staff.{Staff}
+use Rattle.edge_connections.specs.declared.staff.Staff.{Staff}
 
 -- no thread yet
 abbrev pub nobody : ℕ → Bool → Staff

@@ -1,10 +1,10 @@
 -- When connections may be accepted, when one more thread is wanted, and when failed accepts end a server.
 use Rattle.std.specs.Prelude.{ℕ, ◌≡◌, ◌+◌, ◌-◌, ◌*◌, ◌^◌, ◌<◌, ◌≤◌, min, max, Bool, ◌||◌, false, true}
-use Rattle.hyper_edge.specs.declared.accept.AcceptFault.{AcceptFault}
-use Rattle.hyper_edge.specs.declared.accept.AcceptFault.TheVariants as accept_fault
-use Rattle.hyper_edge.specs.declared.roster.Capacity.{Capacity}
-use Rattle.hyper_edge.specs.declared.roster.Roster.{Roster}
-use Rattle.hyper_edge.specs.Staff as staff
+use Rattle.edge_connections.specs.declared.accept.AcceptFault.{AcceptFault}
+use Rattle.edge_connections.specs.declared.accept.AcceptFault.TheVariants as accept_fault
+use Rattle.edge_connections.specs.declared.roster.Capacity.{Capacity}
+use Rattle.edge_connections.specs.declared.roster.Roster.{Roster}
+use Rattle.edge_connections.specs.Staff as staff
 
 -- before any accept: there is no connection, and the first thread is wanted
 abbrev pub opened : ℕ → Capacity → Roster

@@ -10,7 +10,7 @@ use std::time::{Clock, Duration};
 const TICK_MILLIS: u64 = 100;
 
 /// What whoever starts threads has waited for.
-pub(crate) enum Wanted {
+pub enum Wanted {
     /// One more thread is wanted, and counted.
     Thread(Work),
     /// There is no thread for some of the work, and none can be started yet.
@@ -23,7 +23,7 @@ pub(crate) enum Wanted {
 
 /// A roster under its lock. Nothing is accepted or served under it.
 #[derive(Drop)]
-pub(crate) struct SharedRoster {
+pub struct SharedRoster {
     roster: Mutex<Roster>,
     // A thread is wanted, or the work is done.
     moved: Condvar,
@@ -33,20 +33,23 @@ pub(crate) struct SharedRoster {
 
 /// The work that a thread does, and the roster that counts it.
 #[derive(Drop)]
-pub(crate) struct Duty<'r> {
+pub struct Duty<'r> {
+    /// Who counts the thread.
     pub roster: &'r SharedRoster,
+    /// What it was started for.
     pub work: Work,
 }
 
 impl<'r> Duty<'r> {
     /// Whether a page may hold the thread while it waits for its fetches.
-    pub(crate) fn may_linger(&self, rt: &impl Wait) -> bool {
+    pub fn may_linger(&self, rt: &impl Wait) -> bool {
         self.roster.roster.lock(rt).may_linger(self.work)
     }
 }
 
 impl SharedRoster {
-    pub(crate) fn new(roster: Roster) -> SharedRoster {
+    /// This one, under a lock.
+    pub fn new(roster: Roster) -> SharedRoster {
         SharedRoster {
             roster: Mutex::new(roster),
             moved: Condvar::new(),
@@ -54,12 +57,14 @@ impl SharedRoster {
         }
     }
 
-    pub(crate) fn may_accept(&self, rt: &impl Wait) -> Admission {
+    /// Whether a thread may accept now. If so its accept is counted.
+    pub fn may_accept(&self, rt: &impl Wait) -> Admission {
         self.roster.lock(rt).may_accept()
     }
 
-    /// Tells the acceptor whether streams may block for a moment from now on, and so does `served`.
-    pub(crate) fn accepted<R: Wait, A: Accept<R>>(&self, rt: &R, acceptor: &A) {
+    /// A thread serves what it has accepted. Tells the acceptor whether streams may block for a moment from now on, and so
+    /// does `served`.
+    pub fn accepted<R: Wait, A: Accept<R>>(&self, rt: &R, acceptor: &A) {
         let mut roster = self.roster.lock(rt);
         let is_wanted = roster.accepted();
         acceptor.set_may_wait(roster.may_wait());
@@ -67,13 +72,15 @@ impl SharedRoster {
         self.tell(is_wanted);
     }
 
-    pub(crate) fn served<R: Wait, A: Accept<R>>(&self, rt: &R, acceptor: &A) {
+    /// A thread that served what it had accepted accepts again.
+    pub fn served<R: Wait, A: Accept<R>>(&self, rt: &R, acceptor: &A) {
         let mut roster = self.roster.lock(rt);
         roster.served();
         acceptor.set_may_wait(roster.may_wait());
     }
 
-    pub(crate) fn accept_failed(&self, rt: &impl Wait, fault: AcceptFault) -> AfterFailure {
+    /// An accept has failed, and is still to be made. Tells what follows.
+    pub fn accept_failed(&self, rt: &impl Wait, fault: AcceptFault) -> AfterFailure {
         let mut roster = self.roster.lock(rt);
         let what_follows = roster.accept_failed(fault);
         let is_done = roster.is_done();
@@ -82,28 +89,32 @@ impl SharedRoster {
         what_follows
     }
 
-    pub(crate) fn accepts_again(&self, rt: &impl Wait) {
+    /// The pause after a failed accept is over.
+    pub fn accepts_again(&self, rt: &impl Wait) {
         self.roster.lock(rt).accepts_again();
         self.room.notify_all();
     }
 
-    /// If the connection is an idle one, it may be what makes room.
-    pub(crate) fn parked(&self, rt: &impl Wait) {
+    /// A connection, or what is fetched, was parked. If it is an idle connection, it may be what makes room.
+    pub fn parked(&self, rt: &impl Wait) {
         let is_wanted = self.roster.lock(rt).parked();
         self.tell(is_wanted);
         self.room.notify_one();
     }
 
-    pub(crate) fn resumed(&self, rt: &impl Wait) {
+    /// A thread goes on with what was parked.
+    pub fn resumed(&self, rt: &impl Wait) {
         let is_wanted = self.roster.lock(rt).resumed();
         self.tell(is_wanted);
     }
 
-    pub(crate) fn rested(&self, rt: &impl Wait) {
+    /// It has done so, and waits for the next one.
+    pub fn rested(&self, rt: &impl Wait) {
         self.roster.lock(rt).rested();
     }
 
-    pub(crate) fn ended(&self, rt: &impl Wait) {
+    /// A connection has ended.
+    pub fn ended(&self, rt: &impl Wait) {
         let mut roster = self.roster.lock(rt);
         roster.ended();
         let is_done = roster.is_done();
@@ -112,28 +123,31 @@ impl SharedRoster {
         self.room.notify_one();
     }
 
-    pub(crate) fn not_started<R: Wait + Clock>(&self, rt: &R, work: Work) {
+    /// A thread for this work couldn't be started. It is wanted again once a pause is over.
+    pub fn not_started<R: Wait + Clock>(&self, rt: &R, work: Work) {
         let now = millisecond(rt);
         self.roster.lock(rt).not_started(work, now);
     }
 
-    pub(crate) fn lacks(&self, rt: &impl Wait, work: Work) -> bool {
+    /// Whether there is this work to be done, and no thread for it.
+    pub fn lacks(&self, rt: &impl Wait, work: Work) -> bool {
         self.roster.lock(rt).lacks(work)
     }
 
-    pub(crate) fn is_done(&self, rt: &impl Wait) -> bool {
+    /// Whether nothing is left to be done.
+    pub fn is_done(&self, rt: &impl Wait) -> bool {
         self.roster.lock(rt).is_done()
     }
 
     /// Waits until there may be room for a connection, or a moment has passed.
-    pub(crate) fn wait_for_room<R: Wait + Clock>(&self, rt: &R) {
+    pub fn wait_for_room<R: Wait + Clock>(&self, rt: &R) {
         let roster = self.roster.lock(rt);
         let _ = self.room.wait_timeout(rt, roster, tick());
     }
 
     /// Waits until one more thread is wanted, and counts it; or until none ever will be, or a moment has passed. Doesn't
     /// wait where whoever starts threads has work to do.
-    pub(crate) fn wait_for_wanted<R: Wait + Clock>(&self, rt: &R) -> Wanted {
+    pub fn wait_for_wanted<R: Wait + Clock>(&self, rt: &R) -> Wanted {
         let now = millisecond(rt);
         let mut roster = self.roster.lock(rt);
         if roster.is_done() {
@@ -150,7 +164,7 @@ impl SharedRoster {
     }
 
     /// No more accepts are begun. Returns whether that is new.
-    pub(crate) fn stop(&self, rt: &impl Wait) -> bool {
+    pub fn stop(&self, rt: &impl Wait) -> bool {
         let mut roster = self.roster.lock(rt);
         let is_first = roster.stop();
         drop(roster);
@@ -159,12 +173,12 @@ impl SharedRoster {
     }
 
     /// How the server ends, once nobody is accepted any longer.
-    pub(crate) fn ending(&self, rt: &impl Wait) -> Option<ServeEnd> {
+    pub fn ending(&self, rt: &impl Wait) -> Option<ServeEnd> {
         self.roster.lock(rt).ending()
     }
 
     /// How the server has ended.
-    pub(crate) fn end(&self, rt: &impl Wait) -> ServeEnd {
+    pub fn end(&self, rt: &impl Wait) -> ServeEnd {
         self.roster.lock(rt).end()
     }
 

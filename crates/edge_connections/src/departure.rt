@@ -1,7 +1,7 @@
 //! Whether a client has left while its page is made.
 
 ghost use Rattle.std.specs.Prelude.{◌≡◌, is_some};
-ghost use Rattle.hyper_edge.specs.Departure.{has_left, watch_of};
+ghost use Rattle.edge_connections.specs.Departure.{has_left, watch_of};
 
 use libc::net::{EPOLLRDHUP, POLLERR, POLLHUP, POLLRDHUP, poll};
 use libc::types::pollfd;
@@ -21,7 +21,7 @@ pub(crate) enum ClientState {
 
 /// The socket of a page's client, which is looked at before each fetch for the page, and while the page waits.
 #[derive(Clone, Copy)]
-pub(crate) struct ClientWatch {
+pub struct ClientWatch {
     /// Its number. It stays open for as long as the page is made, by whoever serves the connection.
     pub socket: RawFd,
     /// Whether a client that has ended its input has left.
@@ -35,13 +35,16 @@ impl ClientWatch {
     }
 
     /// Whether the client is known to have left. Doesn't wait.
-    pub(crate) fn has_left(&self) -> bool {
+    pub fn has_left(&self) -> bool {
         has_left(self.end_leaves, state_of(self.socket))
     }
 }
 
-/// What is looked at, of the socket of a client whose page may have a limit of time.
-pub(crate) fn watch_of(
+/// What is looked at, of the socket of a client whose page may have a limit of time; `None` where the socket isn't known, or
+/// nothing of it counts.
+///
+/// Our profile.
+pub fn watch_of(
     limit: Option<Duration>,
     end_leaves: bool,
     socket: Option<RawFd>,

@@ -13,25 +13,27 @@ use tokio::io::{AsyncRead, AsyncWrite};
 
 /// A request whose head has come.
 #[derive(Drop)]
-pub(crate) struct Asked {
+pub struct Asked {
+    /// The head, as the HTTP library read it.
     pub head: Request<()>,
     /// Whether nothing of a body follows the head.
     pub is_whole: bool,
 }
 
 /// The response to a request. Without one its connection ends.
-pub(crate) type Answered = Result<Response<EdgeBody>, AllocError>;
+pub type Answered = Result<Response<EdgeBody>, AllocError>;
 
 /// Where the request of a connection is handed over, and where its response comes back. One thread at a time polls a
 /// connection or answers its request, so the locks are free.
 #[derive(Drop)]
-pub(crate) struct Handover {
+pub struct Handover {
     asked: Mutex<Option<Asked>>,
     answered: Mutex<Option<Answered>>,
 }
 
 impl Handover {
-    pub(crate) fn new() -> Handover {
+    /// Nothing is handed over yet.
+    pub fn new() -> Handover {
         Handover {
             asked: Mutex::new(None),
             answered: Mutex::new(None),
@@ -44,7 +46,7 @@ impl Handover {
     }
 
     /// Gives the response to it.
-    pub(crate) fn answer(&self, answered: Answered) {
+    pub fn answer(&self, answered: Answered) {
         if let Some(mut left) = self.answered.try_lock() {
             *left = Some(answered);
         }
@@ -64,7 +66,8 @@ impl Handover {
 /// The service of a connection as the HTTP library sees it: it hands each request over, and waits for the response.
 /// What the library polls may not start threads for a page.
 #[derive(Drop)]
-pub(crate) struct HandsOver {
+pub struct HandsOver {
+    /// Where a request goes, and its response comes from.
     pub handover: Arc<Handover>,
 }
 
@@ -90,7 +93,7 @@ impl<I: AsyncRead + AsyncWrite> Service<Request<Incoming<I>>> for HandsOver {
 
 /// The response to a request that was handed over, once it has come back.
 #[derive(Drop)]
-pub(crate) struct ComesBack {
+pub struct ComesBack {
     // `None` where nobody could say where it comes back to.
     handover: Option<Arc<Handover>>,
 }

@@ -1,44 +1,21 @@
 //! A connection that the HTTP library serves, and how far it gets.
 
 ghost use Rattle.std.specs.Prelude.{◌≡◌, box_value, IsSomeAnd};
-ghost use Rattle.hyper_edge.specs.Refusals.{status_of_refusal};
+ghost use Rattle.edge_connections.specs.Refusals.{status_of_refusal};
 
-use crate::date::DateClock;
 use crate::executor::Executor;
 use crate::handover::{Asked, Handover};
-use crate::service::EdgeService;
 use crate::signals::{Pause, Signals};
 use futures::Future;
 use futures::task::{Context, Poll};
-use hyper::server::conn::http1::Builder;
 use polled_futures::Pollable;
 use std::alloc::{AllocError, Global};
 use std::os::fd::RawFd;
 use std::sync::{Arc, Wait};
-use std::time::Clock;
-
-/// How the requests of connections are read and their responses written, by the HTTP library, as a service needs it;
-/// and whether connections are kept for further requests.
-pub(crate) fn http_of<S, R>(
-    service: &EdgeService<S, R>,
-    keeps: bool,
-) -> Builder<Option<DateClock<R>>>
-where
-    S: Drop,
-    R: Clock + Clone + Drop,
-{
-    let mut http = Builder::new(service.alloc(), service.keys());
-    http.keep_alive(keeps);
-    // Without it a long body waits for the client to send more.
-    http.half_close(true);
-    // The stream has limits of its own.
-    http.header_read_timeout(None);
-    http.timer(service.date_clock())
-}
 
 /// Why a connection stopped that may be gone on with.
 #[derive(Drop)]
-pub(crate) enum Stop {
+pub enum Stop {
     /// A request has come, and waits for its response.
     Asked(Asked),
     /// A response has been written.
@@ -49,7 +26,7 @@ pub(crate) enum Stop {
 
 /// How far a connection got.
 #[derive(Drop)]
-pub(crate) enum Went<F: Future> {
+pub enum Went<F: Future> {
     /// It stopped, and may be gone on with.
     Stopped(Connection<F>, Stop),
     /// It has ended; with the status by which the HTTP library refused what is no head, if it did.
@@ -68,9 +45,9 @@ fn status_of_refusal(ended: &hyper::Result<()>) -> Option<u16>
     }
 }
 
-/// A connection that may be gone on with.
+/// A connection that may be gone on with, by one thread at a time.
 #[derive(Drop)]
-pub(crate) struct Connection<F: Future> {
+pub struct Connection<F: Future> {
     future: Pollable<F>,
     handover: Arc<Handover>,
     // Without them the connection is never paused, and nobody knows when a response has been written.
@@ -78,8 +55,9 @@ pub(crate) struct Connection<F: Future> {
 }
 
 impl<F: Future<Output = hyper::Result<()>>> Connection<F> {
-    /// A connection whose requests are handed over there, and whose stream tells these signals.
-    pub(crate) fn new(
+    /// A connection whose requests are handed over there, and whose stream tells these signals. Refused where there is no
+    /// memory for it.
+    pub fn new(
         alloc: Global,
         future: F,
         handover: Arc<Handover>,
@@ -95,22 +73,22 @@ impl<F: Future<Output = hyper::Result<()>>> Connection<F> {
     }
 
     /// Where the responses to its requests are given.
-    pub(crate) fn handover(&self) -> &Handover {
+    pub fn handover(&self) -> &Handover {
         &self.handover
     }
 
     /// Whether whoever serves it is told when it may be gone on with, so that it may be parked.
-    pub(crate) fn may_pause(&self) -> bool {
+    pub fn may_pause(&self) -> bool {
         self.signals.is_some()
     }
 
     /// Its client's socket, where it is known.
-    pub(crate) fn socket(&self) -> Option<RawFd> {
+    pub fn socket(&self) -> Option<RawFd> {
         self.signals.as_ref()?.socket()
     }
 
     /// Goes on until the connection stops, or has ended, as where the executor has no room.
-    pub(crate) fn go_on(self, rt: &impl Wait, executor: &mut Executor) -> Went<F> {
+    pub fn go_on(self, rt: &impl Wait, executor: &mut Executor) -> Went<F> {
         let stretch = Stretch {
             connection: Some(self),
         };

@@ -13,20 +13,22 @@ use std::time::Instant;
 
 /// What waits: a connection, or fetches.
 #[derive(Drop)]
-pub(crate) enum Waiting<C, F> {
+pub enum Waiting<C, F> {
+    /// A connection, for its client, or for what is fetched for it.
     Connection(C),
+    /// Fetches that are no connection's any longer.
     Fetches(F),
 }
 
 /// What waits, under a lock. Each is known by its key.
 #[derive(Drop)]
-pub(crate) struct ParkingPlace<T> {
+pub struct ParkingPlace<T> {
     lot: Mutex<Lot<T>>,
 }
 
 impl<T: Drop> ParkingPlace<T> {
     /// An empty one.
-    pub(crate) fn new(alloc: Global) -> ParkingPlace<T> {
+    pub fn new(alloc: Global) -> ParkingPlace<T> {
         ParkingPlace {
             lot: Mutex::new(Lot::new(alloc)),
         }
@@ -34,7 +36,7 @@ impl<T: Drop> ParkingPlace<T> {
 
     /// Takes in what can't go on, once `watch` has its key told as soon as it can. It comes back where there is no room for
     /// it, or it can't be watched.
-    pub(crate) fn park<W: FnOnce(usize) -> bool>(
+    pub fn park<W: FnOnce(usize) -> bool>(
         &self,
         rt: &impl Wait,
         session: T,
@@ -54,23 +56,23 @@ impl<T: Drop> ParkingPlace<T> {
     }
 
     /// The connection under a key, if it still waits.
-    pub(crate) fn take(&self, rt: &impl Wait, key: usize) -> Option<T> {
+    pub fn take(&self, rt: &impl Wait, key: usize) -> Option<T> {
         self.lot.lock(rt).take(key)
     }
 
     /// A connection whose client's time is over by now.
-    pub(crate) fn take_late(&self, rt: &impl Wait, now: Instant) -> Option<T> {
+    pub fn take_late(&self, rt: &impl Wait, now: Instant) -> Option<T> {
         self.lot.lock(rt).take_late(now)
     }
 
     /// The connection that has been kept without a further request for longest.
-    pub(crate) fn take_idle(&self, rt: &impl Wait) -> Option<T> {
+    pub fn take_idle(&self, rt: &impl Wait) -> Option<T> {
         self.lot.lock(rt).take_idle()
     }
 
     /// The connection that has let it wait for longest, among those that wait for their clients: one that is idle before any
     /// other.
-    pub(crate) fn take_client(&self, rt: &impl Wait) -> Option<T> {
+    pub fn take_client(&self, rt: &impl Wait) -> Option<T> {
         let mut lot = self.lot.lock(rt);
         match lot.take_idle() {
             Some(idle) => Some(idle),
@@ -79,7 +81,7 @@ impl<T: Drop> ParkingPlace<T> {
     }
 
     /// Each connection that waits; none waits any longer.
-    pub(crate) fn take_all(&self, rt: &impl Wait, alloc: Global) -> Slab<Parked<T>> {
+    pub fn take_all(&self, rt: &impl Wait, alloc: Global) -> Slab<Parked<T>> {
         let mut lot = self.lot.lock(rt);
         let Lot {
             parked,
@@ -107,7 +109,8 @@ struct Lot<T> {
 
 /// A connection that waits.
 #[derive(Drop)]
-pub(crate) struct Parked<T> {
+pub struct Parked<T> {
+    /// The connection, or what else was taken in.
     pub session: T,
     // When the time of its client is over.
     until: Option<Instant>,

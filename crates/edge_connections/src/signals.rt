@@ -3,7 +3,6 @@
 ghost use Rattle.std.specs.Prelude.{◌≡◌, Some};
 
 use crate::departure::ClientWatch;
-use answer_sources::Awaited;
 use std::os::fd::RawFd;
 use std::sync::Mutex;
 use std::sync::atomic::{AtomicBool, Ordering};
@@ -45,12 +44,17 @@ pub struct Pause {
 }
 
 impl Pause {
-    /// What fetches wait for, for a client where there is one.
-    pub(crate) fn for_fetches(awaited: Awaited, client: Option<ClientWatch>) -> Pause {
+    /// What fetches wait for, for a client where there is one: that this descriptor is readable, or their time is over, if it
+    /// ever is.
+    pub fn for_fetches(
+        descriptor: RawFd,
+        until: Option<Instant>,
+        client: Option<ClientWatch>,
+    ) -> Pause {
         Pause {
-            socket: awaited.descriptor,
+            socket: descriptor,
             readiness: Readiness::Readable,
-            until: awaited.until,
+            until,
             by: PausedBy::Fetches,
             client,
         }

@@ -1,7 +1,7 @@
 //! The threads that do one kind of work.
 
 ghost use Rattle.std.specs.Prelude.{◌≡◌, ◌↔◌, false, true, IsTrue, MatchBool};
-ghost use Rattle.hyper_edge.specs.Staff as spec;
+ghost use Rattle.edge_connections.specs.Staff as spec;
 
 // For how many milliseconds no thread is started after one couldn't be.
 const PAUSE: u64 = 1_000;

@@ -7,12 +7,13 @@ use tokio::time::Sleep;
 
 /// The clock of the field `date` (RFC 9110, "Date"). No limit of time rests on it.
 #[derive(Clone, Drop)]
-pub(crate) struct DateClock<R> {
+pub struct DateClock<R> {
     rt: R,
 }
 
 impl<R> DateClock<R> {
-    pub(crate) fn new(rt: R) -> DateClock<R> {
+    /// By the clock of the day of this runtime.
+    pub fn new(rt: R) -> DateClock<R> {
         DateClock { rt }
     }
 }

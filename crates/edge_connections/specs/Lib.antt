@@ -1,0 +1,4 @@
+pub mod Staff
+pub mod Departure
+pub mod Roster
+pub mod Refusals

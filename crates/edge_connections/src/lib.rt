@@ -1,0 +1,36 @@
+//! Connections of clients: they are accepted, read, written and parked, each by one thread at a time, and it is counted who
+//! serves them. What answers their requests is their user's.
+//!
+//! Source: RFC 9112, "HTTP/1.1".
+#![tactic(auto)]
+
+mod accept;
+mod client_stream;
+mod connection;
+mod date;
+mod departure;
+mod exchange;
+mod executor;
+mod handover;
+mod parking;
+mod roster;
+mod runtime;
+mod shared_roster;
+mod signals;
+mod sockets;
+mod staff;
+
+pub use accept::{Accept, AcceptFault};
+pub use client_stream::ClientStream;
+pub use connection::{Connection, Stop, Went};
+pub use date::DateClock;
+pub use departure::{ClientWatch, watch_of};
+pub use exchange::{Limits, deadline};
+pub use executor::Executor;
+pub use handover::{Answered, Asked, ComesBack, Handover, HandsOver};
+pub use parking::{Parked, ParkingPlace, Waiting};
+pub use roster::{Admission, AfterFailure, Capacity, Roster, ServeEnd, Work};
+pub use runtime::ServerRuntime;
+pub use shared_roster::{Duty, SharedRoster, Wanted};
+pub use signals::{Pause, PausedBy, Readiness, Signals};
+pub use sockets::{Sockets, StopSign};
