@@ -1,5 +1,5 @@
-//! Connections of clients: they are accepted, read, written and parked, each by one thread at a time, and it is counted who
-//! serves them. What answers their requests is their user's.
+//! Connections of clients: how they are accepted, read, written and parked, each by one thread at a time, and when more
+//! threads are started for them. Their requests are handed over to whoever answers them.
 //!
 //! Source: RFC 9112, "HTTP/1.1".
 #![tactic(auto)]
