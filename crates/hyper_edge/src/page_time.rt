@@ -116,6 +116,9 @@ pub(crate) struct FlightsInTime<F> {
     fetches: F,
     awaited: Vec<PageUrl>,
     late: Vec<PageUrl>,
+    // Whether the page was seen to be in time since it last waited, or was given an answer: so fetches that are begun one
+    // after another cost one look.
+    is_in_time: bool,
 }
 
 impl<F> FlightsInTime<F> {
@@ -165,6 +168,7 @@ impl<R: Clock, S: ConcurrentSource<R>> ConcurrentSource<R> for WithinTime<S> {
             fetches: self.source.nothing_in_flight(rt, alloc),
             awaited: Vec::new(alloc),
             late: Vec::new(alloc),
+            is_in_time: false,
         }
     }
 
@@ -175,9 +179,12 @@ impl<R: Clock, S: ConcurrentSource<R>> ConcurrentSource<R> for WithinTime<S> {
         in_flight: &mut FlightsInTime<S::InFlight>,
         url: &PageUrl,
     ) -> Result<(), NoMemory> {
-        if self.is_over(rt) {
-            in_flight.late.push(url.share()?)?;
-            return Ok(());
+        if !in_flight.is_in_time {
+            if self.is_over(rt) {
+                in_flight.late.push(url.share()?)?;
+                return Ok(());
+            }
+            in_flight.is_in_time = true;
         }
         in_flight.awaited.reserve(1)?;
         let own = url.share()?;
@@ -191,6 +198,7 @@ impl<R: Clock, S: ConcurrentSource<R>> ConcurrentSource<R> for WithinTime<S> {
         alloc: Global,
         in_flight: &mut FlightsInTime<S::InFlight>,
     ) -> Result<Option<Given>, NoMemory> {
+        in_flight.is_in_time = false;
         if let Some(url) = in_flight.late.pop() {
             return Ok(Some(self.too_late(rt, alloc, &url)?));
         }
@@ -219,6 +227,7 @@ impl<R: Clock, S: ConcurrentSource<R>> ConcurrentSource<R> for WithinTime<S> {
         in_flight: &mut FlightsInTime<S::InFlight>,
         most: Option<Duration>,
     ) -> Result<(), NoMemory> {
+        in_flight.is_in_time = false;
         if !in_flight.late.is_empty() {
             return Ok(());
         }
@@ -235,6 +244,7 @@ impl<R: Clock, S: ConcurrentSource<R>> ConcurrentSource<R> for WithinTime<S> {
         alloc: Global,
         in_flight: &mut FlightsInTime<S::InFlight>,
     ) -> Option<Awaited> {
+        in_flight.is_in_time = false;
         let below = self.source.awaited(rt, alloc, &mut in_flight.fetches)?;
         Some(Awaited {
             descriptor: below.descriptor,
@@ -257,6 +267,7 @@ impl<R: Clock, S: ConcurrentSource<R>> ConcurrentSource<R> for WithinTime<S> {
             fetches,
             awaited: _,
             late: _,
+            is_in_time: _,
         } = in_flight;
         self.source.give_up(rt, alloc, fetches);
     }

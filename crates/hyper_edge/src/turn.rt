@@ -188,7 +188,7 @@ where
     {
         let PageAsked { page, request } = asked;
         let waiting = self.gone_on(page, &request, connection)?;
-        self.waited(waiting, request, Lingers::not(), connection)
+        self.waited(waiting, request, None, connection)
     }
 
     // Goes on with a page that waits for its fetches, until its response was given to the connection, or it has to wait for
@@ -197,7 +197,7 @@ where
         &mut self,
         page: PageInProgress<R, WithinTime<S>>,
         request: Requested,
-        lingers: Lingers,
+        mut lingers: Option<Lingers>,
         connection: &Connection<F>,
     ) -> Option<Halt<R, S>>
     where
@@ -206,14 +206,13 @@ where
         let rt = self.serving.rt;
         let mut waiting = page;
         for _ in rt.forever() {
-            if lingers.lasts(rt) && self.may_linger() {
-                waiting.wait(Some(Duration::from_millis(STEP_MILLIS)));
-            } else {
-                match self.pause(&mut waiting, connection) {
-                    Some(pause) => return self.left(waiting, request, pause, connection),
-                    None => waiting.wait(None),
+            let patience = self.patience(&mut lingers);
+            if patience.is_none() {
+                if let Some(pause) = self.pause(&mut waiting, connection) {
+                    return self.left(waiting, request, pause, connection);
                 }
             }
+            waiting.wait(patience);
             waiting = self.gone_on(waiting, &request, connection)?;
         }
         unreachable!()
@@ -244,12 +243,22 @@ where
         None
     }
 
-    // Whether there are threads in reserve, so that a page may hold this one.
-    fn may_linger(&self) -> bool {
-        match &self.duty {
-            Some(duty) => duty.may_linger(self.serving.rt),
-            None => false,
+    // For how long a page may hold this thread now; `None` where it may not: it has lingered for long enough, or there are
+    // no threads in reserve, which is looked at once for each step.
+    fn patience(&self, lingers: &mut Option<Lingers>) -> Option<Duration> {
+        let now = Instant::now(self.serving.rt).ok()?;
+        let lingers = lingers.as_mut()?;
+        if now >= lingers.until {
+            return None;
         }
+        if now >= lingers.step_ends {
+            let duty = self.duty.as_ref()?;
+            if !duty.may_linger(self.serving.rt) {
+                return None;
+            }
+            lingers.step_ends = now.checked_add(Duration::from_millis(STEP_MILLIS))?;
+        }
+        Some(lingers.step_ends.duration_since(now))
     }
 
     // Why a page can't go on now; `None` where only a wait in this thread would tell when it can.
@@ -318,32 +327,21 @@ where
     }
 }
 
-// Until when a page may hold its thread; `None` where it may not, as where the clock can't be read.
+// A page that holds its thread: until when at most, and until when there need be no further look whether it may.
 #[derive(Clone, Copy)]
 struct Lingers {
-    until: Option<Instant>,
+    until: Instant,
+    step_ends: Instant,
 }
 
 impl Lingers {
-    // From now on.
-    fn begun(clock: &impl Clock) -> Lingers {
-        let until = match Instant::now(clock) {
-            Ok(now) => now.checked_add(Duration::from_millis(LINGERS_MILLIS)),
-            Err(_) => None,
-        };
-        Lingers { until }
-    }
-
-    // Not at all.
-    fn not() -> Lingers {
-        Lingers { until: None }
-    }
-
-    fn lasts(self, clock: &impl Clock) -> bool {
-        match (self.until, Instant::now(clock)) {
-            (Some(until), Ok(now)) => now < until,
-            _ => false,
-        }
+    // From now on; `None` where the clock can't be read.
+    fn begun(clock: &impl Clock) -> Option<Lingers> {
+        let now = Instant::now(clock).ok()?;
+        Some(Lingers {
+            until: now.checked_add(Duration::from_millis(LINGERS_MILLIS))?,
+            step_ends: now,
+        })
     }
 }
 

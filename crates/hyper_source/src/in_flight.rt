@@ -33,6 +33,8 @@ pub struct FetchesInFlight {
     queued: VecDeque<Queued>,
     // Whether a wait has just told what there is to tell.
     has_told: bool,
+    // Whether somebody may ring the poller's bell.
+    has_bell: bool,
 }
 
 /// A fetch that is to be made.
@@ -107,6 +109,7 @@ impl FetchesInFlight {
             answers: VecDeque::new(alloc),
             queued: VecDeque::new(alloc),
             has_told: false,
+            has_bell: false,
         }
     }
 
@@ -197,9 +200,11 @@ impl FetchesInFlight {
         Ok(())
     }
 
-    /// Looks once which fetches are to have a turn, and doesn't wait. After a wait there is nothing new to see.
+    /// Looks once which fetches are to have a turn, and doesn't wait. There is nothing new to see after a wait, or where
+    /// nothing is in flight and nobody rings.
     pub(crate) fn look(&mut self, clock: &impl Clock) -> Result<(), NoMemory> {
-        if mem::replace(&mut self.has_told, false) {
+        let has_told = mem::replace(&mut self.has_told, false);
+        if has_told || (self.is_idle() && !self.has_bell) {
             return Ok(());
         }
         self.told(clock, 0)
@@ -260,8 +265,10 @@ impl FetchesInFlight {
     }
 
     /// What rings whoever waits for these fetches.
-    pub(crate) fn bell(&self) -> Option<Bell> {
-        self.poller.as_ref()?.bell()
+    pub(crate) fn bell(&mut self) -> Option<Bell> {
+        let bell = self.poller.as_ref()?.bell()?;
+        self.has_bell = true;
+        Some(bell)
     }
 
     /// Whether nothing is in flight.
@@ -279,6 +286,7 @@ impl FetchesInFlight {
             answers: _,
             mut queued,
             has_told: _,
+            has_bell: _,
         } = self;
         // Before the permits, which would call them.
         leave_each(rt, &mut queued);

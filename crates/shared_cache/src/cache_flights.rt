@@ -3,6 +3,7 @@
 ghost use Rattle.std.specs.Prelude.{◌≡◌, [], length, IfNone, IfSome, IsTrue};
 ghost use Rattle.std.specs.Arc.{arc_value};
 
+use crate::shards::ShardPlace;
 use answer_sources::Given;
 use edge_types::{Answer, NoMemory, PageUrl};
 use fragment_cache::Flight;
@@ -29,24 +30,16 @@ pub(crate) struct Led {
     ghost named: { (arc_value ready).url ≡ flight.url },
 }
 
-/// A flight that another thread leads: its URL and its number.
+/// A flight that another thread leads: its URL, its shard and its number there.
 #[derive(Drop)]
 pub(crate) struct Joined {
     pub(crate) url: PageUrl,
+    pub(crate) place: ShardPlace,
     pub(crate) number: u64,
+    /// How many flights had landed in the shard when this one was last known to fly.
+    pub(crate) landings: u64,
     /// Whether the page has left a bell there.
     pub(crate) has_bell: bool,
-}
-
-impl Joined {
-    /// A flight that was joined just now.
-    pub(crate) fn new(url: PageUrl, number: u64) -> Joined {
-        Joined {
-            url,
-            number,
-            has_bell: false,
-        }
-    }
 }
 
 impl Led {

@@ -1,6 +1,6 @@
 //! The shards of a cache, each under a lock of its own.
 
-ghost use Rattle.std.specs.Prelude.{◌≡◌, ◌≤◌, IfOk};
+ghost use Rattle.std.specs.Prelude.{◌≡◌, ◌≤◌, ◌<◌, IfOk};
 
 use crate::cache::SHARDS;
 use crate::placing::Placing;
@@ -14,6 +14,13 @@ use std::array;
 pub(crate) struct Shards {
     placing: Placing,
     pub(crate) all: [SharedShard; SHARDS],
+}
+
+/// Where one of the shards is.
+#[derive(Clone, Copy)]
+pub(crate) struct ShardPlace {
+    index: usize,
+    ghost few: { index < SHARDS },
 }
 
 impl Shards {
@@ -32,6 +39,18 @@ impl Shards {
 
     /// The one that keeps the answers of a URL.
     pub(crate) fn of(&self, url: &PageUrl) -> &SharedShard {
-        &self.all[self.placing.shard_of(url)]
+        self.at(self.place_of(url))
+    }
+
+    /// Where that is.
+    pub(crate) fn place_of(&self, url: &PageUrl) -> ShardPlace {
+        ShardPlace {
+            index: self.placing.shard_of(url),
+        }
+    }
+
+    /// The one at a place.
+    pub(crate) fn at(&self, place: ShardPlace) -> &SharedShard {
+        &self.all[place.index]
     }
 }

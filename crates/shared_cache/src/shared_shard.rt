@@ -14,6 +14,7 @@ use edge_types::{Answer, NoMemory, PageUrl};
 use fragment_cache::{Begun, Flight, MAX_CAPACITY, Picked, Shard, UrlHashing, is_failing};
 use std::alloc::Global;
 use std::collections::BTreeMap;
+use std::sync::atomic::{AtomicU64, Ordering};
 use std::sync::{Arc, Condvar, Mutex, MutexGuard, Wait};
 use std::time::{Clock, Duration};
 
@@ -22,6 +23,9 @@ pub(crate) struct SharedShard {
     shelf: Mutex<Shelf>,
     // A flight has landed.
     landed: Condvar,
+    // How many have, modulo 2^64. Counted once the shard has the answer, so whoever finds the count as it was has missed
+    // nothing by not looking.
+    landings: AtomicU64,
 }
 
 // A shard, what was asked of it, how many have left each flight that they had joined: their pick-ups are made once it
@@ -148,6 +152,7 @@ impl SharedShard {
                 bells: BTreeMap::new(alloc),
             }),
             landed: Condvar::new(),
+            landings: AtomicU64::new(0),
         })
     }
 
@@ -227,8 +232,9 @@ impl SharedShard {
         landed
     }
 
-    // Wakes those who wait for a flight that has landed. The lock is left before.
+    // Counts a flight that has landed, and wakes those who wait for it. The lock is left before.
     fn tell(&self, bells: Option<Vec<Bell>>) {
+        self.landings.fetch_add(1, Ordering::SeqCst);
         self.landed.notify_all();
         if let Some(bells) = bells {
             for bell in &bells {
@@ -285,6 +291,11 @@ impl SharedShard {
             Some(most) => self.landed.wait_timeout_while(rt, shelf, most, flies).0,
             None => self.landed.wait_while(rt, shelf, flies),
         };
+    }
+
+    /// How many flights have landed: as long as that stays the same, none of those that flew then has.
+    pub(crate) fn landings(&self) -> u64 {
+        self.landings.load(Ordering::SeqCst)
     }
 
     // Picks up the answer of the flight with this number, if it has landed.

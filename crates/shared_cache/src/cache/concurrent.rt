@@ -111,24 +111,31 @@ impl<S, C> Cache<S, C> {
         Ok(has_moved)
     }
 
-    // Looks at a flight that another leads, which is kept while it flies. One whose answer can't be picked up, or isn't for
-    // all, is fetched.
+    // Looks at a flight that another leads, which is kept while it flies; nothing is looked for where no flight has landed
+    // since the last look. One whose answer can't be picked up, or isn't for all, is fetched.
     fn look_at<R: Wait>(
         &self,
         rt: &R,
         alloc: Global,
         in_flight: &mut CacheFlights<S::InFlight>,
-        joined: Joined,
+        mut joined: Joined,
     ) -> Result<Look, NoMemory>
     where
         S: ConcurrentSource<R>,
         ensures { IfOk result (λ look. IfLanded look (λ given. IsForAll joined.url (arc_value given.answer))) }
     {
-        match self.shards.of(&joined.url).pick(rt, joined.number) {
+        let shard = self.shards.at(joined.place);
+        let landings = shard.landings();
+        if landings == joined.landings {
+            in_flight.joined.push_back(joined)?;
+            return Ok(Look::Flying);
+        }
+        match shard.pick(rt, joined.number) {
             Picked::Here(answer) if is_for_all(&answer, &joined.url) => {
                 Ok(Look::Landed(Given::new(answer, Way::Joined)))
             }
             Picked::Flying => {
+                joined.landings = landings;
                 in_flight.joined.push_back(joined)?;
                 Ok(Look::Flying)
             }
@@ -158,7 +165,7 @@ impl<S, C> Cache<S, C> {
         };
         for joined in in_flight.joined.iter_mut() {
             if !joined.has_bell {
-                let shard = self.shards.of(&joined.url);
+                let shard = self.shards.at(joined.place);
                 shard.ring_once_landed(rt, alloc, joined, bell.share()?)?;
                 joined.has_bell = true;
             }
@@ -175,7 +182,7 @@ impl<S, C> Cache<S, C> {
             let Some(joined) = in_flight.joined.pop_front() else {
                 return;
             };
-            self.shards.of(&joined.url).leave(rt, joined.number);
+            self.shards.at(joined.place).leave(rt, joined.number);
         }
         unreachable!()
     }
@@ -238,12 +245,22 @@ where
     ) -> Result<(), NoMemory> {
         in_flight.reserve()?;
         let own = url.share()?;
-        let shard = self.shards.of(url);
+        let place = self.shards.place_of(url);
+        let shard = self.shards.at(place);
+        // Before the flight is joined: what lands later is looked at.
+        let landings = shard.landings();
         match shard.begin(rt, url, self.clock.now(rt), self.most_waiting) {
             None => Ok(in_flight.here.push(self.crowded_out(rt, alloc, url)?)?),
             Some(Begun::Hit(answer)) => { Ok(in_flight.here.push(Given::new(answer, Way::Kept))?) }
             Some(Begun::Join(number)) => {
-                Ok(in_flight.joined.push_back(Joined::new(own, number))?)
+                let joined = Joined {
+                    url: own,
+                    place,
+                    number,
+                    landings,
+                    has_bell: false,
+                };
+                Ok(in_flight.joined.push_back(joined)?)
             }
             Some(Begun::Lead(flight, ready)) => {
                 self.depart(rt, alloc, in_flight, Led::new(flight, ready))
@@ -302,7 +319,7 @@ where
             return self.source.wait(rt, alloc, &mut in_flight.fetches, most);
         }
         if let Some(joined) = in_flight.joined.front() {
-            self.shards.of(&joined.url).wait_for(rt, joined, most);
+            self.shards.at(joined.place).wait_for(rt, joined, most);
         }
         Ok(())
     }
