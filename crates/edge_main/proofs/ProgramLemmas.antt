@@ -11,7 +11,7 @@ use Rattle.edge_case.specs.Bytes.{IsInput}
 use Rattle.edge_case.specs.declared.runner.Ran.{Ran as RanCase}
 use Rattle.edge_case.specs.FailedLeg.{FailsAtLeg}
 use Rattle.edge_case.specs.Run.{IsNoCase, Prints, PrintsPart}
-use Rattle.edge_main.specs.CommandLine.{AsksWhy}
+use Rattle.edge_commands.specs.CommandLine.{AsksWhy}
 use Rattle.edge_main.specs.Program.{AsksLevels, Does, explained_by, explains_by}
 
 -- what came of words that ask why, by how the run of their case ended

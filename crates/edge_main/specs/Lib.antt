@@ -1,7 +1,4 @@
-pub mod Status
-pub mod CommandLine
-pub mod Laws
+pub mod Ending
 pub mod Server
 pub mod OpenFiles
 pub mod Program
-pub mod Checked

@@ -11,16 +11,16 @@ use Rattle.edge_case.specs.declared.runner.Ran.{Ran as RanCase}
 use Rattle.edge_case.specs.Bytes.{IsInput}
 use Rattle.edge_case.specs.FailedLeg.{FailsAtLeg}
 use Rattle.edge_case.specs.Run.{IsNoCase, Prints, PrintsPart}
-use Rattle.edge_main.specs.Status.{status_of}
-use Rattle.edge_main.specs.declared.status.Status.{Status}
-use Rattle.edge_main.specs.declared.status.Status.TheVariants.{Page, PageFault, Served, Checked, FaultFound, Usage, BadOrder, BadOption, NotText, BadCase, NoMemory, InputOutput, AddressInUse, AddressDenied, UnknownHost}
+use Rattle.edge_commands.specs.Status.{status_of}
+use Rattle.edge_commands.specs.declared.status.Status.{Status}
+use Rattle.edge_commands.specs.declared.status.Status.TheVariants.{Page, PageFault, Served, Checked, FaultFound, Usage, BadOrder, BadOption, NotText, BadCase, NoMemory, InputOutput, AddressInUse, AddressDenied, UnknownHost}
 use Rattle.plan_runner.specs.declared.events.Event.{Event}
 use Rattle.edge_setup.specs.declared.check.Checking.{Checking}
 use Rattle.edge_setup.specs.declared.setup.Setup.{Setup}
 use Rattle.edge_main.specs.declared.server.Server.{Server}
 use Rattle.edge_main.specs.declared.program.Done.{Done}
 use Rattle.edge_main.specs.declared.program.Done.TheVariants.{Ran, Explains, Serves, Checks}
-use Rattle.edge_main.specs.CommandLine.{AsksCase, AsksCheck, AsksServe, AsksWhy}
+use Rattle.edge_commands.specs.CommandLine.{AsksCase, AsksCheck, AsksServe, AsksWhy}
 use Rattle.edge_main.specs.Server.{IsServerOf}
 
 -- the words ask for a case with this many levels, whatever its events and its slots ahead are

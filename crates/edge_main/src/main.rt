@@ -3,40 +3,24 @@
 #![tactic(auto)]
 
 ghost use Rattle.clap.specs.Words.{kind_of};
-ghost use Rattle.edge_main.specs.Status.{IsEndOf, IsRefusedAs};
+ghost use Rattle.edge_main.specs.Ending.{IsEndOf, IsRefusedAs};
 
-mod asked;
-mod checking;
-mod command_line;
-mod config;
-mod connections;
-mod end_of_input;
-pub mod laws;
-mod measures;
-mod memory;
+mod ending;
 mod open_files;
 mod operator;
 mod options;
 mod program;
-mod readiness;
-mod reports;
-mod requests_log;
 mod server;
 mod serving;
-mod status;
-mod why;
 
-use asked::Refusal;
-use checking::check;
 use clap::error::ErrorKind;
-use config::{Words, print_config, prints_config};
+use edge_commands::{Refusal, Status, Words, check, explain, print_config, prints_config};
 use edge_setup::Named;
+use ending::status_of_serving;
 use program::{Done, run_words};
 use serving::serve;
-use status::Status;
 use std::io;
 use std::process::ExitCode;
-use why::explain;
 
 fn main(rt: HostRuntime) -> ExitCode {
     let status = match words(&rt) {
@@ -44,7 +28,7 @@ fn main(rt: HostRuntime) -> ExitCode {
             Ok(words) => match run(&rt, &words) {
                 Done::Ran(status) => status,
                 Done::Explains(ran) => explain(&rt, &ran),
-                Done::Serves(server) => Status::of_serving(serve(&rt, server)),
+                Done::Serves(server) => status_of_serving(serve(&rt, server)),
                 Done::Checks(checking) => check(&rt, &checking),
             },
             Err(status) => status,

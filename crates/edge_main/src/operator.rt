@@ -1,8 +1,8 @@
 //! The operator of a server: where it is answered, and how it stops the server.
 
-use crate::end_of_input::EndOfInput;
-use crate::status::Status;
+use edge_commands::Status;
 use edge_connections::StopSign;
+use edge_reports::EndOfInput;
 use operator_http::{HostNames, OperatorListener, StopRequest};
 use std::alloc::AllocGlobal;
 use std::net::{Net, SocketAddr, TcpListener, TcpStream};

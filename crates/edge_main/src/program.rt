@@ -1,14 +1,12 @@
 //! The program over any words, reader and writer.
 ghost use Rattle.std.specs.Prelude.{◌≡◌, map, string_bytes, IfOk, IfErr, OnErr};
-ghost use Rattle.edge_main.specs.CommandLine.{IsRefused};
+ghost use Rattle.edge_commands.specs.CommandLine.{IsRefused};
 ghost use Rattle.edge_main.specs.Program.{Does, explained_by};
 
-use crate::asked::{Asked, Refusal};
-use crate::command_line::asked;
 use crate::options::server_of;
 use crate::server::Server;
-use crate::status::Status;
 use edge_case::{CaseEnd, CaseFault, Ran, Running, run_case, run_case_and_keep};
+use edge_commands::{Asked, Refusal, Status, asked};
 use edge_setup::Checking;
 use std::alloc::Global;
 use std::io::{Read, Write};

@@ -1,17 +1,13 @@
 //! The server: pages over a cache that all clients share, what origins answer, and the machine's clock.
 ghost use Rattle.std.specs.Prelude.{◌≤◌};
 
-use crate::connections::Connections;
-use crate::end_of_input::EndOfInput;
-use crate::measures::Measures;
 use crate::open_files::{Numbers, open_files_limit};
 use crate::operator::{Operator, Stop, bound};
-use crate::reports::Reports;
-use crate::requests_log::AccessLog;
 use crate::server::{Fetches, Server};
-use crate::status::Status;
 use access_log::LogFormat;
+use edge_commands::Status;
 use edge_connections::{Capacity, Limits, ServeEnd, ServerRuntime, Sockets};
+use edge_reports::{AccessLog, Connections, EndOfInput, Kept, Measures, MonotonicSeconds, Reports};
 use edge_setup::{Addresses, Origin, Place};
 use edge_types::NoMemory;
 use failed_answers::{SharedFailures, SparingSource};
@@ -30,10 +26,6 @@ use std::rt::Files;
 use std::sync::Arc;
 use std::time::{Clock, Duration};
 use std::{io, str, thread};
-
-/// What pages are assembled from: what is stored, and below it what origins answer, unless a URL rests since it failed. So
-/// a URL that rests is bridged like one that is asked and fails.
-pub(crate) type Kept = Cache<SparingSource<HyperSource, MonotonicSeconds>, MonotonicSeconds>;
 
 /// Runs the server, until its number of connections have been accepted, or it is stopped, and they have ended.
 pub(crate) fn serve<R>(rt: &R, server: Server) -> Result<ServeEnd, Status>
@@ -371,20 +363,6 @@ where
         service = service.aborting_on_close();
     }
     Ok(service)
-}
-
-/// The machine's monotonic clock, in whole seconds: nobody sets it, as they may set that of the day. 0 where
-/// it can't be read.
-#[derive(Clone, Copy)]
-pub(crate) struct MonotonicSeconds;
-
-impl<R: Clock> answer_sources::Clock<R> for MonotonicSeconds {
-    fn now(&self, rt: &R) -> u64 {
-        match rt.monotonic() {
-            Ok(time) => time.as_secs(),
-            Err(_) => 0,
-        }
-    }
 }
 
 // The printable form of the name of a host.

@@ -1,5 +1,5 @@
 use denote.Param.Send.{sendable}
-use Rattle.edge_main.proofs.Crossings.{reports_send, reports_sync}
+use Rattle.edge_reports.proofs.Crossings.{reports_send, reports_sync}
 use Rattle.edge_main.proofs.serving.served.Goals as goal
 
 pub serve_beside-requires-send-D : goal.serve_beside-requires-send-D

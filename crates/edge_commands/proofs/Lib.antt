@@ -1,0 +1,4 @@
+pub mod FileWords
+pub mod Matches
+pub mod WrittenOut
+pub mod Asking

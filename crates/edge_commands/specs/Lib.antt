@@ -1,0 +1,4 @@
+pub mod Status
+pub mod CommandLine
+pub mod Laws
+pub mod Checked
