@@ -1,6 +1,7 @@
 //! The shards of a cache, each under a lock of its own.
 
 ghost use Rattle.std.specs.Prelude.{◌≡◌, ◌≤◌, ◌<◌, IfOk};
+ghost use Rattle.shared_cache.specs.declared.cache.TheConstants.{SHARDS};
 
 use crate::cache::SHARDS;
 use crate::placing::Placing;
