@@ -8,10 +8,10 @@ use Rattle.clap.specs.declared.parser.matches.Found.{Found}
 use Rattle.clap.specs.declared.parser.matches.SubCommand.{SubCommand}
 use Rattle.clap.proofs.WalkLemmas.{first_value-rows}
 use Rattle.clap.proofs.OnLiterals.{clap_on_literals}
-use Rattle.edge_commands.specs.declared.asked.Asked.{Asked}
-use Rattle.edge_commands.specs.declared.asked.Asked.TheVariants.{Case, Serve, Check}
-use Rattle.edge_commands.specs.declared.asked.Refusal.{Refusal}
-use Rattle.edge_commands.specs.declared.asked.Refusal.TheVariants as refusal
+use Rattle.edge_commands.specs.declared.command.Asked.{Asked}
+use Rattle.edge_commands.specs.declared.command.Asked.TheVariants.{Case, Serve, Check}
+use Rattle.edge_commands.specs.declared.command.Refusal.{Refusal}
+use Rattle.edge_commands.specs.declared.command.Refusal.TheVariants as refusal
 use Rattle.edge_commands.specs.CommandLine.{program, word_of, IsAsked, IsAskedToCheck, IsAskedToServe, IsRefusedBy, IsRefusedToCheck, IsRefusedToServe, Asks, IsRefused}
 
 pub name_of_rows : {Z : Type 0} (sub : Option (Box SubCommand Z)) → option_map (λ p. p.0) (subcommand_rows sub) ≡ option_map (λ b. (out-SubCommand (box_value b)).name.now) sub

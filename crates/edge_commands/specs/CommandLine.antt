@@ -15,10 +15,10 @@ use Rattle.edge_setup.specs.Command.{serve_command}
 use Rattle.edge_setup.specs.Words.{IsFirstWrong, IsWithin as IsWithinPages, SaysSetup, is_set}
 use Rattle.edge_setup.specs.declared.check.Checking.{Checking}
 use Rattle.edge_setup.specs.declared.setup.Setup.{Setup}
-use Rattle.edge_commands.specs.declared.asked.Asked.{Asked}
-use Rattle.edge_commands.specs.declared.asked.Asked.TheVariants.{Case, Serve, Check}
-use Rattle.edge_commands.specs.declared.asked.Refusal.{Refusal}
-use Rattle.edge_commands.specs.declared.asked.Refusal.TheVariants as refusal
+use Rattle.edge_commands.specs.declared.command.Asked.{Asked}
+use Rattle.edge_commands.specs.declared.command.Asked.TheVariants.{Case, Serve, Check}
+use Rattle.edge_commands.specs.declared.command.Refusal.{Refusal}
+use Rattle.edge_commands.specs.declared.command.Refusal.TheVariants as refusal
 
 -- ---- the command
 

@@ -4,7 +4,7 @@ ghost use Rattle.esi_meaning.specs.Meaning.{AreLevels};
 ghost use Rattle.clap.specs.Words.{app_of, found_of, rows_of, subcommand_rows_of};
 ghost use Rattle.edge_commands.specs.CommandLine.{program, word_of, order_of, ahead_of, levels_of, name_of, Asks, IsRefused, IsOfCase, IsAsked, IsAskedToCheck, IsAskedToServe, IsRefusedBy, IsRefusedToCheck, IsRefusedToServe, IsWithin};
 
-use crate::asked::{Asked, Refusal};
+use crate::command::{Asked, Refusal};
 use clap::{ArgMatches, Command};
 use decimals::decimal_of;
 use edge_case::read_events;

@@ -2,7 +2,7 @@
 ghost use Rattle.std.specs.Prelude.{◌≡◌, bytes_eq, codes, string_bytes};
 ghost use Rattle.std.specs.List.{list_any};
 
-use crate::asked::Refusal;
+use crate::command::Refusal;
 use crate::command_line::asked;
 use crate::status::Status;
 use clap::Command;

@@ -2,16 +2,16 @@
 //! is to check files, to say why the page of a case has a fault, and to print the options that hold.
 #![tactic(auto)]
 
-mod asked;
 mod checking;
+mod command;
 mod command_line;
 mod config;
 pub mod laws;
 mod status;
 mod why;
 
-pub use asked::{Asked, Refusal};
 pub use checking::check;
+pub use command::{Asked, Refusal};
 pub use command_line::asked;
 pub use config::{Words, print_config, prints_config};
 pub use status::Status;

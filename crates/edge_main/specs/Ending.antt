@@ -6,8 +6,8 @@ use Rattle.clap.specs.Words.{kind_of}
 use Rattle.edge_setup.specs.declared.setup.Named.TheVariants as named
 use Rattle.edge_connections.specs.declared.roster.ServeEnd.{ServeEnd}
 use Rattle.edge_connections.specs.declared.roster.ServeEnd.TheVariants as end
-use Rattle.edge_commands.specs.declared.asked.Refusal.{Refusal}
-use Rattle.edge_commands.specs.declared.asked.Refusal.TheVariants as refusal
+use Rattle.edge_commands.specs.declared.command.Refusal.{Refusal}
+use Rattle.edge_commands.specs.declared.command.Refusal.TheVariants as refusal
 use Rattle.edge_commands.specs.declared.status.Status.{Status}
 use Rattle.edge_commands.specs.declared.status.Status.TheVariants.{Page, Served, Usage, BadOrder, BadOption, NoMemory, InputOutput}
 

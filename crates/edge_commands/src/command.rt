@@ -1,7 +1,7 @@
 //! What the command line asks for, and why it is refused.
 
 ghost use Rattle.std.specs.Prelude.{◌≡◌};
-ghost use Rattle.edge_commands.specs.declared.asked.Refusal.TheVariants as refused;
+ghost use Rattle.edge_commands.specs.declared.command.Refusal.TheVariants as refused;
 
 use clap::Error;
 use edge_setup::{Checking, Named, Setup};
