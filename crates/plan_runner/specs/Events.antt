@@ -67,7 +67,7 @@ Happen table [] old new = new ≡ old
 Happen table (event ∷ events) old new = (next : Held) × Happens table event old next × Happen table events next new
 
 -- the events, and then an advance, which reports where the page stands
-pub record Ran (table : List Answered) (events : List Event) (start : Page) (told : State) (end : Page) : Type 0 where
+pub record Ran (table : List Answered) (events : List Event) (start : Held) (told : State) (end : Page) : Type 0 where
   pub before : Held
-  pub happened : Happen table events (empty_handed start) before
+  pub happened : Happen table events start before
   pub last : Advances told before.page end

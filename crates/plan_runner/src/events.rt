@@ -52,6 +52,27 @@ fn run_all(hand: &mut Hand, table: &Table, events: &[Event]) -> Result<(), NoMem
     Ok(())
 }
 
+// The events, in order, and then an advance.
+fn told_after(hand: &mut Hand, table: &Table, events: &[Event]) -> Result<State, NoMemory>
+    requires { IsHeld table.now hand.old }
+    ensures ran { IfOk result (λ told. Ran table.now events.now hand.old told hand.new.page) }
+    ensures held { OnOk result (IsHeld table.now hand.new) }
+    ensures over_the_table { IfOk result (λ told. IsTrueOver (log_of hand.new.page.board) table.now hand.new.page.request hand.new.page.levels hand.new.page.url (told_state told)) }
+{
+    run_all(hand, table, events)?;
+    hand.advance(table)
+}
+
+// The events, in order, and then all that is left.
+fn outcome_after(hand: &mut Hand, table: &Table, events: &[Event]) -> Result<Arc<Outcome>, NoMemory>
+    requires { IsHeld table.now hand.old }
+    ensures outcome { IfOk result (λ o. shown (arc_value o) ≡ outcome hand.old.page.request table.now hand.old.page.levels hand.old.page.url) }
+    ensures end { IfOk result (λ o. IsAtEnd table.now hand.old.page hand.new.page (shown (arc_value o))) }
+{
+    run_all(hand, table, events)?;
+    hand.finish(table)
+}
+
 /// Runs a page over a table by these events, in order, and then lets it go on to where it waits or
 /// is done, and returns that state. A claim without an unclaimed slot does nothing, nor does a post
 /// without a ticket in hand at its place.
@@ -72,16 +93,15 @@ pub fn run_events(
     requires ahead { ahead ≤ MAX_AHEAD }
     requires levels { AreLevels levels }
     // Each event happens, in order and none left out, and then an advance.
-    ensures ran { IfOk result (λ (page, told). Ran table.now events.now (accepted url request ahead levels) told page) }
+    ensures ran { IfOk result (λ (page, told). Ran table.now events.now (empty_handed (accepted url request ahead levels)) told page) }
     ensures agrees { IfOk result (λ (page, told). Agrees (log_of page.board) table.now) }
     ensures told { IfOk result (λ (page, told). told_state told ≡ state request (log_of page.board) levels url) }
     ensures over_the_table { IfOk result (λ (page, told). IsTrueOver (log_of page.board) table.now request levels url (told_state told)) }
     ensures err { IfErr result (λ e. e ≡ PageError.NoMemory) }
 {
     let mut hand = Hand::accept(alloc, url, request, ahead, levels)?;
-    run_all(&mut hand, table, events)?;
-    let told = hand.advance(table)?;
-    Ok((hand.into_page(), told))
+    let told = told_after(&mut hand, table, events);
+    Ok(hand.into_page_with(told)?)
 }
 
 /// Runs a page over a table by these events, in order, and then to its end: it goes on to where it
@@ -108,7 +128,6 @@ pub fn run_to_end(
     ensures page { IfOk result (λ (page, done). IsAtEnd table.now (accepted url request ahead levels) page (shown (arc_value done))) }
 {
     let mut hand = Hand::accept(alloc, url, request, ahead, levels)?;
-    run_all(&mut hand, table, events)?;
-    let outcome = hand.finish(table)?;
-    Ok((hand.into_page(), outcome))
+    let outcome = outcome_after(&mut hand, table, events);
+    hand.into_page_with(outcome)
 }

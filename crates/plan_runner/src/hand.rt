@@ -135,6 +135,15 @@ impl Hand {
         page
     }
 
+    /// The page, with what it told.
+    pub(crate) fn into_page_with<T>(self, told: Result<T, NoMemory>) -> Result<(Page, T), NoMemory>
+        ensures page { IfOk result (λ (page, _). page ≡ self.page) }
+        ensures told { IfOk result (λ (_, found). told ≡ Ok found) }
+    {
+        let page = self.into_page();
+        Ok((page, told?))
+    }
+
     /// Claims the first unclaimed slot. False if no ticket was given.
     pub(crate) fn claim(&mut self, table: &Table) -> Result<bool, NoMemory>
         requires { IsHeld table.now self.old }
