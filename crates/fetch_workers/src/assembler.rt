@@ -319,7 +319,7 @@ impl Assembling {
 pub(crate) fn put_together<R, S: Source<R>>(
     alloc: Global,
     _source: &S,
-    page: Page,
+    mut page: Page,
     mut own: Vec<Own>,
     url: &PageUrl,
     request: &Request,
@@ -332,14 +332,14 @@ pub(crate) fn put_together<R, S: Source<R>>(
     ensures failed_leg { IfOk result (λ page. IsFailedLeg request.now levels url.now (map arc_value page.log.items) (shown (arc_value page.outcome)) (option_map arc_value page.failed_leg)) }
 {
     own.sort_unstable_by_key(|o| o.place);
-    compared(alloc, page, own, url, request, levels)
+    compared(alloc, &mut page, own, url, request, levels)
 }
 
 // The page that was worked for, if it is done, it is the one that was asked for, and its log consists of
 // the workers' own answers, each once and in this order.
 fn compared(
     alloc: Global,
-    mut page: Page,
+    page: &mut Page,
     own: Vec<Own>,
     url: &PageUrl,
     request: &Request,
@@ -351,12 +351,12 @@ fn compared(
     ensures ways { IfOk result (λ page. page.ways ≡ counts_of (map (λ (o : Own). o.way) own.items)) }
     ensures failed_leg { IfOk result (λ page. IsFailedLeg request.now levels url.now (map arc_value page.log.items) (shown (arc_value page.outcome)) (option_map arc_value page.failed_leg)) }
 {
-    let outcome = told(&mut page)?;
-    if !is_asked_for(&page, url, request, levels) || !is_log_of(&page, own.as_slice()) {
+    let outcome = told(page)?;
+    if !is_asked_for(page, url, request, levels) || !is_log_of(page, own.as_slice()) {
         return Err(AssembleFault::Torn);
     }
-    legal(&page);
-    let failed_leg = failed_leg(&page)?;
+    legal(page);
+    let failed_leg = failed_leg(page)?;
     let (log, ways) = answers_of(alloc, own)?;
     Ok(Assembled {
         outcome,
