@@ -31,15 +31,15 @@ fn with_run<'a>(alloc: Global, command: Command<'a>) -> Result<Command<'a>, Allo
         "LIST",
         "Events that run first: c, a, or p and a place, with commas between",
     );
+    let command = with_option(command, order)?;
     let ahead = AHEAD.arg(alloc);
+    let command = with_option(command, ahead)?;
     let levels = LEVELS.arg(alloc);
+    let command = with_option(command, levels)?;
     let why = flag(
         alloc,
         "why",
         "Reports on standard error what is wrong with templates, where the page has a fault",
     );
-    let command = with_option(command, order)?;
-    let command = with_option(command, ahead)?;
-    let command = with_option(command, levels)?;
     with_option(command, why)
 }

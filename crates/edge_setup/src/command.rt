@@ -49,6 +49,7 @@ fn with_addresses<'a>(alloc: Global, command: Command<'a>) -> Result<Command<'a>
         "Where to listen, as 127.0.0.1:8080; port 0 for a free one",
     )
     .required(true);
+    let command = with_option(command, listen)?;
     let origin = option(
         alloc,
         "origin",
@@ -56,21 +57,20 @@ fn with_addresses<'a>(alloc: Global, command: Command<'a>) -> Result<Command<'a>
         "Address for requests to an authority; * for each that has no --origin of its own",
     )
     .action(ArgAction::Append);
+    let command = with_option(command, origin)?;
     let admin = option(
         alloc,
         "admin",
         "ADDR",
         "Where to answer the operator, as 127.0.0.1:9090: GET /, /health, /metrics; POST /purge, /stop",
     );
+    let command = with_option(command, admin)?;
     let admin_host = option(
         alloc,
         "admin-host",
         "NAMES",
         "Names of hosts, with commas between, by which the operator may ask at --admin besides IP addresses and localhost",
     );
-    let command = with_option(command, listen)?;
-    let command = with_option(command, origin)?;
-    let command = with_option(command, admin)?;
     with_option(command, admin_host)
 }
 
@@ -80,7 +80,9 @@ fn with_pages<'a>(alloc: Global, command: Command<'a>) -> Result<Command<'a>, Al
     ensures local { IfOk result (λ more. (fields_of more).has_globals ≡ (fields_of command.entry).has_globals) }
 {
     let workers = WORKERS.arg(alloc);
+    let command = with_option(command, workers)?;
     let fetches = FETCHES.arg(alloc);
+    let command = with_option(command, fetches)?;
     // Where no word says so, the number rests on another option.
     let ahead = option(
         alloc,
@@ -88,14 +90,12 @@ fn with_pages<'a>(alloc: Global, command: Command<'a>) -> Result<Command<'a>, Al
         "N",
         "Fragments that may be fetched before it is known that they are needed, from 0 to 256 [default: 16; 256 with --fetches above 1]",
     );
-    let levels = LEVELS.arg(alloc);
-    let capacity = CAPACITY.arg(alloc);
-    let page_bytes = PAGE_BYTES.arg(alloc);
-    let command = with_option(command, workers)?;
-    let command = with_option(command, fetches)?;
     let command = with_option(command, ahead)?;
+    let levels = LEVELS.arg(alloc);
     let command = with_option(command, levels)?;
+    let capacity = CAPACITY.arg(alloc);
     let command = with_option(command, capacity)?;
+    let page_bytes = PAGE_BYTES.arg(alloc);
     with_option(command, page_bytes)
 }
 
@@ -105,10 +105,10 @@ fn with_fetching<'a>(alloc: Global, command: Command<'a>) -> Result<Command<'a>,
     ensures local { IfOk result (λ more. (fields_of more).has_globals ≡ (fields_of command.entry).has_globals) }
 {
     let timeout = TIMEOUT.arg(alloc);
-    let page_timeout = PAGE_TIMEOUT.arg(alloc);
-    let origin_keep_alive = ORIGIN_KEEP_ALIVE.arg(alloc);
     let command = with_option(command, timeout)?;
+    let page_timeout = PAGE_TIMEOUT.arg(alloc);
     let command = with_option(command, page_timeout)?;
+    let origin_keep_alive = ORIGIN_KEEP_ALIVE.arg(alloc);
     let command = with_option(command, origin_keep_alive)?;
     with_bounds(alloc, command)
 }
@@ -119,6 +119,7 @@ fn with_bounds<'a>(alloc: Global, command: Command<'a>) -> Result<Command<'a>, A
     ensures local { IfOk result (λ more. (fields_of more).has_globals ≡ (fields_of command.entry).has_globals) }
 {
     let origin_fetches = ORIGIN_FETCHES.arg(alloc);
+    let command = with_option(command, origin_fetches)?;
     // Where no word says so, the number is that of another option.
     let origin_queue = option(
         alloc,
@@ -126,18 +127,17 @@ fn with_bounds<'a>(alloc: Global, command: Command<'a>) -> Result<Command<'a>, A
         "N",
         "Fetches over --origin-fetches that may wait for each origin's address, from 0 to 65536; 0 to fail at once [default: --connections]",
     );
+    let command = with_option(command, origin_queue)?;
     let origin_rest = ORIGIN_REST.arg(alloc);
+    let command = with_option(command, origin_rest)?;
     let url_rest = URL_REST.arg(alloc);
+    let command = with_option(command, url_rest)?;
     let name = option(
         alloc,
         "name",
         "TOKEN",
         "The edge's name: a request that has passed it before is refused",
     );
-    let command = with_option(command, origin_fetches)?;
-    let command = with_option(command, origin_queue)?;
-    let command = with_option(command, origin_rest)?;
-    let command = with_option(command, url_rest)?;
     with_option(command, name)
 }
 
@@ -147,14 +147,14 @@ fn with_serving<'a>(alloc: Global, command: Command<'a>) -> Result<Command<'a>, 
     ensures local { IfOk result (λ more. (fields_of more).has_globals ≡ (fields_of command.entry).has_globals) }
 {
     let accept = option(alloc, "accept", "N", "Ends after this many connections");
-    let client_timeout = CLIENT_TIMEOUT.arg(alloc);
-    let keep_alive = KEEP_ALIVE.arg(alloc);
-    let threads = THREADS.arg(alloc);
-    let connections = CONNECTIONS.arg(alloc);
     let command = with_option(command, accept)?;
+    let client_timeout = CLIENT_TIMEOUT.arg(alloc);
     let command = with_option(command, client_timeout)?;
+    let keep_alive = KEEP_ALIVE.arg(alloc);
     let command = with_option(command, keep_alive)?;
+    let threads = THREADS.arg(alloc);
     let command = with_option(command, threads)?;
+    let connections = CONNECTIONS.arg(alloc);
     with_option(command, connections)
 }
 
@@ -164,20 +164,20 @@ fn with_flags<'a>(alloc: Global, command: Command<'a>) -> Result<Command<'a>, Al
     ensures local { IfOk result (λ more. (fields_of more).has_globals ≡ (fields_of command.entry).has_globals) }
 {
     let head = flag(alloc, "head", "Answers HEAD like GET, without the body");
+    let command = with_option(command, head)?;
     let abort = flag(
         alloc,
         "abort-on-close",
         "Fetches nothing more for a client that has ended its input",
     );
+    let command = with_option(command, abort)?;
     let stop = flag(
         alloc,
         "stop-with-input",
         "Stops once standard input has ended: accepts nobody more, and ends what is under way",
     );
-    let log = flag(alloc, "log", "Reports each request on standard error");
-    let command = with_option(command, head)?;
-    let command = with_option(command, abort)?;
     let command = with_option(command, stop)?;
+    let log = flag(alloc, "log", "Reports each request on standard error");
     with_option(command, log)
 }
 
@@ -192,13 +192,13 @@ fn with_reports<'a>(alloc: Global, command: Command<'a>) -> Result<Command<'a>, 
         "FORMAT",
         "Reports each request on standard error in this format: line, combined or json",
     );
+    let command = with_option(command, format)?;
     let forwarded = option(
         alloc,
         "forwarded",
         "FIELD",
         "Field by which a trusted proxy names the client to report, as x-forwarded-for",
     );
-    let command = with_option(command, format)?;
     with_option(command, forwarded)
 }
 
