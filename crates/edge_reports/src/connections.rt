@@ -1,5 +1,8 @@
 //! How many connections of clients the server has, and has had.
 
+ghost use Rattle.std.specs.Prelude.{◌≡◌, ◌-◌};
+ghost use Rattle.edge_reports.specs.Endings as spec;
+
 use edge_connections::ServeEnd;
 use edge_metrics::ConnectionCounts;
 use std::sync::atomic::{AtomicBool, AtomicU64, Ordering};
@@ -60,28 +63,50 @@ impl Connections {
 
     /// How the server ends, if nobody is accepted any longer.
     pub(crate) fn ending(&self) -> Option<ServeEnd> {
-        if !self.is_closed.load(Ordering::SeqCst) {
-            None
-        } else if self.has_failed.load(Ordering::SeqCst) {
-            Some(ServeEnd::AcceptsFailed)
-        } else {
-            Some(ServeEnd::Served)
-        }
+        let is_closed = self.is_closed.load(Ordering::SeqCst);
+        ending_of(is_closed, self.has_failed.load(Ordering::SeqCst))
     }
 
     /// What was counted until now. What ends is read before what begins, so that nothing is taken for ended that hasn't begun.
     pub(crate) fn counts(&self) -> ConnectionCounts {
         let unparked = self.unparked.load(Ordering::SeqCst);
-        let parked = self.parked.load(Ordering::SeqCst).saturating_sub(unparked);
+        let parked = self.parked.load(Ordering::SeqCst);
         let ended = self.ended.load(Ordering::SeqCst);
         let accepted = self.accepted.load(Ordering::SeqCst);
-        let open = accepted.saturating_sub(ended);
-        ConnectionCounts {
-            open,
-            parked,
-            serving: open.saturating_sub(parked),
-            accepted,
-            failed_accepts: self.failed.load(Ordering::SeqCst),
-        }
+        let failed = self.failed.load(Ordering::SeqCst);
+        counts_of(accepted, ended, parked, unparked, failed)
+    }
+}
+
+// How the server ends that accepts nobody any longer, if it does.
+fn ending_of(is_closed: bool, has_failed: bool) -> Option<ServeEnd>
+    ensures { result ≡ spec.ending_of is_closed has_failed }
+{
+    if !is_closed {
+        None
+    } else if has_failed {
+        Some(ServeEnd::AcceptsFailed)
+    } else {
+        Some(ServeEnd::Served)
+    }
+}
+
+// What was counted, by how many connections began and ended in all, how many of them were parked and taken up again, and how many
+// accepts failed.
+fn counts_of(accepted: u64, ended: u64, parked: u64, unparked: u64, failed: u64) -> ConnectionCounts
+    ensures open { result.open ≡ accepted - ended }
+    ensures parked { result.parked ≡ parked - unparked }
+    ensures serving { result.serving ≡ accepted - ended - (parked - unparked) }
+    ensures in_all { result.accepted ≡ accepted }
+    ensures failed { result.failed_accepts ≡ failed }
+{
+    let open = accepted.saturating_sub(ended);
+    let parked = parked.saturating_sub(unparked);
+    ConnectionCounts {
+        open,
+        parked,
+        serving: open.saturating_sub(parked),
+        accepted,
+        failed_accepts: failed,
     }
 }

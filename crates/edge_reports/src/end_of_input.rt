@@ -1,5 +1,7 @@
 //! The end of standard input, by which a server may be stopped.
 
+ghost use Rattle.std.specs.Prelude.{◌≡◌, IfOk, is_some};
+
 use crate::readiness::is_readable;
 use edge_connections::StopSign;
 use std::fs::File;
@@ -22,7 +24,9 @@ pub struct EndOfInput {
 
 impl EndOfInput {
     /// The end of standard input, if it is asked for. Refused if standard input can't be opened.
-    pub fn of<R: Files<File = File>>(rt: &R, is_asked: bool) -> io::Result<EndOfInput> {
+    pub fn of<R: Files<File = File>>(rt: &R, is_asked: bool) -> io::Result<EndOfInput>
+        ensures { IfOk result (λ end. is_some end.input ≡ is_asked) }
+    {
         if !is_asked {
             return Ok(EndOfInput { input: None });
         }

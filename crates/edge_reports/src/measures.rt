@@ -1,5 +1,7 @@
 //! What is measured for the operator alone.
 
+ghost use Rattle.std.specs.Prelude.{◌≡◌};
+
 use crate::memory::Memory;
 use edge_metrics::{Counts, History, Sample, page_of};
 use edge_types::NoMemory;
@@ -78,7 +80,10 @@ struct Recent {
 
 impl Recent {
     // Ends the stretch that was under way, with what was counted until now. What there is no memory for is left out.
-    fn end(&mut self, stretch: u64, requests: u64, hits: u64, slowest: u64) {
+    fn end(&mut self, stretch: u64, requests: u64, hits: u64, slowest: u64)
+        ensures stretch { self.new.stretch ≡ stretch }
+        ensures begins { (self.new.requests ≡ requests) × (self.new.hits ≡ hits) }
+    {
         let sample = Sample {
             requests: requests.saturating_sub(self.requests),
             hits: hits.saturating_sub(self.hits),

@@ -1,5 +1,8 @@
 //! What the threads that serve report, and what a server does for its operator.
 
+ghost use Rattle.std.specs.Prelude.{◌≡◌};
+ghost use Rattle.edge_reports.specs.Endings as spec;
+
 use crate::connections::Connections;
 use crate::kept::Kept;
 use crate::measures::Measures;
@@ -88,11 +91,7 @@ where
 
 impl<R: Wait + AllocGlobal> Operated<R> for Reports {
     fn health(&self, _rt: &R) -> Health {
-        match self.connections.ending() {
-            None => Health::Well,
-            Some(ServeEnd::Served) => Health::Ending,
-            Some(ServeEnd::AcceptsFailed) => Health::AcceptsFailed,
-        }
+        health_of(self.connections.ending())
     }
 
     fn metrics(&self, rt: &R) -> Result<Vec<u8>, AllocError> {
@@ -137,6 +136,17 @@ impl Reports {
     }
 }
 
+// What the operator is told of a server that ends so, if it does.
+fn health_of(ending: Option<ServeEnd>) -> Health
+    ensures { result ≡ spec.health_of ending }
+{
+    match ending {
+        None => Health::Well,
+        Some(ServeEnd::Served) => Health::Ending,
+        Some(ServeEnd::AcceptsFailed) => Health::AcceptsFailed,
+    }
+}
+
 // The tallies of the fetches from each origin, as the text tells them.
 fn origins_of(alloc: Global, tallies: Vec<OriginTally>) -> Result<Vec<OriginCounts>, AllocError> {
     let mut origins = Vec::with_capacity(alloc, tallies.len())?;
@@ -156,7 +166,12 @@ fn origins_of(alloc: Global, tallies: Vec<OriginTally>) -> Result<Vec<OriginCoun
 }
 
 // A tally of the cache, as the text tells it.
-fn counts_of(tally: CacheTally) -> CacheCounts {
+fn counts_of(tally: CacheTally) -> CacheCounts
+    ensures kept { (result.entries ≡ tally.entries) × (result.bytes ≡ tally.bytes) }
+    ensures found { (result.hits ≡ tally.hits) × (result.joins ≡ tally.joins) }
+    ensures fetched { (result.leads ≡ tally.leads) × (result.bypasses ≡ tally.bypasses) }
+    ensures bridges { result.bridges ≡ tally.bridges }
+{
     CacheCounts {
         entries: tally.entries,
         bytes: tally.bytes,

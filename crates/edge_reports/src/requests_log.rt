@@ -1,5 +1,7 @@
 //! The log of requests, on standard error.
 
+ghost use Rattle.std.specs.Prelude.{◌≡◌, is_some};
+
 use crate::readiness::is_writable;
 use access_log::{LineQueue, LogFormat, LogLine, line_of};
 use hyper_edge::RequestRecord;
@@ -34,7 +36,9 @@ pub struct AccessLog {
 
 impl AccessLog {
     /// A log in this format, or none. Takes no memory.
-    pub fn new(alloc: Global, format: Option<LogFormat>) -> AccessLog {
+    pub fn new(alloc: Global, format: Option<LogFormat>) -> AccessLog
+        ensures { result.format ≡ format }
+    {
         AccessLog {
             format,
             queue: Mutex::new(LineQueue::new(alloc, MOST_WAITING)),
@@ -42,7 +46,9 @@ impl AccessLog {
     }
 
     /// Whether there is one.
-    pub(crate) fn is_kept(&self) -> bool {
+    pub(crate) fn is_kept(&self) -> bool
+        ensures { result ≡ is_some self.now.format }
+    {
         self.format.is_some()
     }
 
