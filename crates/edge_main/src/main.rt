@@ -28,7 +28,7 @@ fn main(rt: HostRuntime) -> ExitCode {
             Ok(words) => match run(&rt, &words) {
                 Done::Ran(status) => status,
                 Done::Explains(ran) => explain(&rt, &ran),
-                Done::Serves(server) => status_of_serving(serve(&rt, server)),
+                Done::Serves(mut server) => status_of_serving(serve(&rt, &mut server)),
                 Done::Checks(checking) => check(&rt, &checking),
             },
             Err(status) => status,

@@ -1,134 +1,110 @@
 //! The server: pages over a cache that all clients share, what origins answer, and the machine's clock.
-ghost use Rattle.std.specs.Prelude.{◌≤◌};
 
 use crate::open_files::{Numbers, open_files_limit};
 use crate::operator::{Operator, Stop, bound};
 use crate::server::{Fetches, Server};
-use access_log::LogFormat;
 use edge_commands::Status;
-use edge_connections::{Capacity, Limits, ServeEnd, ServerRuntime, Sockets};
+use edge_connections::{ServeEnd, ServerRuntime, Sockets};
 use edge_reports::{AccessLog, Connections, EndOfInput, Kept, Measures, MonotonicSeconds, Reports};
-use edge_setup::{Addresses, Origin, Place};
+use edge_setup::{Origin, Place};
 use edge_types::NoMemory;
 use failed_answers::{SharedFailures, SparingSource};
-use fetch_workers::Assembling;
 use fragment_cache::UrlHashing;
 use hyper_edge::{EdgeService, Journal, serve_accepts};
 use hyper_source::{EdgeName, FetchNotes, HyperSource};
 use operator_http::Operated;
 use shared_cache::Cache;
-use std::alloc::{AllocGlobal, Global};
+use std::alloc::AllocGlobal;
 use std::fs::File;
 use std::io::{Eprint, Print};
 use std::net::{Net, SocketAddr, TcpListener, TcpStream, ToSocketAddrs};
 use std::random::RandomSource;
 use std::rt::Files;
 use std::sync::Arc;
-use std::time::{Clock, Duration};
-use std::{io, str, thread};
+use std::time::Clock;
+use std::{io, mem, str, thread};
 
-/// Runs the server, until its number of connections have been accepted, or it is stopped, and they have ended.
-pub(crate) fn serve<R>(rt: &R, server: Server) -> Result<ServeEnd, Status>
+/// Runs the server, until its number of connections have been accepted, or it is stopped, and they have ended. Its origins and
+/// names are taken out of it.
+pub(crate) fn serve<R>(rt: &R, server: &mut Server) -> Result<ServeEnd, Status>
 where
     R: ServerRuntime + Files<File = File> + Print + Eprint + Send + Sync,
     R: Net<Stream = TcpStream, Listener = TcpListener>,
 {
-    let connections = room_of(rt, Numbers::of(&server));
-    let Server {
-        addresses,
-        origins,
-        fetches,
-        name,
-        clients,
-        pages,
-        page,
-        capacity,
-        at_once,
-        accept,
-        stops_with_input,
-        answers_head,
-        aborts_on_close,
-        log,
-        forwarded,
-        admin_hosts,
-    } = server;
-    let source = named(rt, source_of(rt, origins, fetches)?, name.as_ref())?;
+    server.at_once.connections = room_of(rt, Numbers::of(server));
+    let origins = mem::replace(&mut server.origins, Vec::new(rt.alloc()));
+    let source = source_of(rt, origins, server.fetches)?;
+    let source = named(rt, source, server.name.as_ref())?;
     let notes = source.notes()?;
-    let cache = cache_of(rt, source, fetches, capacity)?;
-    let manner = Manner {
-        pages,
-        page,
-        name,
-        forwarded,
-        answers_head,
-        aborts_on_close,
-    };
-    let service = service_of(rt, owner_of(&cache)?, manner)?;
-    let front = Front {
-        addresses,
-        admin_hosts,
-        clients,
-        stops_with_input,
-        log,
-        at_once: Capacity {
-            threads: at_once.threads,
-            connections,
-        },
-        accept,
-    };
-    served(rt, &service, notes, cache, front)
+    let cache = cache_of(rt, source, server)?;
+    let service = service_of(rt, owner_of(&cache)?, server)?;
+    let reports = reports_of(rt, notes, cache, server)?;
+    opened(rt, &service, &reports, server)
 }
 
-// How clients are served, and the operator is answered.
-#[derive(Drop)]
-struct Front {
-    addresses: Addresses,
-    admin_hosts: Option<Vec<u8>>,
-    clients: Limits,
-    stops_with_input: bool,
-    log: Option<LogFormat>,
-    at_once: Capacity,
-    accept: u64,
-}
-
-// Serves what the service answers from this cache, until the server has ended.
-fn served<R>(
+// Listens for clients, and for the operator if there is one, and serves what the service answers.
+fn opened<R>(
     rt: &R,
     service: &EdgeService<Kept, R>,
-    notes: Arc<FetchNotes>,
-    cache: Arc<Kept>,
-    mut front: Front,
+    reports: &Arc<Reports>,
+    server: &mut Server,
 ) -> Result<ServeEnd, Status>
 where
     R: ServerRuntime + Files<File = File> + Print + Eprint + Send + Sync,
     R: Net<Stream = TcpStream, Listener = TcpListener>,
 {
-    let names = front.admin_hosts.take();
-    let operator = match front.addresses.admin {
+    let names = server.admin_hosts.take();
+    let operator = match server.addresses.admin {
         Some(address) => Some(Operator::at(rt, address, names)?),
         None => None,
     };
-    let input = EndOfInput::of(rt, front.stops_with_input)?;
-    let stop = Stop::of(input, operator.as_ref())?;
-    let (sockets, address) = listening(rt, front.addresses.listen, front.clients, stop)?;
+    let (sockets, address) = listening(rt, server, operator.as_ref())?;
     println!(rt; "listening on {address}")?;
-    let reports = Reports {
-        log: AccessLog::new(rt.alloc(), front.log),
-        connections: Connections::new(),
-        fetches: notes,
-        cache,
-        measures: measures_of(rt, operator.is_some())?,
-    };
-    let reports = shared(rt, reports)?;
-    let end = match &operator {
+    served(rt, operator.as_ref(), &sockets, service, reports, server)
+}
+
+// Serves until the server has ended.
+fn served<R>(
+    rt: &R,
+    operator: Option<&Operator>,
+    sockets: &Sockets<Stop>,
+    service: &EdgeService<Kept, R>,
+    reports: &Arc<Reports>,
+    server: &Server,
+) -> Result<ServeEnd, Status>
+where
+    R: ServerRuntime + Files<File = File> + Print + Eprint + Send + Sync,
+    R: Net<Stream = TcpStream, Listener = TcpListener>,
+{
+    let end = match operator {
         Some(operator) => {
             println!(rt; "answering the operator on {}", operator.address)?;
-            serve_beside(rt, operator, &sockets, service, &reports, &front)?
+            serve_beside(rt, operator, sockets, service, reports, server)?
         }
-        None => serve_all(rt, &sockets, service, &*reports, &front),
+        None => serve_all(rt, sockets, service, &**reports, server),
     };
     reports.log.finish(rt);
     Ok(end)
+}
+
+// Where requests are reported, of what comes from this cache, whose fetches are noted so.
+fn reports_of<R>(
+    rt: &R,
+    notes: Arc<FetchNotes>,
+    cache: Arc<Kept>,
+    server: &Server,
+) -> Result<Arc<Reports>, NoMemory>
+where
+    R: AllocGlobal + Clock + Files<File = File>,
+{
+    let reports = Reports {
+        log: AccessLog::new(rt.alloc(), server.log),
+        connections: Connections::new(),
+        fetches: notes,
+        cache,
+        measures: measures_of(rt, server.addresses.admin.is_some())?,
+    };
+    Ok(Arc::new(rt.alloc(), reports)?)
 }
 
 // What is measured for the operator, where there is one.
@@ -142,25 +118,20 @@ where
     Ok(Some(Measures::new(rt)?))
 }
 
-// Reports that threads share.
-fn shared(rt: &impl AllocGlobal, reports: Reports) -> Result<Arc<Reports>, NoMemory> {
-    Ok(Arc::new(rt.alloc(), reports)?)
-}
-
-// Serves until the server has ended.
+// Serves clients until the server has ended.
 fn serve_all<R, J>(
     rt: &R,
     sockets: &Sockets<Stop>,
     service: &EdgeService<Kept, R>,
     reports: &J,
-    front: &Front,
+    server: &Server,
 ) -> ServeEnd
 where
     R: ServerRuntime + Eprint + Send + Sync,
     R: Net<Stream = TcpStream, Listener = TcpListener>,
     J: Journal<R> + Sync,
 {
-    serve_accepts(rt, sockets, service, reports, front.at_once, front.accept)
+    serve_accepts(rt, sockets, service, reports, server.at_once, server.accept)
 }
 
 // The same, while a thread of its own answers the operator. Refused if that can't be started.
@@ -170,7 +141,7 @@ fn serve_beside<R, D>(
     sockets: &Sockets<Stop>,
     service: &EdgeService<Kept, R>,
     reports: &Arc<D>,
-    front: &Front,
+    server: &Server,
 ) -> Result<ServeEnd, Status>
 where
     R: ServerRuntime + Eprint + Send + Sync,
@@ -182,7 +153,7 @@ where
         if answers.is_err() {
             return Err(Status::NoMemory);
         }
-        let end = serve_all(rt, sockets, service, &**reports, front);
+        let end = serve_all(rt, sockets, service, &**reports, server);
         operator.listener.close();
         Ok(end)
     })
@@ -206,18 +177,20 @@ fn room_of(rt: &impl Eprint, numbers: Numbers) -> u32 {
     room
 }
 
-// What accepts connections, and where it listens.
+// What accepts connections until they are to stop, and where it listens.
 fn listening<R>(
     rt: &R,
-    listen: SocketAddr,
-    clients: Limits,
-    stop: Stop,
+    server: &Server,
+    operator: Option<&Operator>,
 ) -> Result<(Sockets<Stop>, SocketAddr), Status>
 where
-    R: AllocGlobal + Net<Stream = TcpStream, Listener = TcpListener>,
+    R: AllocGlobal + Files<File = File> + Net<Stream = TcpStream, Listener = TcpListener>,
 {
-    let (listener, address) = bound(rt, listen)?;
-    Ok((Sockets::new(rt, listener, clients, stop)?, address))
+    let input = EndOfInput::of(rt, server.stops_with_input)?;
+    let stop = Stop::of(input, operator)?;
+    let (listener, address) = bound(rt, server.addresses.listen)?;
+    let sockets = Sockets::new(rt, listener, server.clients, stop)?;
+    Ok((sockets, address))
 }
 
 // Where an origin listens: of a host that is named, the first address that the system knows now.
@@ -287,23 +260,16 @@ fn named(
 }
 
 // What is stored, over this source, of which URLs that failed rest.
-fn cache_of<R>(
-    rt: &R,
-    source: HyperSource,
-    fetches: Fetches,
-    capacity: usize,
-) -> Result<Arc<Kept>, Status>
+fn cache_of<R>(rt: &R, source: HyperSource, server: &Server) -> Result<Arc<Kept>, Status>
 where
     R: RandomSource + AllocGlobal,
-    requires some { 1 ≤ capacity }
-    requires few { capacity ≤ 1024 }
 {
     let alloc = rt.alloc();
-    let failures = SharedFailures::new(alloc, fetches.url_rest)?;
+    let failures = SharedFailures::new(alloc, server.fetches.url_rest)?;
     let spared = SparingSource::new(source, MonotonicSeconds, failures);
     let hashing = UrlHashing::secret(rt)?;
-    let kept = Cache::hashed(alloc, spared, MonotonicSeconds, capacity, hashing)?;
-    let kept = kept.bounded(fetches.crowd);
+    let kept = Cache::hashed(alloc, spared, MonotonicSeconds, server.capacity, hashing)?;
+    let kept = kept.bounded(server.fetches.crowd);
     match Arc::new(alloc, kept) {
         Ok(shared) => Ok(shared),
         Err(_) => Err(Status::NoMemory),
@@ -318,48 +284,34 @@ fn owner_of(cache: &Arc<Kept>) -> Result<Arc<Kept>, Status> {
     }
 }
 
-// How requests are answered.
-#[derive(Drop)]
-struct Manner {
-    pages: Assembling,
-    page: Option<Duration>,
-    name: Option<Vec<u8>>,
-    forwarded: Option<Vec<u8>>,
-    answers_head: bool,
-    aborts_on_close: bool,
-}
-
-// What answers requests in this manner.
-fn service_of<R>(rt: &R, cache: Arc<Kept>, manner: Manner) -> Result<EdgeService<Kept, R>, Status>
+// What answers requests, from this cache.
+fn service_of<R>(
+    rt: &R,
+    cache: Arc<Kept>,
+    server: &mut Server,
+) -> Result<EdgeService<Kept, R>, Status>
 where
     R: RandomSource + AllocGlobal + Clone + Drop,
 {
     let Ok(own) = rt.clone() else {
         return Err(Status::NoMemory);
     };
-    let Manner {
-        pages,
-        page,
-        name,
-        forwarded,
-        answers_head,
-        aborts_on_close,
-    } = manner;
-    let mut service = EdgeService::new(own, rt.alloc(), cache, pages)?.limited_to(page);
-    if let Some(name) = name {
+    let service = EdgeService::new(own, rt.alloc(), cache, server.pages)?;
+    let mut service = service.limited_to(server.page);
+    if let Some(name) = server.name.take() {
         service = service.named(name);
     }
-    if let Some(field) = forwarded {
+    if let Some(field) = &server.forwarded {
         // The setup has a name of a field, so only memory may be missing.
         let Ok(told) = service.forwarded_by(field.as_slice()) else {
             return Err(Status::NoMemory);
         };
         service = told;
     }
-    if answers_head {
+    if server.answers_head {
         service = service.answering_head();
     }
-    if aborts_on_close {
+    if server.aborts_on_close {
         service = service.aborting_on_close();
     }
     Ok(service)
