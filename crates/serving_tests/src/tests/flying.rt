@@ -12,9 +12,10 @@ use std::sync::atomic::{AtomicU64, Ordering};
 use std::test::Fail;
 use std::thread::Threads;
 
-// What was seen of fetches in flight.
+// How many fetches in flight may still end, and what was seen of them.
 #[derive(Drop)]
 struct Seen {
+    let_through: AtomicU64,
     // The most at once.
     most: AtomicU64,
     ended: AtomicU64,
@@ -22,8 +23,9 @@ struct Seen {
 }
 
 impl Seen {
-    fn new() -> Seen {
+    fn of(let_through: u64) -> Seen {
         Seen {
+            let_through: AtomicU64::new(let_through),
             most: AtomicU64::new(0),
             ended: AtomicU64::new(0),
             given_up: AtomicU64::new(0),
@@ -47,7 +49,7 @@ enum Order {
     LastBegun,
 }
 
-// A table whose fetches end in this order.
+// A table whose fetches end in this order, as many as are let through.
 #[derive(Drop)]
 struct Flying<'a> {
     table: TableSource,
@@ -99,9 +101,10 @@ impl<R> ConcurrentSource<R> for Flying<'_> {
             Order::FirstBegun => 0,
             Order::LastBegun => last,
         };
-        if place >= in_flight.len() {
+        if place >= in_flight.len() || self.seen.let_through.load(Ordering::SeqCst) == 0 {
             return Ok(None);
         }
+        self.seen.let_through.fetch_sub(1, Ordering::SeqCst);
         let url = in_flight.remove(place);
         self.seen.ended.fetch_add(1, Ordering::SeqCst);
         Ok(Some(self.table.fetch(rt, alloc, &url)?))
@@ -158,7 +161,7 @@ fn a_page_is_the_same_whatever_ends_first(rt: HostRuntime) -> Result<(), Fail> {
         (256, (4, 6, 0)),
     ];
     for (fetches, wanted) in rows {
-        let seen = Seen::new();
+        let seen = Seen::of(u64::MAX);
         let table = source_of(&rt, rt.alloc(), CASE)?;
         let source = Flying {
             table,
@@ -177,7 +180,7 @@ const SPARE: &str = "/p 200 esi <esi:include src='/x' alt='/a'/>;/x 200 plain 1;
 
 #[test]
 fn what_a_page_does_not_need_is_given_up(rt: HostRuntime) -> Result<(), Fail> {
-    let seen = Seen::new();
+    let seen = Seen::of(u64::MAX);
     let table = source_of(&rt, rt.alloc(), SPARE)?;
     let source = Flying {
         table,
@@ -193,7 +196,7 @@ fn what_a_page_does_not_need_is_given_up(rt: HostRuntime) -> Result<(), Fail> {
 #[test]
 fn a_cache_and_any_source_are_flown_through(rt: HostRuntime) -> Result<(), Fail> {
     let alloc = rt.alloc();
-    let seen = Seen::new();
+    let seen = Seen::of(u64::MAX);
     let table = source_of(&rt, alloc, CASE)?;
     let source = Flying {
         table,
@@ -213,76 +216,17 @@ fn a_cache_and_any_source_are_flown_through(rt: HostRuntime) -> Result<(), Fail>
     Ok(())
 }
 
-// A table whose fetches end once they are let.
-#[derive(Drop)]
-struct Held<'a> {
-    table: TableSource,
-    let_through: &'a AtomicU64,
-}
-
-impl<R> Source<R> for Held<'_> {
-    ghost use Rattle.std.specs.Prelude.{◌≡◌};
-
-    ghost gives = { λ it url answer. answer.url ≡ url };
-
-    ghost names_url = { λ it url answer given. given };
-
-    fn fetch(&self, rt: &R, alloc: Global, url: &PageUrl) -> Result<Given, NoMemory> {
-        self.table.fetch(rt, alloc, url)
-    }
-}
-
-impl<R> ConcurrentSource<R> for Held<'_> {
-    type InFlight = Vec<PageUrl>;
-
-    fn nothing_in_flight(&self, _rt: &R, alloc: Global) -> Vec<PageUrl> {
-        Vec::new(alloc)
-    }
-
-    fn begin(
-        &self,
-        _rt: &R,
-        _alloc: Global,
-        in_flight: &mut Vec<PageUrl>,
-        url: &PageUrl,
-    ) -> Result<(), NoMemory> {
-        in_flight.push(url.share()?)?;
-        Ok(())
-    }
-
-    fn next(
-        &self,
-        rt: &R,
-        alloc: Global,
-        in_flight: &mut Vec<PageUrl>,
-    ) -> Result<Option<Given>, NoMemory> {
-        if self.let_through.load(Ordering::SeqCst) == 0 {
-            return Ok(None);
-        }
-        let Some(url) = in_flight.pop() else {
-            return Ok(None);
-        };
-        self.let_through.fetch_sub(1, Ordering::SeqCst);
-        Ok(Some(self.table.fetch(rt, alloc, &url)?))
-    }
-
-    fn is_idle(&self, in_flight: &Vec<PageUrl>) -> bool {
-        in_flight.is_empty()
-    }
-
-    fn give_up(&self, _rt: &R, _alloc: Global, _in_flight: Vec<PageUrl>) {}
-}
-
 // Goes on with a page until it is made, each time once one more fetch has ended. How often it waited.
 fn waits_of<R>(rt: &R, fetches: u16) -> Result<(u64, String), NoMemory>
 where
     R: Wait + Threads + Abort + AllocGlobal + Clone + Sync + Drop,
 {
     let alloc = rt.alloc();
-    let let_through = AtomicU64::new(0);
-    let source = Held {
+    let seen = Seen::of(0);
+    let source = Flying {
         table: source_of(rt, alloc, CASE)?,
-        let_through: &let_through,
+        order: Order::LastBegun,
+        seen: &seen,
     };
     let how = Assembling::new(16, 1, 4).with_fetches(fetches.clamp(1, 256));
     let mut page = how.begin(
@@ -303,7 +247,7 @@ where
             }
             Err(waiting) => waiting,
         };
-        let_through.fetch_add(1, Ordering::SeqCst);
+        seen.let_through.fetch_add(1, Ordering::SeqCst);
     }
     Ok((1_000, out))
 }
