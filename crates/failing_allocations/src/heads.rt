@@ -3,7 +3,7 @@
 use crate::values::print_request;
 use allocation_tools::printing::{answers, bytes, calls, number, out_of_memory, word};
 use bytes::Bytes;
-use edge_types::{NoMemory, Octets, Outcome, PageBody, PageFault, SharedBytes};
+use edge_types::{NoMemory, Octets, Outcome, PageBody, PageFault, PageUrl, Request, SharedBytes};
 use futures::task::{Context, Poll};
 use futures::{Future, FutureExt};
 use http::Response;
@@ -41,9 +41,15 @@ const FIELDS: [Field<'static>; 6] = [
 
 pub fn answer_head(rt: &HostRuntime, name: &str) -> Option<()> {
     calls(rt, name)?;
-    let read = page_http::answer_head(rt.alloc(), b"GET", b"/p?q=1", &FIELDS);
+    print_read(
+        rt,
+        &page_http::answer_head(rt.alloc(), b"GET", b"/p?q=1", &FIELDS),
+    )
+}
+
+fn print_read(rt: &HostRuntime, read: &Result<(PageUrl, Request), HeadFault>) -> Option<()> {
     answers(rt)?;
-    match &read {
+    match read {
         Ok((url, request)) => {
             bytes(rt, url.as_bytes())?;
             print_request(rt, request)

@@ -6,8 +6,8 @@ use allocation_tools::printing::{
 };
 use allocation_tools::values::{answer, processed, request, url};
 use answer_board::Board;
-use edge_types::{Control, NoMemory, Table};
-use esi_vars::Lookups;
+use edge_types::{Control, NoMemory, Outcome, PageUrl, Table};
+use esi_vars::{Lookups, Part};
 use plan_compiler::{Form, Plan, Prepared, compile};
 use std::alloc::Global;
 use std::sync::Arc;
@@ -25,28 +25,42 @@ fn table(alloc: Global) -> Option<Table> {
 }
 
 pub fn plain_page(rt: &HostRuntime, name: &str) -> Option<()> {
-    let (url, request, table) = (
-        url(rt.alloc(), "/p")?,
-        request(rt.alloc())?,
-        table(rt.alloc())?,
-    );
+    let table = table(rt.alloc())?;
+    let url = url(rt.alloc(), "/p")?;
+    let request = request(rt.alloc())?;
     calls(rt, name)?;
-    let made = esi_meaning::plain_page(rt.alloc(), &url, &request, &table, 4);
+    print_made(
+        rt,
+        &esi_meaning::plain_page(rt.alloc(), &url, &request, &table, 4),
+    )
+}
+
+fn print_made(rt: &HostRuntime, made: &Result<Outcome, NoMemory>) -> Option<()> {
     answers(rt)?;
-    match &made {
+    match made {
         Ok(outcome) => print_outcome(rt, outcome),
         Err(NoMemory) => out_of_memory(rt),
     }
 }
 
 pub fn leg_url(rt: &HostRuntime, name: &str) -> Option<()> {
-    let (base, request) = (url(rt.alloc(), "/p")?, request(rt.alloc())?);
-    let source = esi_vars::parts(rt.alloc(), &shared(rt.alloc(), b"x?$(QUERY_STRING)")?).ok()?;
-    let mut lookups = Lookups::none();
+    let source = source_of(rt.alloc())?;
+    let base = url(rt.alloc(), "/p")?;
+    let request = request(rt.alloc())?;
     calls(rt, name)?;
+    let mut lookups = Lookups::none();
     let found = esi_meaning::leg_url(rt.alloc(), &request, &base, source.as_slice(), &mut lookups);
+    print_found(rt, &found)
+}
+
+// The parts of a `src` with a reference.
+fn source_of(alloc: Global) -> Option<Vec<Part>> {
+    esi_vars::parts(alloc, &shared(alloc, b"x?$(QUERY_STRING)")?).ok()
+}
+
+fn print_found(rt: &HostRuntime, found: &Result<Option<PageUrl>, NoMemory>) -> Option<()> {
     answers(rt)?;
-    match &found {
+    match found {
         Ok(Some(url)) => bytes(rt, url.as_bytes()),
         Ok(None) => word(rt, "no URL"),
         Err(NoMemory) => out_of_memory(rt),

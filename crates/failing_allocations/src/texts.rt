@@ -2,7 +2,7 @@
 
 use allocation_tools::printing::{answers, bytes, calls, number, out_of_memory, word};
 use allocation_tools::values::request;
-use edge_types::{NoMemory, PageBody, SharedBytes};
+use edge_types::{NoMemory, PageBody, Request, SharedBytes};
 use esi_scanner::{Kind, ScanFault, Token};
 use esi_tree::{Node, TreeFault};
 use esi_vars::{Lookups, Part, Reference};
@@ -104,9 +104,15 @@ pub fn substitute(rt: &HostRuntime, name: &str) -> Option<()> {
     let request = request(rt.alloc())?;
     let parts = parts_of(rt.alloc())?;
     calls(rt, name)?;
-    let made = esi_vars::substitute(rt.alloc(), &request, parts.as_slice());
+    print_text(
+        rt,
+        &esi_vars::substitute(rt.alloc(), &request, parts.as_slice()),
+    )
+}
+
+fn print_text(rt: &HostRuntime, made: &Result<Vec<u8>, NoMemory>) -> Option<()> {
     answers(rt)?;
-    match &made {
+    match made {
         Ok(text) => bytes(rt, text.as_slice()),
         Err(NoMemory) => out_of_memory(rt),
     }
@@ -118,8 +124,12 @@ pub fn substitute_within(rt: &HostRuntime, name: &str) -> Option<()> {
     let mut lookups = Lookups::none();
     calls(rt, name)?;
     let made = esi_vars::substitute_within(rt.alloc(), &request, parts.as_slice(), 4, &mut lookups);
+    print_within(rt, &made)
+}
+
+fn print_within(rt: &HostRuntime, made: &Result<Option<Vec<u8>>, NoMemory>) -> Option<()> {
     answers(rt)?;
-    match &made {
+    match made {
         Ok(Some(text)) => bytes(rt, text.as_slice()),
         Ok(None) => word(rt, "too long"),
         Err(NoMemory) => out_of_memory(rt),
@@ -128,25 +138,37 @@ pub fn substitute_within(rt: &HostRuntime, name: &str) -> Option<()> {
 
 /// With a cookie whose value is a piece by itself: the lengths of the pieces.
 pub fn push_values(rt: &HostRuntime, name: &str) -> Option<()> {
-    let mut request = request(rt.alloc())?;
-    let mut cookie = b"c=".to_vec(rt.alloc()).ok()?;
-    cookie.extend_from_slice(&[b'x'; 300]).ok()?;
-    request.cookie = SharedBytes::of(cookie).ok()?;
+    let mut request = Request::empty();
+    request.cookie = long_cookie(rt.alloc())?;
     let parts = parts_of(rt.alloc())?;
-    let mut body = PageBody::new(rt.alloc());
-    let mut lookups = Lookups::none();
     calls(rt, name)?;
+    push_values_of(rt, &request, parts.as_slice())
+}
+
+// The cookie `c`, of 300 bytes.
+fn long_cookie(alloc: Global) -> Option<SharedBytes> {
+    let mut cookie = b"c=".to_vec(alloc).ok()?;
+    cookie.extend_from_slice(&[b'x'; 300]).ok()?;
+    SharedBytes::of(cookie).ok()
+}
+
+fn push_values_of(rt: &HostRuntime, request: &Request, parts: &[Part]) -> Option<()> {
+    let mut body = PageBody::new(rt.alloc());
     let put = esi_vars::push_values(
         rt.alloc(),
-        &request,
-        parts.as_slice(),
+        request,
+        parts,
         &mut body,
         400,
-        &mut lookups,
+        &mut Lookups::none(),
     );
+    print_put(rt, put, &body)
+}
+
+fn print_put(rt: &HostRuntime, put: Result<(), NoMemory>, body: &PageBody) -> Option<()> {
     answers(rt)?;
     match put {
-        Ok(()) => print_lengths(rt, &body),
+        Ok(()) => print_lengths(rt, body),
         Err(NoMemory) => out_of_memory(rt),
     }
 }

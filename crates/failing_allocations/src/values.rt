@@ -23,14 +23,21 @@ pub fn print_request(rt: &HostRuntime, request: &Request) -> Option<()> {
 pub fn copy_request(rt: &HostRuntime, name: &str) -> Option<()> {
     let request = request(rt.alloc())?;
     calls(rt, name)?;
-    let copied = request.copy(rt.alloc());
+    print_copy(rt, &request, &request.copy(rt.alloc()))
+}
+
+fn print_copy(
+    rt: &HostRuntime,
+    request: &Request,
+    copied: &Result<Request, NoMemory>,
+) -> Option<()> {
     answers(rt)?;
-    match &copied {
+    match copied {
         Ok(copy) => print_request(rt, copy)?,
         Err(NoMemory) => out_of_memory(rt)?,
     }
     word(rt, "left")?;
-    print_request(rt, &request)
+    print_request(rt, request)
 }
 
 pub fn parse_url(rt: &HostRuntime, name: &str) -> Option<()> {

@@ -42,18 +42,42 @@ fn comparisons(alloc: Global) -> Result<String, NoMemory> {
 #[test]
 fn twenty_comparisons_of_a_cookie_find_their_branch(rt: HostRuntime) -> Result<(), Fail> {
     let alloc = rt.alloc();
-    let url = url_of(&rt, alloc, "http://a.test/p")?;
-    let body = comparisons(alloc)?;
-    let page = answer(alloc, url.share()?, 200, true, body.as_str())?.ok_or("an answer")?;
+    let table = table_of(&rt, alloc, comparisons(alloc)?.as_str())?;
+    let outcome = outcome_over(&rt, alloc, &table, "b=19; b=3")?;
+    assert!(rt; is_page(&outcome, b"branch 19"));
+    Ok(())
+}
+
+// A table of the page at `/p` with this text alone.
+fn table_of(rt: &impl Abort, alloc: Global, text: &str) -> Result<Table, Fail> {
+    let url = url_of(rt, alloc, "http://a.test/p")?;
+    let page = answer(alloc, url, 200, true, text)?.ok_or("an answer")?;
     let mut table = Table::new(alloc);
     assert!(rt; table.insert(Arc::new(alloc, page)?).is_ok());
-    let request = request(alloc, "b=19; b=3")?;
-    let (_, outcome) = run_to_end(alloc, url, request, &table, 16, 4, &[])?;
-    let Outcome::Page { body, .. } = &*outcome else {
-        return Err("a fault")?;
-    };
-    assert!(rt; body.piece(0) == Some(b"branch 19".as_slice()));
-    Ok(())
+    Ok(table)
+}
+
+// The outcome of the page at `/p` for a request with these cookies.
+fn outcome_over(
+    rt: &impl Abort,
+    alloc: Global,
+    table: &Table,
+    cookies: &str,
+) -> Result<Arc<Outcome>, NoMemory> {
+    let request = request(alloc, cookies)?;
+    let url = url_of(rt, alloc, "http://a.test/p")?;
+    match run_to_end(alloc, url, request, table, 16, 4, &[]) {
+        Ok((_, outcome)) => Ok(outcome),
+        Err(NoMemory) => Err(NoMemory),
+    }
+}
+
+// Whether it is a page that begins with this piece.
+fn is_page(outcome: &Outcome, piece: &[u8]) -> bool {
+    match outcome {
+        Outcome::Page { body, .. } => body.piece(0) == Some(piece),
+        Outcome::Fault(_) => false,
+    }
 }
 
 fn reference(alloc: Global, variable: Variable, key: &str) -> Result<Reference, NoMemory> {
@@ -66,15 +90,25 @@ fn reference(alloc: Global, variable: Variable, key: &str) -> Result<Reference, 
 
 #[test]
 fn each_request_has_its_own_value(rt: HostRuntime) -> Result<(), Fail> {
-    let mut lookups = Lookups::new(rt.alloc());
-    let (first, second) = (request(rt.alloc(), "b=1")?, request(rt.alloc(), "b=2")?);
     let b = reference(rt.alloc(), Variable::HttpCookie, "b")?;
+    let first = request(rt.alloc(), "b=1")?;
+    let second = request(rt.alloc(), "b=2")?;
+    looked_up_in_turns(&rt, &b, &first, &second, Lookups::new(rt.alloc()));
+    Ok(())
+}
+
+fn looked_up_in_turns(
+    rt: &impl Abort,
+    b: &Reference,
+    first: &Request,
+    second: &Request,
+    mut lookups: Lookups,
+) {
     for _ in 0..2 {
-        assert!(rt; value_by(&first, &b, &mut lookups) == b"1".as_slice());
-        assert!(rt; value_by(&second, &b, &mut lookups) == b"2".as_slice());
+        assert!(rt; value_by(first, b, &mut lookups) == b"1".as_slice());
+        assert!(rt; value_by(second, b, &mut lookups) == b"2".as_slice());
     }
     assert!(rt; lookups.count() == 2);
-    Ok(())
 }
 
 // A request with a long field for each variable that has parts.
@@ -135,16 +169,32 @@ fn values_past_the_most_that_are_remembered_are_right(rt: HostRuntime) -> Result
     let request = request(alloc, others.as_str())?;
     let mut lookups = Lookups::new(alloc);
     for number in (0..=MAX_LOOKUPS).chain(0..=MAX_LOOKUPS) {
-        let name = format!(in alloc; "n{number}")?;
-        let wanted = format!(in alloc; "v{number}")?;
-        let asked = reference(alloc, Variable::HttpCookie, name.as_str())?;
         assert!(rt;
-            value_by(&request, &asked, &mut lookups) == wanted.as_bytes(),
+            says_number(alloc, &request, &mut lookups, number)?,
             "{number}"
         );
     }
     assert!(rt; lookups.count() == MAX_LOOKUPS);
     Ok(())
+}
+
+// Whether the cookie with this number has it for its value too.
+fn says_number(
+    alloc: Global,
+    request: &Request,
+    lookups: &mut Lookups,
+    number: usize,
+) -> Result<bool, NoMemory> {
+    let name = format!(in alloc; "n{number}")?;
+    let wanted = format!(in alloc; "v{number}")?;
+    says(
+        alloc,
+        request,
+        lookups,
+        Variable::HttpCookie,
+        name.as_str(),
+        wanted.as_str(),
+    )
 }
 
 // How many values are known once the cookie `b` was looked up, if that is `1`.
@@ -155,13 +205,18 @@ fn known_after(request: &Request, b: &Reference, mut lookups: Lookups) -> Option
     Some(lookups.count())
 }
 
+// A request with a cookie `b` behind this many bytes.
+fn request_behind(alloc: Global, bytes: usize) -> Result<Request, NoMemory> {
+    let mut request = Request::empty();
+    request.cookie = field(alloc, ";", bytes, "b=1")?;
+    Ok(request)
+}
+
 #[test]
 fn only_long_fields_are_remembered_and_only_where_asked(rt: HostRuntime) -> Result<(), Fail> {
     let b = reference(rt.alloc(), Variable::HttpCookie, "b")?;
-    let mut short = Request::empty();
-    short.cookie = field(rt.alloc(), ";", LONG_FIELD - 4, "b=1")?;
-    let mut long = Request::empty();
-    long.cookie = field(rt.alloc(), ";", LONG_FIELD - 3, "b=1")?;
+    let short = request_behind(rt.alloc(), LONG_FIELD - 4)?;
+    let long = request_behind(rt.alloc(), LONG_FIELD - 3)?;
     assert!(rt; known_after(&short, &b, Lookups::new(rt.alloc())) == Some(0));
     assert!(rt; known_after(&long, &b, Lookups::new(rt.alloc())) == Some(1));
     assert!(rt; known_after(&long, &b, Lookups::none()) == Some(0));

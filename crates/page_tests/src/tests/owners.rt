@@ -4,7 +4,7 @@ use edge_types::{
     Answer, Control, NoMemory, Octets, PageBody, PageUrl, Request, SharedAnswer, SharedBytes,
 };
 use esi_vars::pieces::LONG_VALUE;
-use esi_vars::{Lookups, parts, push_values, reference_at, substitute};
+use esi_vars::{Lookups, Part, parts, push_values, reference_at, substitute};
 use std::alloc::Global;
 use std::process::Abort;
 use std::sync::Arc;
@@ -71,21 +71,23 @@ fn second_owners_have_the_same_answer(rt: HostRuntime) -> Result<(), Fail> {
 
 // The pieces of a text whose reference has a cookie of so many bytes for its value.
 fn pieces(alloc: Global, text: &[u8], bytes: usize) -> Result<PageBody, NoMemory> {
-    let mut request = Request::empty();
-    let mut cookie = b"a=1; g=".to_vec(alloc)?;
-    cookie.extend_from_slice("x".repeat(alloc, bytes)?.as_bytes())?;
-    cookie.extend_from_slice(b"; b=2")?;
-    request.cookie = SharedBytes::of(cookie)?;
     let parts = parts(alloc, &SharedBytes::copy_of(alloc, text)?)?;
+    let mut request = Request::empty();
+    request.cookie = cookies(alloc, bytes)?;
+    pieces_of(alloc, &request, parts.as_slice())
+}
+
+// Cookies of which the second one has so many bytes.
+fn cookies(alloc: Global, bytes: usize) -> Result<SharedBytes, NoMemory> {
+    let mut cookies = b"a=1; g=".to_vec(alloc)?;
+    cookies.extend_from_slice("x".repeat(alloc, bytes)?.as_bytes())?;
+    cookies.extend_from_slice(b"; b=2")?;
+    SharedBytes::of(cookies)
+}
+
+fn pieces_of(alloc: Global, request: &Request, parts: &[Part]) -> Result<PageBody, NoMemory> {
     let mut body = PageBody::new(alloc);
-    push_values(
-        alloc,
-        &request,
-        parts.as_slice(),
-        &mut body,
-        1000,
-        &mut Lookups::none(),
-    )?;
+    push_values(alloc, request, parts, &mut body, 1000, &mut Lookups::none())?;
     Ok(body)
 }
 
@@ -114,9 +116,9 @@ fn values_past_the_limit_are_refused(rt: HostRuntime) -> Result<(), Fail> {
 
 // A text with its references replaced, for a request with a cookie.
 fn replaced(alloc: Global, cookie: &[u8], text: &[u8]) -> Result<Vec<u8>, NoMemory> {
+    let parts = parts(alloc, &SharedBytes::copy_of(alloc, text)?)?;
     let mut request = Request::empty();
     request.cookie = SharedBytes::copy_of(alloc, cookie)?;
-    let parts = parts(alloc, &SharedBytes::copy_of(alloc, text)?)?;
     substitute(alloc, &request, parts.as_slice())
 }
 

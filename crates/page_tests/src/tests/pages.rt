@@ -113,16 +113,21 @@ fn told(
     (ahead, levels): (u16, u8),
     events: &[Event],
 ) -> Result<String, NoMemory> {
-    let mut line = String::new(alloc);
     assert!(rt; ahead <= MAX_AHEAD && are_levels(levels));
     let url = url_of(rt, alloc, "http://a.test/p")?;
     match run_events(alloc, url, Request::empty(), table, ahead, levels, events) {
         Ok((page, state)) => {
             assert!(rt; page.ahead() == ahead && page.levels() == levels);
-            push_state(&mut line, &page, &state)?;
+            line_of(alloc, &page, &state)
         }
-        Err(_) => return Err(NoMemory),
+        Err(_) => Err(NoMemory),
     }
+}
+
+// The line about where a page is.
+fn line_of(alloc: Global, page: &Page, state: &State) -> Result<String, NoMemory> {
+    let mut line = String::new(alloc);
+    push_state(&mut line, page, state)?;
     Ok(line)
 }
 
