@@ -42,9 +42,10 @@ pub trait ConcurrentSource<R>: Source<R> {
         url: &PageUrl,
     ) -> Result<(), NoMemory>;
 
-    /// The answer of a fetch that has ended, if one has. A source that fetches one by one makes its next fetch for it;
-    /// any other doesn't wait. What can't be fetched is a failed answer; `NoMemory` if an allocation fails, after which
-    /// one fetch less may be in flight.
+    /// The answer of a fetch that has ended, if one is known to have: by the latest `wait`, or by a look of its own where
+    /// `awaited` was asked since then. A source that fetches one by one makes its next fetch for it; any other doesn't
+    /// wait. What can't be fetched is a failed answer; `NoMemory` if an allocation fails, after which one fetch less may
+    /// be in flight.
     fn next(
         &self,
         rt: &R,
@@ -75,8 +76,8 @@ pub trait ConcurrentSource<R>: Source<R> {
         None
     }
 
-    /// By what that is told from outside; `None` where it can't be, as by default. A ring is taken by the next `next`, so
-    /// whoever rings does it after what it is about, and `next` looks for that after it took the ring.
+    /// By what that is told from outside; `None` where it can't be, as by default. A ring is taken by a wait, or by the look
+    /// of `next`, so whoever rings does it after what it is about, and `next` looks for that last.
     fn bell(&self, _rt: &R, _in_flight: &mut Self::InFlight) -> Option<Bell> {
         None
     }

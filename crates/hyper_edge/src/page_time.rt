@@ -96,6 +96,14 @@ impl<S> WithinTime<S> {
         is_over(self.until, now, has_left)
     }
 
+    // Whether the page's time was over when that was last looked at, which is now unless the look still serves.
+    fn has_ended<F>(&self, clock: &impl Clock, in_flight: &mut FlightsInTime<F>) -> bool {
+        if !in_flight.is_in_time {
+            in_flight.is_in_time = !self.is_over(clock);
+        }
+        !in_flight.is_in_time
+    }
+
     // What is given for a URL that isn't waited for: what would bridge its failing origin, else a failed answer.
     fn too_late<R>(&self, rt: &R, alloc: Global, url: &PageUrl) -> Result<Given, NoMemory>
     where
@@ -116,15 +124,15 @@ pub(crate) struct FlightsInTime<F> {
     fetches: F,
     awaited: Vec<PageUrl>,
     late: Vec<PageUrl>,
-    // Whether the page was seen to be in time since it last waited, or was given an answer: so fetches that are begun one
-    // after another cost one look.
+    // Whether the page was seen to be in time since it last waited, or was given an answer: so one look serves fetches that
+    // are begun one after another, and the wait for them.
     is_in_time: bool,
 }
 
 impl<F> FlightsInTime<F> {
-    // The answer of a URL isn't waited for any longer.
-    fn has_ended(&mut self, url: &PageUrl) {
-        if let Some(place) = self.awaited.iter().position(|awaited| awaited == url) {
+    // The answer of a URL isn't waited for any longer. The latest that was asked for mostly comes first.
+    fn answered(&mut self, url: &PageUrl) {
+        if let Some(place) = self.awaited.iter().rposition(|awaited| awaited == url) {
             self.awaited.swap_remove(place);
         }
     }
@@ -179,12 +187,9 @@ impl<R: Clock, S: ConcurrentSource<R>> ConcurrentSource<R> for WithinTime<S> {
         in_flight: &mut FlightsInTime<S::InFlight>,
         url: &PageUrl,
     ) -> Result<(), NoMemory> {
-        if !in_flight.is_in_time {
-            if self.is_over(rt) {
-                in_flight.late.push(url.share()?)?;
-                return Ok(());
-            }
-            in_flight.is_in_time = true;
+        if self.has_ended(rt, in_flight) {
+            in_flight.late.push(url.share()?)?;
+            return Ok(());
         }
         in_flight.awaited.reserve(1)?;
         let own = url.share()?;
@@ -198,16 +203,16 @@ impl<R: Clock, S: ConcurrentSource<R>> ConcurrentSource<R> for WithinTime<S> {
         alloc: Global,
         in_flight: &mut FlightsInTime<S::InFlight>,
     ) -> Result<Option<Given>, NoMemory> {
-        in_flight.is_in_time = false;
         if let Some(url) = in_flight.late.pop() {
             return Ok(Some(self.too_late(rt, alloc, &url)?));
         }
         if let Some(given) = self.source.next(rt, alloc, &mut in_flight.fetches)? {
-            in_flight.has_ended(given.answer.url());
+            in_flight.is_in_time = false;
+            in_flight.answered(given.answer.url());
             return Ok(Some(given));
         }
         // A fetch that is under way may go on for others.
-        if in_flight.awaited.is_empty() || !self.is_over(rt) {
+        if in_flight.awaited.is_empty() || !self.has_ended(rt, in_flight) {
             return Ok(None);
         }
         match in_flight.awaited.pop() {

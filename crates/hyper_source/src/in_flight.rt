@@ -31,10 +31,18 @@ pub struct FetchesInFlight {
     pub(crate) answers: VecDeque<Arc<Answer>>,
     // What is to be fetched once its address lets it through.
     queued: VecDeque<Queued>,
-    // Whether a wait has just told what there is to tell.
-    has_told: bool,
-    // Whether somebody may ring the poller's bell.
-    has_bell: bool,
+    news: News,
+}
+
+// What is known of the sockets and of the poller's bell since the latest wait.
+#[derive(Clone, Copy, Debug, PartialEq, Eq)]
+enum News {
+    // Nothing: only a wait will tell more.
+    Nothing,
+    // A wait has told, and the queue is to be looked at.
+    Told,
+    // Somebody else may have waited, who was told what is awaited.
+    Elsewhere,
 }
 
 /// A fetch that is to be made.
@@ -108,8 +116,7 @@ impl FetchesInFlight {
             due: VecDeque::new(alloc),
             answers: VecDeque::new(alloc),
             queued: VecDeque::new(alloc),
-            has_told: false,
-            has_bell: false,
+            news: News::Nothing,
         }
     }
 
@@ -196,18 +203,22 @@ impl FetchesInFlight {
     ) -> Result<(), NoMemory> {
         let patience = at_most(self.patience(clock), most);
         self.told(clock, patience)?;
-        self.has_told = true;
+        self.news = News::Told;
         Ok(())
     }
 
-    /// Looks once which fetches are to have a turn, and doesn't wait. There is nothing new to see after a wait, or where
-    /// nothing is in flight and nobody rings.
+    /// Whether a look may find a fetch that is to have a turn, or that its origin calls. Without a wait, here or elsewhere,
+    /// none does but for a fetch that goes on: a look then would take a call and tell what the next wait tells.
+    pub(crate) fn has_news(&self) -> bool {
+        self.news != News::Nothing || self.goes_on()
+    }
+
+    /// Looks which fetches are to have a turn, and doesn't wait. A wait has told all that there is.
     pub(crate) fn look(&mut self, clock: &impl Clock) -> Result<(), NoMemory> {
-        let has_told = mem::replace(&mut self.has_told, false);
-        if has_told || (self.is_idle() && !self.has_bell) {
-            return Ok(());
+        match mem::replace(&mut self.news, News::Nothing) {
+            News::Told => Ok(()),
+            News::Nothing | News::Elsewhere => self.told(clock, 0),
         }
-        self.told(clock, 0)
     }
 
     // Lists what is to have a turn, after at most this many milliseconds, or as long as it takes if below 0.
@@ -253,22 +264,20 @@ impl FetchesInFlight {
         first
     }
 
-    /// What is waited for, where there is anything to wait in.
-    pub(crate) fn awaited(&self) -> Option<Awaited> {
-        match &self.poller {
-            Some(poller) => Some(Awaited {
-                descriptor: poller.descriptor(),
-                until: self.first_deadline().instant(),
-            }),
-            None => None,
-        }
+    /// What is waited for, where there is anything to wait in. Somebody else waits in it from now on, so the next look is at
+    /// the sockets themselves.
+    pub(crate) fn awaited(&mut self) -> Option<Awaited> {
+        let descriptor = self.poller.as_ref()?.descriptor();
+        self.news = News::Elsewhere;
+        Some(Awaited {
+            descriptor,
+            until: self.first_deadline().instant(),
+        })
     }
 
     /// What rings whoever waits for these fetches.
-    pub(crate) fn bell(&mut self) -> Option<Bell> {
-        let bell = self.poller.as_ref()?.bell()?;
-        self.has_bell = true;
-        Some(bell)
+    pub(crate) fn bell(&self) -> Option<Bell> {
+        self.poller.as_ref()?.bell()
     }
 
     /// Whether nothing is in flight.
@@ -285,8 +294,7 @@ impl FetchesInFlight {
             due: _,
             answers: _,
             mut queued,
-            has_told: _,
-            has_bell: _,
+            news: _,
         } = self;
         // Before the permits, which would call them.
         leave_each(rt, &mut queued);

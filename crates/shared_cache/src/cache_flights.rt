@@ -92,7 +92,7 @@ impl<F> CacheFlights<F> {
     pub(crate) fn take_led(&mut self, url: &PageUrl) -> Option<Led>
         ensures { IfSome result (λ led. led.flight.url ≡ url.now) }
     {
-        let place = self.led.iter().position(|led| is_for(led, url))?;
+        let place = self.led.iter().rposition(|led| is_for(led, url))?;
         Some(self.led.swap_remove(place))
     }
 

@@ -344,25 +344,23 @@ where
         Ok(())
     }
 
-    // It looks for what has moved, and takes a ring of the bell by that, unless a wait has just done so.
+    // It has what the latest wait has told, which also took a ring of the bell. Where that was somebody else's, it looks once.
     fn next(
         &self,
         rt: &R,
         alloc: Global,
         in_flight: &mut FetchesInFlight,
     ) -> Result<Option<Given>, NoMemory> {
-        let mut has_looked = false;
         for _ in rt.forever() {
             if let Some(answer) = in_flight.answers.pop_front() {
                 return Ok(Some(Given::fetched(answer)));
             }
             let came = match in_flight.due.pop_front() {
                 Some(key) => self.turned(rt, alloc, in_flight, key)?,
-                None if has_looked && !in_flight.goes_on() => return Ok(None),
+                None if !in_flight.has_news() => return Ok(None),
                 None => {
                     in_flight.look(rt)?;
                     self.looked_at_queue(rt, alloc, in_flight)?;
-                    has_looked = true;
                     None
                 }
             };

@@ -84,6 +84,12 @@ impl<S, C> Cache<S, C> {
         self.land(rt, alloc, shard, flight, given.into_answer())
     }
 
+    // Whether a flight has landed, in a shard that has one which the page has joined, since that was last looked at.
+    fn has_landings<F>(&self, in_flight: &CacheFlights<F>) -> bool {
+        in_flight.joined.iter().any(|joined| self.shards.at(joined.place).landings()
+            != joined.landings)
+    }
+
     // Looks at each flight that others lead. Whether something has moved: an answer is there, or a fetch was begun.
     fn look_at_joined<R: Wait>(
         &self,
@@ -95,6 +101,9 @@ impl<S, C> Cache<S, C> {
         S: ConcurrentSource<R>,
     {
         let mut has_moved = false;
+        if !self.has_landings(in_flight) {
+            return Ok(has_moved);
+        }
         for _ in 0..in_flight.joined.len() {
             let Some(joined) = in_flight.joined.pop_front() else {
                 return Ok(has_moved);
@@ -269,7 +278,7 @@ where
         }
     }
 
-    // What the source has to say first, which takes a ring: so whatever the ring is about is seen by the look at the
+    // What the source has to say first, which may take a ring: so whatever the ring is about is seen by the look at the
     // flights that others lead.
     fn next(
         &self,
