@@ -32,6 +32,16 @@ impl<F> Flights<F> {
     }
 }
 
+/// How far a worker gets by what the source has ready.
+pub(crate) enum Reached {
+    /// The work has ended.
+    End,
+    /// Nothing is left to do before something was fetched.
+    Sleep,
+    /// This is to be fetched.
+    Fetch(Ticket),
+}
+
 impl<'a, R: Wait, S: ConcurrentSource<R>, G: Gate<R>, D: Shared<R>> Worker<'a, R, S, G, D> {
     /// Works until the work has ended, with at most so many fetches in flight; those that are left then are given up.
     /// Returns what the worker posted.
@@ -39,10 +49,7 @@ impl<'a, R: Wait, S: ConcurrentSource<R>, G: Gate<R>, D: Shared<R>> Worker<'a, R
         ensures { IfOk result (λ own. AllOwn (S.gives self.now.source.now) own.items) }
     {
         let mut mine = Vec::new(self.alloc);
-        let mut flights = Flights {
-            fetches: self.source.nothing_in_flight(self.rt, self.alloc),
-            tickets: Vec::new(self.alloc),
-        };
+        let mut flights = self.nothing_in_flight();
         let worked = self.keep_working(most, &mut flights, &mut mine);
         let mut fetches = flights.into_fetches();
         self.let_go(&mut fetches);
@@ -76,7 +83,7 @@ impl<'a, R: Wait, S: ConcurrentSource<R>, G: Gate<R>, D: Shared<R>> Worker<'a, R
         ensures { OnOk result (AllOwn (S.gives self.now.source.now) mine.new.items) }
     {
         for _ in self.rt.forever() {
-            if self.go_on(most, flights, mine)? {
+            if self.go_on_flying(most, flights, mine)? {
                 return Ok(());
             }
             self.source
@@ -85,8 +92,32 @@ impl<'a, R: Wait, S: ConcurrentSource<R>, G: Gate<R>, D: Shared<R>> Worker<'a, R
         unreachable!()
     }
 
-    /// Works as far as it gets without waiting for a fetch. Whether the work has ended.
+    /// Works as far as it gets without waiting for a fetch. Whether the work has ended. What is in flight is kept there, once
+    /// something is: most pages need nothing but what is ready.
     pub(crate) fn go_on(
+        &self,
+        most: u16,
+        flights: &mut Option<Box<Flights<S::InFlight>>>,
+        mine: &mut Vec<Own>,
+    ) -> Result<bool, AssembleFault>
+        requires { AllOwn (S.gives self.now.source.now) mine.old.items }
+        ensures { OnOk result (AllOwn (S.gives self.now.source.now) mine.new.items) }
+    {
+        if flights.is_none() {
+            match self.reach(mine)? {
+                Reached::End => return Ok(true),
+                Reached::Sleep => return Err(AssembleFault::Torn),
+                Reached::Fetch(ticket) => self.begin_first(flights, ticket, mine)?,
+            }
+        }
+        match flights {
+            Some(flights) => self.go_on_flying(most, &mut **flights, mine),
+            None => Err(AssembleFault::Torn),
+        }
+    }
+
+    // The same with these fetches in flight.
+    fn go_on_flying(
         &self,
         most: u16,
         flights: &mut Flights<S::InFlight>,
@@ -102,21 +133,72 @@ impl<'a, R: Wait, S: ConcurrentSource<R>, G: Gate<R>, D: Shared<R>> Worker<'a, R
                 }
                 continue;
             }
-            match self.shared.turn(self.rt) {
-                Turn::End => return Ok(true),
-                Turn::NoMemory => return Err(AssembleFault::NoMemory),
-                Turn::Sleep => {
+            match self.reach(mine)? {
+                Reached::End => return Ok(true),
+                Reached::Sleep => {
                     if !self.take_one(flights, mine)? {
                         return Ok(false);
                     }
                 }
+                Reached::Fetch(ticket) => self.begin(flights, ticket, mine)?,
+            }
+        }
+        unreachable!()
+    }
+
+    // Works as far as it gets by what the source has ready.
+    fn reach(&self, mine: &mut Vec<Own>) -> Result<Reached, AssembleFault>
+        requires { AllOwn (S.gives self.now.source.now) mine.old.items }
+        ensures { OnOk result (AllOwn (S.gives self.now.source.now) mine.new.items) }
+    {
+        for _ in self.rt.forever() {
+            match self.shared.turn(self.rt) {
+                Turn::End => return Ok(Reached::End),
+                Turn::NoMemory => return Err(AssembleFault::NoMemory),
+                Turn::Sleep => return Ok(Reached::Sleep),
                 Turn::Prepare(ticket) => self.prepare(ticket, mine)?,
                 Turn::StartAndFetch(ticket) | Turn::Fetch(ticket) => {
-                    self.begin(flights, ticket, mine)?;
+                    return Ok(Reached::Fetch(ticket));
                 }
             }
         }
         unreachable!()
+    }
+
+    // Begins the first fetch, for a ticket.
+    fn begin_first(
+        &self,
+        flights: &mut Option<Box<Flights<S::InFlight>>>,
+        ticket: Ticket,
+        mine: &mut Vec<Own>,
+    ) -> Result<(), NoMemory>
+        ensures { mine.new.items ≡ mine.old.items }
+    {
+        let held = SetAside { ticket };
+        let mut first = match Box::new(self.alloc, self.nothing_in_flight()) {
+            Ok(first) => first,
+            Err(failed) => {
+                self.give_up(failed.value);
+                return Err(NoMemory);
+            }
+        };
+        let begun = self.begin(&mut *first, held.into_ticket(), mine);
+        if let Some(earlier) = flights.replace(first) {
+            self.give_up(Box::into_inner(earlier));
+        }
+        begun
+    }
+
+    fn nothing_in_flight(&self) -> Flights<S::InFlight> {
+        Flights {
+            fetches: self.source.nothing_in_flight(self.rt, self.alloc),
+            tickets: Vec::new(self.alloc),
+        }
+    }
+
+    fn give_up(&self, flights: Flights<S::InFlight>) {
+        self.source
+            .give_up(self.rt, self.alloc, flights.into_fetches());
     }
 
     // Begins to fetch for a ticket. The worker makes room for the answer before.
@@ -166,11 +248,12 @@ impl<'a, R: Wait, S: ConcurrentSource<R>, G: Gate<R>, D: Shared<R>> Worker<'a, R
     }
 }
 
-// Takes out the ticket for a URL.
+// Takes out the ticket for a URL. Of answers that are there at the same time the latest that was asked for mostly comes
+// first.
 fn take_ticket(tickets: &mut Vec<SetAside>, url: &PageUrl) -> Option<Ticket>
     ensures { IfSome result (λ ticket. ticket.url ≡ url.now) }
 {
-    let place = tickets.iter().position(|held| is_for(held, url))?;
+    let place = tickets.iter().rposition(|held| is_for(held, url))?;
     Some(tickets.swap_remove(place).into_ticket())
 }
 

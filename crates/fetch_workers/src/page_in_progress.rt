@@ -107,7 +107,8 @@ struct UnderWay<R, F> {
     alloc: Global,
     // The page, whose desk nobody else shares.
     desk: SharedDesk,
-    flights: Flights<F>,
+    // What it has in flight, once something is.
+    flights: Option<Box<Flights<F>>>,
     // How many fetches it may have in flight.
     most: u16,
     url: PageUrl,
@@ -124,7 +125,7 @@ pub(crate) struct Work<R: Wait + Drop, S: ConcurrentSource<R> + Drop> {
 impl<R: Wait + Drop, S: ConcurrentSource<R> + Drop> Drop for PageInProgress<R, S> {
     fn drop(self) {
         let PageInProgress { work } = self;
-        work.into_owing().give_up();
+        work.give_up();
     }
 }
 
@@ -145,15 +146,11 @@ impl<R: Wait + Drop, S: ConcurrentSource<R> + Drop> PageInProgress<R, S> {
         ensures request { IfOk result (λ page. (box_value page.work.under_way).request ≡ request) }
         ensures levels { IfOk result (λ page. (box_value page.work.under_way).levels ≡ levels) }
     {
-        let flights = Flights {
-            fetches: source.nothing_in_flight(&rt, alloc),
-            tickets: Vec::new(alloc),
-        };
         let under_way = UnderWay {
             rt,
             alloc,
             desk: SharedDesk::new(alloc, page, 1),
-            flights,
+            flights: None,
             most,
             url,
             request,
@@ -169,7 +166,9 @@ impl<R: Wait + Drop, S: ConcurrentSource<R> + Drop> PageInProgress<R, S> {
                 work: Work { posted, under_way },
             }),
             Err(failed) => {
-                owing_of(posted, failed.value).give_up();
+                if let Some(owing) = owing_of(posted, failed.value) {
+                    owing.give_up();
+                }
                 Err(NoMemory)
             }
         }
@@ -259,15 +258,9 @@ impl<R: Wait + Drop, S: ConcurrentSource<R> + Drop> Work<R, S> {
         } = posted;
         let page = desk.into_page();
         let made = put_together::<R, S>(alloc, &source, page, own, &url, &request, levels);
-        let owing = Owing {
-            rt,
-            alloc,
-            source,
-            fetches: flights.into_fetches(),
-        };
         Ended {
             made,
-            owed: owing.owed(),
+            owed: owed(owing_for(rt, alloc, source, flights)),
         }
     }
 
@@ -277,14 +270,21 @@ impl<R: Wait + Drop, S: ConcurrentSource<R> + Drop> Work<R, S> {
     {
         Ended {
             made: Err(fault),
-            owed: self.into_owing().owed(),
+            owed: owed(self.into_owing()),
         }
     }
 
-    // What is in flight.
-    fn into_owing(self) -> Owing<R, S> {
+    // What is in flight, if something is.
+    fn into_owing(self) -> Option<Owing<R, S>> {
         let Work { posted, under_way } = self;
         owing_of(posted, Box::into_inner(under_way))
+    }
+
+    // Gives up what is in flight.
+    fn give_up(self) {
+        if let Some(owing) = self.into_owing() {
+            owing.give_up();
+        }
     }
 
     fn awaited(&mut self) -> Option<Awaited>
@@ -295,10 +295,10 @@ impl<R: Wait + Drop, S: ConcurrentSource<R> + Drop> Work<R, S> {
     {
         let posted = &self.posted;
         let under_way = &mut *self.under_way;
-        let alloc = under_way.alloc;
+        let flights = under_way.flights.as_mut()?;
         posted
             .source
-            .awaited(&under_way.rt, alloc, &mut under_way.flights.fetches)
+            .awaited(&under_way.rt, under_way.alloc, &mut flights.fetches)
     }
 
     fn wait(&mut self, most: Option<Duration>)
@@ -307,21 +307,22 @@ impl<R: Wait + Drop, S: ConcurrentSource<R> + Drop> Work<R, S> {
         ensures request { (box_value self.new.under_way).request ≡ (box_value self.old.under_way).request }
         ensures levels { (box_value self.new.under_way).levels ≡ (box_value self.old.under_way).levels }
     {
-        // Without memory for what is told, the page is gone on with at once.
         let posted = &self.posted;
         let under_way = &mut *self.under_way;
-        let alloc = under_way.alloc;
-        let _ = posted
-            .source
-            .wait(&under_way.rt, alloc, &mut under_way.flights.fetches, most);
+        if let Some(flights) = under_way.flights.as_mut() {
+            // Without memory for what is told, the page is gone on with at once.
+            let _ = posted
+                .source
+                .wait(&under_way.rt, under_way.alloc, &mut flights.fetches, most);
+        }
     }
 }
 
-// What is in flight for a page.
+// What is in flight for a page, if something is.
 fn owing_of<R: Wait + Drop, S: ConcurrentSource<R> + Drop>(
     posted: Posted<R, S>,
     under_way: UnderWay<R, S::InFlight>,
-) -> Owing<R, S> {
+) -> Option<Owing<R, S>> {
     let Posted {
         source,
         own: _,
@@ -337,10 +338,33 @@ fn owing_of<R: Wait + Drop, S: ConcurrentSource<R> + Drop>(
         request: _,
         levels: _,
     } = under_way;
-    Owing {
-        rt,
-        alloc,
-        source,
-        fetches: flights.into_fetches(),
+    owing_for(rt, alloc, source, flights)
+}
+
+// What is in flight of a source, if something is.
+fn owing_for<R: Wait + Drop, S: ConcurrentSource<R> + Drop>(
+    rt: R,
+    alloc: Global,
+    source: S,
+    flights: Option<Box<Flights<S::InFlight>>>,
+) -> Option<Owing<R, S>> {
+    match flights {
+        Some(flights) => Some(Owing {
+            rt,
+            alloc,
+            source,
+            fetches: Box::into_inner(flights).into_fetches(),
+        }),
+        None => None,
+    }
+}
+
+// What others wait for, of what is in flight.
+fn owed<R: Wait + Drop, S: ConcurrentSource<R> + Drop>(
+    owing: Option<Owing<R, S>>,
+) -> Option<OwedFetches<R, S>> {
+    match owing {
+        Some(owing) => owing.owed(),
+        None => None,
     }
 }

@@ -1,5 +1,5 @@
 use Rattle.fetch_workers.specs.Given.{AllOwn}
-use Rattle.fetch_workers.proofs.worker.Worker.go_on.Given as goal
+use Rattle.fetch_workers.proofs.worker.Worker.go_on_flying.Given as goal
 
 abbrev pub invariant-loop : goal.invariant-loop
 invariant-loop g l =
