@@ -1,6 +1,6 @@
 //! A source that spares URLs that failed.
 
-ghost use Rattle.std.specs.Prelude.{◌≡◌};
+ghost use Rattle.std.specs.Prelude.{◌≡◌, IfOk};
 
 use crate::shared_failures::SharedFailures;
 use answer_sources::{Awaited, Bell, Clock, ConcurrentSource, Found, Given, OnBehalf, Source};
@@ -30,6 +30,23 @@ impl<S: Drop, C: Drop> SparingSource<S, C> {
             clock,
             failures,
         }
+    }
+}
+
+impl<S, C: Copy> SparingSource<S, C> {
+    // The same over another source: it remembers the same failures.
+    fn over(&self, source: S) -> Result<SparingSource<S, C>, NoMemory>
+    where
+        S: Drop,
+        ensures source { IfOk result (λ sparing. sparing.source ≡ source) }
+        ensures clock { IfOk result (λ sparing. sparing.clock ≡ self.now.clock) }
+        ensures failures { IfOk result (λ sparing. sparing.failures ≡ self.now.failures) }
+    {
+        Ok(SparingSource {
+            source,
+            clock: self.clock,
+            failures: self.failures.share()?,
+        })
     }
 }
 
@@ -63,14 +80,10 @@ impl<R: Wait, S: OnBehalf<R> + Drop, C: Clock<R> + Copy> OnBehalf<R> for Sparing
         alloc: Global,
         passed: &[u8],
     ) -> Result<Option<SparingSource<S, C>>, NoMemory> {
-        let Some(source) = self.source.on_behalf(alloc, passed)? else {
-            return Ok(None);
-        };
-        Ok(Some(SparingSource {
-            source,
-            clock: self.clock,
-            failures: self.failures.share()?,
-        }))
+        match self.source.on_behalf(alloc, passed)? {
+            Some(source) => Ok(Some(self.over(source)?)),
+            None => Ok(None),
+        }
     }
 }
 

@@ -6,6 +6,7 @@ ghost use Rattle.hyper_source.specs.Behind.{FollowsHead};
 use crate::behind::Behind;
 use crate::gathered::{Lost, Rest};
 use crate::intake::BodyCount;
+use crate::origin_socket::OriginSocket;
 use crate::polled_stream::PolledStream;
 use crate::round_trip::Response;
 use crate::stream_signals::{Readiness, StreamSignals};
@@ -20,7 +21,6 @@ use hyper::client::conn::http1::{ResponseFuture, WithoutShutdown};
 use polled_futures::Pollable;
 use std::alloc::Global;
 use std::hash::RandomState;
-use std::net::TcpStream;
 use std::os::fd::{AsRawFd, RawFd};
 use std::sync::Arc;
 
@@ -66,11 +66,11 @@ impl Exchange {
     pub(crate) fn begun(
         alloc: Global,
         keys: RandomState,
-        socket: TcpStream,
+        socket: OriginSocket,
         signals: StreamSignals,
         request: Request<Empty<Bytes>>,
     ) -> Result<Exchange, Lost> {
-        let descriptor = socket.as_raw_fd();
+        let descriptor = socket.stream().as_raw_fd();
         let Ok(signals) = Arc::new(alloc, signals) else {
             return Err(Lost::NoMemory);
         };

@@ -8,6 +8,7 @@ use crate::deadline::Deadline;
 use crate::exchange::{Exchange, Progress};
 use crate::gathered::Lost;
 use crate::origin::Chosen;
+use crate::origin_socket::OriginSocket;
 use crate::poller::{Poller, Watched};
 use crate::reach::{Reach, lost_by};
 use crate::round_trip::Response;
@@ -15,7 +16,6 @@ use crate::stream_signals::Readiness;
 use edge_types::PageUrl;
 use fetch_outcomes::FetchFault;
 use std::alloc::Global;
-use std::net::TcpStream;
 use std::time::{Clock, Instant};
 
 /// A fetch that is under way.
@@ -54,7 +54,7 @@ pub(crate) enum Turn {
     /// The fetch waits for its next turn.
     Waits,
     /// The fetch has ended; and what is left of its connection.
-    Ended(Response, Behind<TcpStream>),
+    Ended(Response, Behind<OriginSocket>),
     /// A kept connection was closed before the response began.
     Unheard,
 }
@@ -166,7 +166,7 @@ impl Leg {
     }
 
     // What has come, and what is left of the connection, whose socket isn't watched any longer.
-    fn into_response(self, poller: &Poller) -> (Response, Behind<TcpStream>)
+    fn into_response(self, poller: &Poller) -> (Response, Behind<OriginSocket>)
         ensures { IfOk result.0 (λ page. FollowsHead page.0 result.1) }
     {
         let Leg {

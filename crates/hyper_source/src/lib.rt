@@ -22,6 +22,7 @@ mod intake;
 mod latest_faults;
 mod notes;
 mod origin;
+mod origin_socket;
 mod origin_stream;
 mod polled_stream;
 mod poller;

@@ -6,6 +6,7 @@ ghost use Rattle.std.specs.IoError.{error_kind};
 
 use crate::deadline::Deadline;
 use crate::intake::{BodyCount, Intake};
+use crate::origin_socket::OriginSocket;
 use crate::reach::Reach;
 use futures::task::{Context, Poll};
 use std::io;
@@ -21,7 +22,7 @@ use tokio::io::{AsyncRead, AsyncWrite};
 /// A client reads before it writes: until something was written, a read asks to be polled again.
 #[derive(Drop)]
 pub(crate) struct OriginStream<R> {
-    socket: TcpStream,
+    socket: OriginSocket,
     clock: R,
     deadline: Deadline,
     has_written: bool,
@@ -41,7 +42,7 @@ impl<R: Wait + Net<Stream = TcpStream> + Clock + Clone> OriginStream<R> {
         body: BodyCount,
     ) -> io::Result<OriginStream<R>> {
         for _ in rt.forever() {
-            let socket = connected_once(rt, address, deadline);
+            let socket = OriginSocket::connected(rt, address, deadline);
             if !was_interrupted(&socket) {
                 return OriginStream::over(rt, socket?, deadline, body, None);
             }
@@ -50,21 +51,11 @@ impl<R: Wait + Net<Stream = TcpStream> + Clock + Clone> OriginStream<R> {
     }
 }
 
-fn connected_once<R>(rt: &R, address: SocketAddr, deadline: Deadline) -> io::Result<TcpStream>
-where
-    R: Net<Stream = TcpStream> + Clock,
-{
-    match deadline.left(rt)? {
-        None => TcpStream::connect(rt, &address),
-        Some(left) => TcpStream::connect_timeout(rt, &address, left),
-    }
-}
-
 impl<R: Clock + Clone> OriginStream<R> {
     /// A further fetch over a connection. As soon as a byte has come, that is told.
     pub(crate) fn over(
         rt: &R,
-        socket: TcpStream,
+        socket: OriginSocket,
         deadline: Deadline,
         body: BodyCount,
         heard: Option<Arc<AtomicBool>>,
@@ -83,7 +74,7 @@ impl<R: Clock + Clone> OriginStream<R> {
 
 impl<R: Drop> OriginStream<R> {
     /// The connection, for a further fetch.
-    pub(crate) fn into_socket(self) -> TcpStream {
+    pub(crate) fn into_socket(self) -> OriginSocket {
         self.socket
     }
 
@@ -118,17 +109,17 @@ impl<R: Clock> OriginStream<R> {
     fn read(&mut self, buf: &mut [u8]) -> io::Result<usize>
         ensures { ReadsAtMost result buf.new }
     {
-        self.socket
-            .set_read_timeout(self.deadline.left(&self.clock)?)?;
-        self.intake.read(&self.socket, buf)
+        let socket = self.socket.stream();
+        socket.set_read_timeout(self.deadline.left(&self.clock)?)?;
+        self.intake.read(socket, buf)
     }
 
     fn write(&self, buf: &[u8]) -> io::Result<usize>
         ensures { WritesAtMost result buf.now }
     {
-        self.socket
-            .set_write_timeout(self.deadline.left(&self.clock)?)?;
-        (&self.socket).write(buf)
+        let mut socket = self.socket.stream();
+        socket.set_write_timeout(self.deadline.left(&self.clock)?)?;
+        socket.write(buf)
     }
 }
 

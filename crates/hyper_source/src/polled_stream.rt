@@ -4,12 +4,12 @@ ghost use Rattle.std.specs.Prelude.{◌≡◌, ◌↔◌, ⊤, IsTrue, IsErrAnd}
 ghost use Rattle.std.specs.IoError.{error_kind};
 
 use crate::intake::{BodyCount, Intake};
+use crate::origin_socket::OriginSocket;
 use crate::origin_stream::was_interrupted;
 use crate::stream_signals::{Readiness, StreamSignals};
 use futures::task::{Context, Poll};
 use std::io;
 use std::io::{ErrorKind, Write};
-use std::net::TcpStream;
 use std::sync::Arc;
 use tokio::io::{AsyncRead, AsyncWrite};
 
@@ -19,7 +19,7 @@ use tokio::io::{AsyncRead, AsyncWrite};
 /// A client reads before it writes: until something was written, a read asks to be polled again.
 #[derive(Drop)]
 pub(crate) struct PolledStream {
-    socket: TcpStream,
+    socket: OriginSocket,
     stage: Stage,
     intake: Intake,
     signals: Arc<StreamSignals>,
@@ -41,7 +41,7 @@ enum Stage {
 impl PolledStream {
     /// A connection, made or still being made, over a socket that doesn't block, for an answer whose body is counted so.
     pub(crate) fn over(
-        socket: TcpStream,
+        socket: OriginSocket,
         body: BodyCount,
         signals: Arc<StreamSignals>,
     ) -> PolledStream {
@@ -54,7 +54,7 @@ impl PolledStream {
     }
 
     /// The connection, for a further fetch.
-    pub(crate) fn into_socket(self) -> TcpStream {
+    pub(crate) fn into_socket(self) -> OriginSocket {
         self.socket
     }
 
@@ -99,7 +99,7 @@ impl AsyncRead for PolledStream {
             }
             Stage::Answered => {}
         }
-        let done = self.intake.read(&self.socket, buf);
+        let done = self.intake.read(self.socket.stream(), buf);
         if would_block(&done) {
             self.signals.awaits(Readiness::Readable);
             return cx.yield_now();
@@ -120,7 +120,7 @@ impl AsyncWrite for PolledStream {
 
     // The first write also tells whether the connection could be made.
     fn poll_write(&mut self, cx: &mut Context<'_>, buf: &[u8]) -> Poll<io::Result<usize>> {
-        let done = (&self.socket).write(buf);
+        let done = self.socket.stream().write(buf);
         if was_interrupted(&done) {
             return cx.yield_now();
         }

@@ -1,11 +1,13 @@
 //! Connections to origins that are kept for further requests.
 
 ghost use Rattle.std.specs.Prelude.{◌≡◌, ◌<◌, ◌↔◌, length, slice_get, IsTrue, IfOk, IfSome, IsOkAnd, IsErrAnd};
+ghost use Rattle.std.specs.Arc.{arc_value};
 ghost use Rattle.std.specs.IoError.{error_kind};
 ghost use Rattle.hyper_source.specs.declared.pool.Heard.TheVariants as heard;
 
 use crate::bounded::millis;
 use crate::origin::Origin;
+use crate::origin_socket::OriginSocket;
 use crate::reuse;
 use crate::reuse::{AddressReuse, Reuse};
 use edge_types::NoMemory;
@@ -19,11 +21,10 @@ use std::time::{Clock, Duration, Instant};
 // For how long a connection is kept that no request needs, in seconds.
 const MAX_IDLE: u64 = 15;
 
-/// A connection on which nothing is under way.
+/// A connection on which nothing is under way. While it is kept its socket doesn't block.
 #[derive(Drop)]
 pub(crate) struct IdleSocket {
-    pub(crate) address: SocketAddr,
-    pub(crate) socket: TcpStream,
+    pub(crate) socket: OriginSocket,
     since: Instant,
 }
 
@@ -68,7 +69,10 @@ impl Pool {
     }
 
     /// One more handle to the same connections.
-    pub(crate) fn share(&self) -> Result<Pool, NoMemory> {
+    pub(crate) fn share(&self) -> Result<Pool, NoMemory>
+        ensures most { IfOk result (λ pool. pool.most ≡ self.now.most) }
+        ensures kept { IfOk result (λ pool. arc_value pool.kept ≡ arc_value self.now.kept) }
+    {
         Ok(Pool {
             most: self.most,
             kept: Arc::try_clone(&self.kept)?,
@@ -87,12 +91,12 @@ impl Pool {
         rt: &R,
         address: SocketAddr,
     ) -> Result<Option<IdleSocket>, Strays>
-        ensures { IfOk result (λ found. IfSome found (λ idle. idle.address ≡ address)) }
+        ensures { IfOk result (λ found. IfSome found (λ idle. idle.socket.address ≡ address)) }
     {
         let Some(idle) = self.take_nonblocking(rt, address)? else {
             return Ok(None);
         };
-        match idle.socket.set_nonblocking(false) {
+        match idle.socket.stream().set_nonblocking(false) {
             Ok(()) => Ok(Some(idle)),
             Err(_) => Ok(None),
         }
@@ -104,13 +108,13 @@ impl Pool {
         rt: &R,
         address: SocketAddr,
     ) -> Result<Option<IdleSocket>, Strays>
-        ensures { IfOk result (λ found. IfSome found (λ idle. idle.address ≡ address)) }
+        ensures { IfOk result (λ found. IfSome found (λ idle. idle.socket.address ≡ address)) }
     {
         for _ in rt.forever() {
             let Some(idle) = self.taken(rt, address) else {
                 return Ok(None);
             };
-            match heard_on(&idle.socket) {
+            match heard_on(idle.socket.stream()) {
                 Heard::Nothing => return Ok(Some(idle)),
                 Heard::Bytes => {
                     self.strayed(rt, address);
@@ -123,7 +127,7 @@ impl Pool {
     }
 
     fn taken<R: Wait + Clock>(&self, rt: &R, address: SocketAddr) -> Option<IdleSocket>
-        ensures { IfSome result (λ idle. idle.address ≡ address) }
+        ensures { IfSome result (λ idle. idle.socket.address ≡ address) }
     {
         if !self.keeps() {
             return None;
@@ -140,11 +144,12 @@ impl Pool {
         self.kept.lock(rt).strayed(address, now);
     }
 
-    /// Keeps a connection, whose socket may block or not, unless none to its address is kept now, or as many as may be are.
-    pub(crate) fn leave<R: Wait + Clock>(&self, rt: &R, address: SocketAddr, socket: TcpStream) {
+    /// Keeps a connection, whose socket doesn't block, unless none to its address is kept now, or as many as may be are.
+    pub(crate) fn leave<R: Wait + Clock>(&self, rt: &R, socket: OriginSocket) {
         let Ok(since) = Instant::now(rt) else {
             return;
         };
+        let address = socket.address();
         let now = millis(rt);
         let mut kept = self.kept.lock(rt);
         let most = if kept.keeps(address, now) {
@@ -153,13 +158,8 @@ impl Pool {
             0
         };
         if count_of(kept.idle.as_slice(), address) < most {
-            let left = IdleSocket {
-                address,
-                socket,
-                since,
-            };
             // Without room it is closed.
-            let _ = kept.idle.insert(0, left);
+            let _ = kept.idle.insert(0, IdleSocket { socket, since });
         }
     }
 }
@@ -176,7 +176,8 @@ impl Kept {
         if let Some(place) = reuse::place_of(self.reuses.as_slice(), address) {
             self.reuses[place].reuse = Reuse::Strayed(now);
         }
-        self.idle.retain(|idle| !is_same(idle.address, address));
+        self.idle
+            .retain(|idle| !is_same(idle.socket.address(), address));
     }
 }
 
@@ -198,11 +199,11 @@ fn is_same(one: SocketAddr, other: SocketAddr) -> bool
 }
 
 fn place_of(idle: &[IdleSocket], address: SocketAddr) -> Option<usize>
-    ensures there { IfSome result (λ i. IfSome (slice_get idle.now i) (λ idle. idle.address ≡ address)) }
+    ensures there { IfSome result (λ i. IfSome (slice_get idle.now i) (λ idle. idle.socket.address ≡ address)) }
     ensures within { IfSome result (λ i. i < length idle.now) }
 {
-    for (i, socket) in idle.iter().enumerate() {
-        if is_same(socket.address, address) {
+    for (i, kept) in idle.iter().enumerate() {
+        if is_same(kept.socket.address(), address) {
             return Some(i);
         }
     }
@@ -210,7 +211,7 @@ fn place_of(idle: &[IdleSocket], address: SocketAddr) -> Option<usize>
 }
 
 fn taken_from(idle: &mut Vec<IdleSocket>, address: SocketAddr) -> Option<IdleSocket>
-    ensures { IfSome result (λ idle. idle.address ≡ address) }
+    ensures { IfSome result (λ idle. idle.socket.address ≡ address) }
 {
     let place = place_of(idle.as_slice(), address)?;
     Some(idle.remove(place))
@@ -218,7 +219,7 @@ fn taken_from(idle: &mut Vec<IdleSocket>, address: SocketAddr) -> Option<IdleSoc
 
 fn count_of(idle: &[IdleSocket], address: SocketAddr) -> usize {
     idle.iter()
-        .filter(|socket| is_same(socket.address, address))
+        .filter(|idle| is_same(idle.socket.address(), address))
         .count()
 }
 
@@ -241,11 +242,8 @@ enum Heard {
     End,
 }
 
-// The socket doesn't block any longer.
+// Without a wait, since the socket doesn't block.
 fn heard_on(socket: &TcpStream) -> Heard {
-    if socket.set_nonblocking(true).is_err() {
-        return Heard::End;
-    }
     let mut byte = [0; 1];
     heard_by(&socket.peek(&mut byte))
 }

@@ -1,7 +1,8 @@
 //! A source that fetches from origins.
 
-ghost use Rattle.std.specs.Prelude.{◌≡◌, IfOk};
+ghost use Rattle.std.specs.Prelude.{◌≡◌, IfOk, IsSomeAnd, Some};
 ghost use Rattle.std.specs.Arc.{arc_value};
+ghost use Rattle.hyper_source.specs.Names.{way_through};
 
 mod concurrent;
 
@@ -16,6 +17,7 @@ use crate::gathered::Lost;
 use crate::intake::BodyCount;
 use crate::notes::FetchNotes;
 use crate::origin::{Chosen, Origin, origin_for};
+use crate::origin_socket::OriginSocket;
 use crate::origin_stream::OriginStream;
 use crate::poller::IdlePollers;
 use crate::pool::{IdleSocket, Pool, Strays};
@@ -144,6 +146,26 @@ impl HyperSource {
         Ok(Arc::try_clone(&self.shared.notes)?)
     }
 
+    // The same source for an edge with this name, and for requests that have passed these edges.
+    fn behind(&self, alloc: Global, name: &EdgeName, passed: &[u8]) -> Result<HyperSource, NoMemory>
+        ensures shared { IfOk result (λ source. arc_value source.shared ≡ arc_value self.now.shared) }
+        ensures limit { IfOk result (λ source. source.limit ≡ self.now.limit) }
+        ensures name { IfOk result (λ source. source.name ≡ Some name.now) }
+        ensures way { IfOk result (λ source. IsSomeAnd source.way (λ way. way.items ≡ way_through passed.now name.now)) }
+        ensures pool { IfOk result (λ source. (source.pool.most ≡ self.now.pool.most) × (arc_value source.pool.kept ≡ arc_value self.now.pool.kept)) }
+        ensures gates { IfOk result (λ source. arc_value source.gates ≡ arc_value self.now.gates) }
+    {
+        Ok(HyperSource {
+            shared: Arc::try_clone(&self.shared)?,
+            limit: self.limit,
+            keys: self.keys,
+            name: Some(name.copy(alloc)?),
+            way: Some(way_through(alloc, passed, name.as_bytes())?),
+            pool: self.pool.share()?,
+            gates: Arc::try_clone(&self.gates)?,
+        })
+    }
+
     // The origin that is asked for a URL.
     fn origin_of(&self, url: &PageUrl) -> Option<Chosen> {
         origin_for(self.shared.origins.as_slice(), url.authority())
@@ -256,7 +278,7 @@ impl HyperSource {
         let (came, behind) = round_trip(rt, alloc, &mut executor, self.keys, io, body, request);
         self.shared.executors.leave(rt, executor);
         let left = match behind {
-            Behind::Open(io) => Behind::Open(io.into_socket()),
+            Behind::Open(io) => unblocked(io.into_socket()),
             Behind::Strays => Behind::Strays,
             Behind::End => Behind::End,
         };
@@ -275,13 +297,13 @@ impl HyperSource {
         }
     }
 
-    // Keeps what is left of a connection, if it may be kept.
-    fn leave<R: Wait + Clock>(&self, rt: &R, origin: Chosen, behind: Behind<TcpStream>) {
+    // Keeps what is left of a connection, whose socket doesn't block, if it may be kept.
+    fn leave<R: Wait + Clock>(&self, rt: &R, origin: Chosen, behind: Behind<OriginSocket>) {
         if !self.pool.keeps() {
             return;
         }
         match behind {
-            Behind::Open(socket) => self.pool.leave(rt, origin.address, socket),
+            Behind::Open(socket) => self.pool.leave(rt, socket),
             Behind::Strays => {
                 self.pool.strayed(rt, origin.address);
                 self.shared.notes.note_strays(origin.place);
@@ -309,6 +331,14 @@ impl HyperSource {
     }
 }
 
+// A connection whose socket doesn't block any longer.
+fn unblocked(socket: OriginSocket) -> Behind<OriginSocket> {
+    match socket.stream().set_nonblocking(true) {
+        Ok(()) => Behind::Open(socket),
+        Err(_) => Behind::End,
+    }
+}
+
 impl<R> Source<R> for HyperSource
 where
     R: Wait + Net<Stream = TcpStream> + Clock + RandomSource + AllocGlobal + Clone + Drop,
@@ -333,17 +363,9 @@ where
 {
     // An edge without a name says nothing of the way.
     fn on_behalf(&self, alloc: Global, passed: &[u8]) -> Result<Option<HyperSource>, NoMemory> {
-        let Some(name) = &self.name else {
-            return Ok(None);
-        };
-        Ok(Some(HyperSource {
-            shared: Arc::try_clone(&self.shared)?,
-            limit: self.limit,
-            keys: self.keys,
-            name: Some(name.copy(alloc)?),
-            way: Some(way_through(alloc, passed, name.as_bytes())?),
-            pool: self.pool.share()?,
-            gates: Arc::try_clone(&self.gates)?,
-        }))
+        match &self.name {
+            Some(name) => Ok(Some(self.behind(alloc, name, passed)?)),
+            None => Ok(None),
+        }
     }
 }

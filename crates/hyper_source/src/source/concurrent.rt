@@ -9,6 +9,7 @@ use crate::gate::{Caller, Chance};
 use crate::gathered::Lost;
 use crate::in_flight::{FetchesInFlight, HeldPermit, Queued, Wanted};
 use crate::origin::Chosen;
+use crate::origin_socket::OriginSocket;
 use crate::poller::Watched;
 use crate::pool::{IdleSocket, Strays};
 use crate::reach::{Reach, lost_by};
@@ -213,8 +214,8 @@ impl HyperSource {
         address: SocketAddr,
         told: Reach,
     ) -> Result<Leg, Lost> {
-        match mio::net::TcpStream::connect(rt, address) {
-            Ok(socket) => self.leg(alloc, url, TcpStream::from(socket), false, Some(told)),
+        match OriginSocket::connecting(rt, address) {
+            Ok(socket) => self.leg(alloc, url, socket, false, Some(told)),
             Err(error) => Err(lost_by(&error)),
         }
     }
@@ -224,7 +225,7 @@ impl HyperSource {
         &self,
         alloc: Global,
         url: &PageUrl,
-        socket: TcpStream,
+        socket: OriginSocket,
         is_kept: bool,
         told: Option<Reach>,
     ) -> Result<Leg, Lost> {
@@ -295,7 +296,7 @@ impl HyperSource {
         in_flight: &mut FetchesInFlight,
         key: usize,
         came: Response,
-        behind: Behind<TcpStream>,
+        behind: Behind<OriginSocket>,
     ) -> Result<Option<Arc<Answer>>, NoMemory>
     where
         R: Wait + Clock,
