@@ -6,10 +6,8 @@ from itertools import product
 
 from harness import PATIENCE, UNASSEMBLED, Edge, Origin, Wires, all_at_once, before, get, same, told, wire
 from leaving import reset
-from reusing import Lasting, whole
+from reusing import WAYS, Lasting, whole
 
-# Threads that fetch one by one, and those that may have several fetches in flight.
-WAYS = ((), ("--fetches", "2"))
 ONE = wire("HTTP/1.1 200 OK|content-length: 1||1")
 # Kept for a second, and bridged for ten minutes.
 BRIDGED = wire("HTTP/1.1 200 OK|content-length: 1|surrogate-control: max-age=1+600||x")

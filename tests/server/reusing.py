@@ -2,12 +2,15 @@
 import socket
 import threading
 import time
+from itertools import product
 
 from harness import PATIENCE, UNASSEMBLED, Edge, Listening, all_at_once, before, client, get, same, told, wire
 from keeping import of_one
 from operating import ADMIN, Desk, metrics
 from parking import IS_FULL
 
+# Threads that fetch one by one, and those that may have several fetches in flight.
+WAYS = ((), ("--fetches", "2"))
 # Connections to an origin, and to a client, that are kept.
 REUSED = ("--origin-keep-alive", "4")
 KEPT = ("--keep-alive", "20")
@@ -180,9 +183,10 @@ def a_connection_may_end_while_it_is_idle():
 
 def what_was_cut_is_not_asked_for_again():
     """A response over a kept connection that is cut after its first byte fails its fetch, and is asked for once."""
-    for sent in (b"H", wire("HTTP/1.1 200 OK|content-length: 5||/"), wire("HTTP/1.1 600 Odd||")):
+    parts = (b"H", wire("HTTP/1.1 200 OK|content-length: 5||/"), wire("HTTP/1.1 600 Odd||"))
+    for several, sent in product(WAYS, parts):
         answer = lambda target, before_it: (sent, True) if before_it else (whole(target), False)
-        with Lasting(answer) as origin, before(origin, *REUSED) as edge:
+        with Lasting(answer) as origin, before(origin, *REUSED, *several) as edge:
             same("the first", (200, b"/p"), told(edge))
             same("cut after %r" % sent, UNASSEMBLED, told(edge))
             same("requests that came", 2, len(origin.heads))
@@ -207,13 +211,13 @@ def one_limit_of_time_counts_for_a_fetch():
 def origins_keep_their_own_connections():
     """Two origins that are asked in turn: each over one connection, and never over the other's."""
     answers = [lambda target, before_it, text=text: (whole(text + target), False) for text in ("a", "b")]
-    with Lasting(answers[0]) as a, Lasting(answers[1]) as b:
-        with Edge("--origin", "a.test=" + a.at, "--origin", "b.test=" + b.at, *REUSED) as edge:
-            for k in range(50):
-                for host, text in (("a.test", b"a"), ("b.test", b"b")):
+    for several in WAYS:
+        with Lasting(answers[0]) as a, Lasting(answers[1]) as b:
+            with Edge("--origin", "a.test=" + a.at, "--origin", "b.test=" + b.at, *REUSED, *several) as edge:
+                for k, (host, text) in product(range(50), (("a.test", b"a"), ("b.test", b"b"))):
                     with client(edge, wire("GET /%d HTTP/1.1|host: %s|connection: close||" % (k, host))) as connection:
                         same("%s, %d" % (host, k), text + b"/%d" % k, of_one(connection).body)
-        same("connections", (1, 1), (a.connections, b.connections))
+            same("connections", (1, 1), (a.connections, b.connections))
 
 
 def no_more_are_kept_than_may_be():
@@ -225,15 +229,16 @@ def no_more_are_kept_than_may_be():
             met.wait(PATIENCE)
         return whole(target), False
 
-    with Lasting(together) as origin, before(origin, *REUSED, "--threads", "16") as edge:
-        came = all_at_once([lambda k=k: told(edge, "/together%d" % k) for k in range(12)])
-        same("what they got", sorted((200, b"/together%d" % k) for k in range(12)), sorted(came))
-        until = time.monotonic() + PATIENCE
-        while origin.open > 4 and time.monotonic() < until:
-            time.sleep(0.01)
-        same("connections that are open", 4, origin.open)
-        same("one more", (200, b"/p"), told(edge))
-        same("connections", 12, origin.connections)
+    for several in WAYS:
+        with Lasting(together) as origin, before(origin, *REUSED, "--threads", "16", *several) as edge:
+            came = all_at_once([lambda k=k: told(edge, "/together%d" % k) for k in range(12)])
+            same("what they got", sorted((200, b"/together%d" % k) for k in range(12)), sorted(came))
+            until = time.monotonic() + PATIENCE
+            while origin.open > 4 and time.monotonic() < until:
+                time.sleep(0.01)
+            same("connections that are open", 4, origin.open)
+            same("one more", (200, b"/p"), told(edge))
+            same("connections", 12, origin.connections)
 
 
 def idle_connections_to_origins_end():
