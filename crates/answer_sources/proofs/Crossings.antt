@@ -9,6 +9,7 @@ use Rattle.esi_expr.proofs.expr.Operand.TheSendSync as Operand
 use Rattle.esi_tree.proofs.parts.Parts.TheSendSync as Parts
 use Rattle.plan_compiler.proofs.inline.Inline.TheSendSync as Inline
 use Rattle.plan_compiler.proofs.inline_urls.InlineUrls.TheSendSync as InlineUrls
+use Rattle.plan_compiler.proofs.leg.Leg.TheSendSync as Leg
 use Rattle.plan_compiler.specs.contracts.prepared.Prepared as prepared
 
 pub prepared_send : IsSend prepared.the_row
@@ -19,6 +20,8 @@ prepared_send = search (
   SharedBytes.the_sync,
   Parts.the_send,
   Parts.the_sync,
+  Leg.the_send,
+  Leg.the_sync,
   Inline.the_send,
   Inline.the_sync,
   InlineUrls.the_field_send,

@@ -90,8 +90,9 @@ fn read_and_compile(rt: &HostRuntime, text: &SharedBytes, least: &mut Least) -> 
 
 // Reads the template and compiles it.
 fn compiled(alloc: Global, text: &SharedBytes) -> io::Result<()> {
+    let base = url(alloc, b"http://a.test/p".as_slice())?;
     match template(alloc, text) {
-        Ok(template) => or_input_error(compile(alloc, &template)),
+        Ok(template) => or_input_error(compile(alloc, &base, &template)),
         Err(_) => Err(io::Error::from(io::ErrorKind::InvalidInput)),
     }
 }

@@ -72,6 +72,7 @@ fn call_of_page(rt: &HostRuntime, name: &str) -> Option<()> {
     match name {
         "plain_page" => pages::plain_page(rt, name),
         "leg_url" => pages::leg_url(rt, name),
+        "Leg::url" => pages::url_of_leg(rt, name),
         "compile" => pages::compile_template(rt, name),
         "Prepared::of" => pages::prepare(rt, name),
         "Prepared::share" => pages::share_prepared(rt, name),

@@ -8,7 +8,7 @@ use allocation_tools::values::{answer, processed, request, url};
 use answer_board::Board;
 use edge_types::{Control, NoMemory, Outcome, PageUrl, Table};
 use esi_vars::{Lookups, Part};
-use plan_compiler::{Form, Plan, Prepared, compile};
+use plan_compiler::{Form, Leg, Plan, Prepared, Step, compile};
 use std::alloc::Global;
 use std::sync::Arc;
 
@@ -70,8 +70,9 @@ fn print_found(rt: &HostRuntime, found: &Result<Option<PageUrl>, NoMemory>) -> O
 pub fn compile_template(rt: &HostRuntime, name: &str) -> Option<()> {
     let text = shared(rt.alloc(), TEMPLATE.as_bytes())?;
     let template = esi_tree::template(rt.alloc(), &text).ok()?;
+    let base = url(rt.alloc(), "/p")?;
     calls(rt, name)?;
-    let compiled = compile(rt.alloc(), &template);
+    let compiled = compile(rt.alloc(), &base, &template);
     answers(rt)?;
     match &compiled {
         Ok(plan) => print_plan(rt, plan)?,
@@ -130,6 +131,30 @@ fn print_prepared(rt: &HostRuntime, prepared: &Prepared) -> Option<()> {
         Some(url) => bytes(rt, url.as_bytes()),
         None => word(rt, "no URL"),
     }
+}
+
+pub fn url_of_leg(rt: &HostRuntime, name: &str) -> Option<()> {
+    let answer = answer(rt.alloc(), "/p", processed(), TEMPLATE)?;
+    let prepared = Prepared::of(rt.alloc(), answer).ok()?;
+    let request = request(rt.alloc())?;
+    let leg = first_leg(&prepared)?;
+    calls(rt, name)?;
+    let mut lookups = Lookups::none();
+    let found = leg.url(rt.alloc(), &request, prepared.url(), &mut lookups);
+    print_found(rt, &found)
+}
+
+// The first leg of a plan, whose source has a reference.
+fn first_leg(prepared: &Prepared) -> Option<&Leg> {
+    let Form::Planned(plan) = prepared.form() else {
+        return None;
+    };
+    for i in 0..plan.len() {
+        if let Some(Step::Leg(leg)) = plan.step(i) {
+            return Some(leg);
+        }
+    }
+    None
 }
 
 /// Opens the first slot of a board, which makes room for further ones.

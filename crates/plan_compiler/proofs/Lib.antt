@@ -7,3 +7,4 @@ pub mod Jumps
 pub mod Bound
 pub mod UrlLemmas
 pub mod Entries
+pub mod LegLemmas

@@ -7,3 +7,4 @@ pub mod Laws
 pub mod Shown
 pub mod Prepared
 pub mod Urls
+pub mod Legs

@@ -21,24 +21,24 @@ use crate::later_inlines::{LaterInlines, Place};
 use crate::later_steps::LaterSteps;
 use crate::plan::Plan;
 use crate::step::Step;
-use edge_types::NoMemory;
+use edge_types::{NoMemory, PageUrl};
 use esi_tree::{Branch, Include, Node, Parts, Template};
 use std::alloc::Global;
 use std::sync::Arc;
 
-/// The plan of a template.
+/// The plan of a template at this URL.
 ///
 /// `NoMemory` if an allocation fails; no plan is made then.
 ///
 /// Our profile.
-pub fn compile(alloc: Global, template: &Template) -> Result<Plan, NoMemory>
+pub fn compile(alloc: Global, base: &PageUrl, template: &Template) -> Result<Plan, NoMemory>
     ensures steps { IfOk result (λ plan. steps_in plan ≡ code_of (tree_in template.now)) }
     ensures means { IfOk result (λ plan. (r : Request) (leg : List Part → Run) → frame_run r leg (steps_in plan) ≡ elements_run r leg (tree_in template.now)) }
     ensures ahead { IfOk result (λ plan. (r : Request) → plan_sources r (steps_in plan) ≡ ahead_sources r (tree_in template.now)) }
     ensures entries { IfOk result (λ plan. inlines_in plan ≡ entries (tree_in template.now)) }
     ensures inlines { IfOk result (λ plan. map (body_in (steps_in plan)) (inlines_in plan) ≡ map body_of (inlines (tree_in template.now))) }
 {
-    let mut later = LaterSteps::new(alloc);
+    let mut later = LaterSteps::new(alloc, base.share()?);
     let mut inlines = LaterInlines::new(alloc);
     put_elements(alloc, template.nodes(), &mut later, &mut inlines)?;
     let inlines = inlines.into_inlines(alloc, later.len())?;
@@ -114,10 +114,10 @@ fn put_leg(source: &Parts, goes_on: bool, later: &mut LaterSteps) -> Result<(), 
     ensures { OnOk result (later_of later.new ≡ dropped_code source.now goes_on ++ later_of later.old) }
 {
     if !goes_on {
-        return later.put(Step::Leg(source.share()?));
+        return later.put_leg(source);
     }
     later.put(Step::EndTry { skip: 0 })?;
-    later.put(Step::Leg(source.share()?))?;
+    later.put_leg(source)?;
     later.put(Step::Try { skip: 2 })
 }
 
@@ -131,7 +131,7 @@ fn put_include(include: &Include, later: &mut LaterSteps) -> Result<(), NoMemory
     put_leg(alt, include.continues, later)?;
     let alternate = later.len() - behind;
     later.put(Step::EndTry { skip: alternate })?;
-    later.put(Step::Leg(include.src.share()?))?;
+    later.put_leg(&include.src)?;
     later.put(Step::Try { skip: 2 })
 }
 

@@ -146,7 +146,7 @@ fn form_of(alloc: Global, answer: &Arc<Answer>) -> Result<Form, NoMemory>
     }
     let body = answer.share_body()?;
     match template(alloc, &body) {
-        Ok(template) => Ok(Form::Planned(compile(alloc, &template)?)),
+        Ok(template) => Ok(Form::Planned(compile(alloc, answer.url(), &template)?)),
         Err(TreeFault::Bad(place)) => Ok(Form::BadAt(place)),
         Err(TreeFault::NoMemory) => Err(NoMemory),
     }

@@ -1,5 +1,6 @@
 //! The steps of a plan.
 
+use crate::leg::Leg;
 use edge_types::SharedBytes;
 use esi_expr::Expr;
 use esi_tree::Parts;
@@ -35,5 +36,5 @@ pub enum Step {
         skip: usize,
     },
     /// A `src` or an `alt` that is tried.
-    Leg(Parts),
+    Leg(Leg),
 }

@@ -10,10 +10,8 @@ ghost use Rattle.plan_runner.specs.Walk.{asked_by, asked_in, sources_at, passed_
 
 use answer_board::Board;
 use edge_types::{NoMemory, PageUrl, Request};
-use esi_meaning::leg_url;
-use esi_tree::Parts;
 use esi_vars::Lookups;
-use plan_compiler::{Form, Prepared, Step};
+use plan_compiler::{Form, Leg, Prepared, Step};
 use std::alloc::Global;
 
 // What slots are opened with: the template, and their depth.
@@ -143,7 +141,7 @@ fn visit(
 // Opens a slot for the URL of a leg, unless it has one or an inline of the template names it.
 fn open_leg(
     opening: &Opening<'_>,
-    source: &Parts,
+    source: &Leg,
     board: &mut Board,
     room: u16,
     lookups: &mut Lookups,
@@ -157,13 +155,7 @@ fn open_leg(
     ensures fewer { IfOk result (λ left. length board.new.slots + left ≤ length board.old.slots + room) }
 {
     let template = opening.template;
-    match leg_url(
-        opening.alloc,
-        opening.request,
-        template.url(),
-        source.as_slice(),
-        lookups,
-    )? {
+    match source.url(opening.alloc, opening.request, template.url(), lookups)? {
         Some(url) => match template.inline_for(&url) {
             Some(_) => Ok(room),
             None => open_new(opening, &url, board, room),
@@ -187,9 +179,12 @@ fn open_new(
     ensures few { length board.new.slots ≤ length board.old.slots + room }
     ensures fewer { IfOk result (λ left. length board.new.slots + left ≤ length board.old.slots + room) }
 {
-    if room == 0 || board.number(url).is_some() {
+    let before = board.len();
+    if room > 0 {
+        board.open(url, opening.depth)?;
+    }
+    if board.len() == before {
         return Ok(room);
     }
-    board.open(url, opening.depth)?;
     Ok(room - 1)
 }

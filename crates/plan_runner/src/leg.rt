@@ -7,10 +7,8 @@ ghost use Rattle.plan_runner.specs.Targets.{asked_target, resolved_target, targe
 
 use answer_board::Board;
 use edge_types::{NoMemory, PageUrl, Request};
-use esi_meaning::leg_url;
-use esi_tree::Parts;
 use esi_vars::Lookups;
-use plan_compiler::Prepared;
+use plan_compiler::{Leg, Prepared};
 use std::alloc::Global;
 
 // What a page is run with.
@@ -42,7 +40,7 @@ pub(crate) fn find_target(
     setting: &Setting<'_>,
     template: &Prepared,
     level: u8,
-    source: &Parts,
+    source: &Leg,
     lookups: &mut Lookups,
 ) -> Result<Target, NoMemory>
     ensures { IfOk result (λ target. shown_target setting.now.board.now target ≡
@@ -51,13 +49,7 @@ pub(crate) fn find_target(
     if level == 0 {
         return Ok(Target::Nowhere);
     }
-    match leg_url(
-        setting.alloc,
-        setting.request,
-        template.url(),
-        source.as_slice(),
-        lookups,
-    )? {
+    match source.url(setting.alloc, setting.request, template.url(), lookups)? {
         Some(url) => Ok(named(setting, template, url)),
         None => Ok(Target::Nowhere),
     }

@@ -25,7 +25,7 @@ use edge_types::{Answer, NoMemory, PageUrl, SharedBytes};
 use esi_meaning::MAX_LEGS;
 use esi_tree::Parts;
 use esi_vars::push_values;
-use plan_compiler::{Form, Prepared, Step};
+use plan_compiler::{Form, Leg, Prepared, Step};
 use plan_machine::Handler;
 use std::sync::Arc;
 
@@ -264,7 +264,7 @@ fn leg(
     setting: &Setting<'_>,
     template: &Prepared,
     frame: Frame,
-    source: &Parts,
+    source: &Leg,
 ) -> Result<Reached, NoMemory>
     requires short { frame.at + 1 ≤ usize.MAX }
     requires url { template.now.url ≡ (shown_frame setting.now.board.now frame).url }

@@ -94,11 +94,21 @@ fn is_small(form: &Form) -> bool {
 fn parts_of(plan: &Plan) -> usize {
     let mut count = plan.len();
     for i in 0..plan.len() {
-        if let Some(Step::Values(parts) | Step::Leg(parts)) = plan.step(i) {
-            count = count.saturating_add(parts.as_slice().len());
+        if let Some(step) = plan.step(i) {
+            count = count.saturating_add(parts_in(step));
         }
     }
     count
+}
+
+// How many parts the text of a step has. A URL that is kept counts as two.
+fn parts_in(step: &Step) -> usize {
+    match step {
+        Step::Values(parts) => parts.as_slice().len(),
+        Step::Leg(leg) if leg.keeps_url() => leg.source().len().saturating_add(2),
+        Step::Leg(leg) => leg.source().len(),
+        _ => 0,
+    }
 }
 
 impl KeptPlans {

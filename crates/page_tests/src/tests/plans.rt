@@ -25,9 +25,9 @@ fn push_step(line: &mut String, step: &Step) -> Result<(), NoMemory> {
         Step::Jump { skip } => write!(line, "+{skip}")?,
         Step::Try { skip } => write!(line, "try{skip}")?,
         Step::EndTry { skip } => write!(line, "end{skip}")?,
-        Step::Leg(source) => {
+        Step::Leg(leg) => {
             line.push_str("{")?;
-            for part in source.as_slice() {
+            for part in leg.source() {
                 match part {
                     Part::Text(bytes) => line.push_str(text_of(bytes.as_bytes()))?,
                     Part::Reference(_) => line.push_str("$")?,
