@@ -1,6 +1,6 @@
 //! A reader's request, as far as templates can ask for it.
 
-ghost use Rattle.std.specs.Prelude.{◌≡◌, ℕ, List, Some, slice_get, IfOk};
+ghost use Rattle.std.specs.Prelude.{◌≡◌, ℕ, List, Some, slice_get, IfOk, OnOk};
 ghost use Rattle.edge_types.specs.Request.{empty_request, field_of, heading_word, line_name, place_of, request_fields, request_saying};
 
 use crate::halves::find_byte;
@@ -119,14 +119,22 @@ impl Request {
     ) -> Result<Request, NoMemory>
         ensures { IfOk result (λ request. request ≡ request_saying (S.says source.now) query) }
     {
-        Ok(Request {
-            host: source.said(alloc, RequestField::Host)?,
-            cookie: source.said(alloc, RequestField::Cookie)?,
-            referer: source.said(alloc, RequestField::Referer)?,
-            user_agent: source.said(alloc, RequestField::UserAgent)?,
-            accept_language: source.said(alloc, RequestField::AcceptLanguage)?,
-            query,
-        })
+        let mut request = Request::empty();
+        request.query = query;
+        request.take_fields(alloc, source)?;
+        Ok(request)
+    }
+
+    // Takes the value of each field from what says it.
+    fn take_fields<S: SaysFields>(&mut self, alloc: Global, source: &S) -> Result<(), NoMemory>
+        ensures { OnOk result (self.new ≡ request_saying (S.says source.now) self.old.query) }
+    {
+        self.host = source.said(alloc, RequestField::Host)?;
+        self.cookie = source.said(alloc, RequestField::Cookie)?;
+        self.referer = source.said(alloc, RequestField::Referer)?;
+        self.user_agent = source.said(alloc, RequestField::UserAgent)?;
+        self.accept_language = source.said(alloc, RequestField::AcceptLanguage)?;
+        Ok(())
     }
 
     /// Lends the value of a field. Takes no memory.
