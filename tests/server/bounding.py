@@ -4,7 +4,7 @@ import threading
 import time
 from itertools import product
 
-from harness import PATIENCE, UNASSEMBLED, Edge, Origin, Wires, all_at_once, before, get, same, told, wire
+from harness import PAGE, PATIENCE, UNASSEMBLED, Edge, Origin, Wires, all_at_once, before, get, same, sized, told, wire
 from leaving import reset
 from reusing import WAYS, Lasting, whole
 
@@ -310,6 +310,17 @@ def four_failures_and_a_connection_begin_no_rest():
                 same("asked", (200, b"x"), told(edge, "/x"))
 
 
+def fetches_that_are_given_up_rest_no_origin():
+    """Ten pages of which each needs no answer of a fetch to their origin that hangs."""
+    page = PAGE + "<esi:try><esi:attempt><esi:include src='/x'/><esi:include src='/hangs'/></esi:attempt><esi:except>e</esi:except></esi:try>"
+    texts = {"/hangs": lambda connection: connection.recv(1), "/q": sized("HTTP/1.1 200 OK", "q")}
+    texts.update({"/p%d" % at: wire(page) for at in range(10)})
+    with Wires(texts) as origin, before(origin, "--fetches", "8", "--origin-rest", "60") as edge:
+        for at in range(10):
+            same("a page", (200, b"e"), told(edge, "/p%d" % at))
+        same("another page", (200, b"q"), told(edge, "/q"))
+
+
 def a_bad_url_rests_no_origin():
     """Whoever asks for a URL that hangs, whose connections are reset or cut, or that is no HTTP, gets no page; who asks for
     another one of its origin does, though six have failed in succession before, and as many again."""
@@ -356,6 +367,7 @@ TESTS = (
     an_origin_that_refuses_rests,
     a_connection_ends_the_rest,
     four_failures_and_a_connection_begin_no_rest,
+    fetches_that_are_given_up_rest_no_origin,
     a_bad_url_rests_no_origin,
     a_bad_url_rests_no_origin_over_kept_connections,
 )

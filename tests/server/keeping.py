@@ -5,7 +5,7 @@ import itertools
 import re
 import time
 
-from harness import ASKED, PAGE, PATIENCE, PLAIN, Origin, Response, Wires, all_at_once, before, client, get, rest, same, wire
+from harness import ASKED, PAGE, PATIENCE, PLAIN, Origin, Response, Wires, all_at_once, before, client, get, rest, same, sized, wire
 
 KEPT = ("--keep-alive", "20")
 BODY = b"[12345678]"
@@ -89,6 +89,15 @@ def pipelined_requests_are_answered_in_order():
         with client(edge, sent + last) as connection:
             bodies = [it.body for it in responses_of(rest(connection))]
         same("of one that closes with the last", [wanted[it] for it in [*targets, "/p"]], bodies)
+
+
+def pipelined_responses_have_a_limit_of_time_each():
+    """Of two requests that are sent at once the second one's page comes after the time for a response."""
+    texts = {"/p": sized("HTTP/1.1 200 OK", "p"), "/s": lambda _: time.sleep(1.5) or sized("HTTP/1.1 200 OK", "s")}
+    sent = wire("GET /p HTTP/1.1|host: a.test||GET /s HTTP/1.1|host: a.test|connection: close||")
+    with Wires(texts) as origin, before(origin, *KEPT, "--client-timeout", "1000") as edge:
+        with client(edge, sent) as connection:
+            same("the pages", [b"p", b"s"], [it.body for it in responses_of(rest(connection))])
 
 
 def a_request_may_come_in_parts():
@@ -264,6 +273,7 @@ def the_edge_ends_with_kept_connections():
 TESTS = (
     requests_follow_one_another_over_a_connection,
     pipelined_requests_are_answered_in_order,
+    pipelined_responses_have_a_limit_of_time_each,
     a_request_may_come_in_parts,
     the_last_response_says_so,
     of_http_1_0_those_that_ask_are_kept,

@@ -6,7 +6,7 @@ import re
 import threading
 import time
 
-from harness import PAGE, PLAIN, TEMPLATE, UNASSEMBLED, Edge, Origin, Wires, all_at_once, before, client, exchange, same, sized, told, wire
+from harness import ASKED, PAGE, PATIENCE, PLAIN, TEMPLATE, UNASSEMBLED, Edge, Origin, Wires, all_at_once, before, client, exchange, same, sized, told, wire
 
 # Apache HTTP Server, "Log Files", "Combined Log Format": no quote and no control character within quotes.
 COMBINED = re.compile(r'(\S+) - - \[(\d\d/[A-Z][a-z]{2}/\d{4}:\d\d:\d\d:\d\d \+0000)\] "([!#-~ ]*)" (\d+) (\d+) "([!#-~ ]+)" "([!#-~ ]+)"')
@@ -119,6 +119,15 @@ def logs_tell_why_a_fragment_failed():
     # Lines of requests that end at the same moment may change places.
     came = sorted(map(of_json, lines), key=lambda it: it["url"])
     same("faults", ["IncludeFailed %s%s" % (url, why) for url, (_, why) in zip(urls, rows)], [it["fault"] for it in came])
+
+
+def times_are_told_in_microseconds():
+    """A page whose fragment takes 0.3 seconds."""
+    texts = {"/p": wire(PAGE + "<esi:include src='/s'/>"), "/s": lambda _: time.sleep(0.3) or sized("HTTP/1.1 200 OK", "S")}
+    with Wires(texts) as origin:
+        (line, _) = lines_of(origin, ("--log-format", "json"), (ASKED,))
+    taken = of_json(line)["microseconds"]
+    same("it took %d microseconds" % taken, True, 300_000 <= taken < PATIENCE * 1_000_000)
 
 
 def logs_tell_by_which_ways_answers_came():
@@ -248,6 +257,7 @@ TESTS = (
     logs_are_read_as_combined,
     logs_are_read_as_json,
     logs_tell_why_a_fragment_failed,
+    times_are_told_in_microseconds,
     logs_tell_by_which_ways_answers_came,
     heads_that_are_refused_are_told,
     line_is_the_format_without_a_name,

@@ -420,6 +420,15 @@ def a_prefix_is_purged():
         same("all are fetched", news + others, fetched(edge, origin, news + others))
 
 
+def a_prefix_is_purged_of_any_number_of_answers():
+    """More than a thousand, in all shards."""
+    targets = ["/news/%d" % at for at in range(1_200)]
+    with Wires(dict.fromkeys(targets, KEPT)) as origin, before(origin, *ADMIN, "--capacity", "1024") as edge:
+        for target in targets:
+            get(edge, target)
+        same("the news", 1_200, purged(Desk(edge), "prefix=http://a.test/news/"))
+
+
 def a_purge_of_nothing_is_refused():
     """No query, none of the two words, a text that is no URL of a page, no prefix: 400, and what is cached stays."""
     queries = (
@@ -603,6 +612,7 @@ TESTS = (
     lines_that_are_lost_are_counted,
     a_url_is_purged,
     a_prefix_is_purged,
+    a_prefix_is_purged_of_any_number_of_answers,
     a_purge_of_nothing_is_refused,
     a_purge_disturbs_no_page_in_flight,
     a_stop_loses_no_answer,

@@ -115,6 +115,13 @@ def what_is_no_answer_is_a_failed_one():
             same(text, wanted, told(edge))
 
 
+def a_type_of_other_bytes_is_left_out():
+    """A content type that no response may have: the page has its body, and no type."""
+    with Wires({"/p": b"HTTP/1.1 200 OK\r\ncontent-type: text/h\xe9\r\ncontent-length: 1\r\n\r\n1"}) as origin, before(origin) as edge:
+        got = get(edge, "/p")
+        same("the page", (200, b"1", None), (got.status, got.body, got.fields.get("content-type")))
+
+
 def coded_answers_are_failed_ones():
     """An answer in a coding that the edge doesn't read is none, in whichever line and letters the coding stands."""
     kept = "HTTP/1.1 200 OK|surrogate-control: max-age=60|content-length: 1"
@@ -228,6 +235,7 @@ TESTS = (
     origins_are_asked_by_authority,
     an_origin_is_asked_for_the_url_alone,
     what_is_no_answer_is_a_failed_one,
+    a_type_of_other_bytes_is_left_out,
     coded_answers_are_failed_ones,
     what_only_the_close_ends_is_not_kept,
     an_edge_that_was_stopped_goes_on,

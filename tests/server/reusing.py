@@ -101,6 +101,17 @@ def one_connection_serves_many_fetches():
         same("requests for bodies as they are", REQUESTS, sum(b"\r\naccept-encoding: identity\r\n" in head for head in origin.heads))
 
 
+def each_origin_keeps_as_many_as_may_be():
+    """One connection each to two origins, whose fetches take turns."""
+    with Lasting() as one, Lasting() as other:
+        origins = ("--origin", "a.test=" + one.at, "--origin", "b.test=" + other.at)
+        with Edge(*origins, "--origin-keep-alive", "1") as edge:
+            for target in numbered(3):
+                for host in ("a.test", "b.test"):
+                    same("%s of %s" % (target, host), (200, target.encode()), told(edge, target, host))
+        same("connections", (1, 1), (one.connections, other.connections))
+
+
 def without_the_option_each_fetch_has_its_own():
     """Each request asks for the end of its connection, and for a body as it is."""
     with Lasting() as origin, before(origin, *KEPT) as edge:
@@ -255,6 +266,7 @@ def idle_connections_to_origins_end():
 
 TESTS = (
     one_connection_serves_many_fetches,
+    each_origin_keeps_as_many_as_may_be,
     without_the_option_each_fetch_has_its_own,
     responses_say_whether_a_connection_is_kept,
     unasked_bytes_are_no_answer,
