@@ -9,13 +9,13 @@ LIBRARY = """//! Sizes.
 #![tactic(auto)]
 
 ghost use Rattle.std.specs.Prelude.{◌≡◌, ◌<◌, ◌+◌, IsTrue};
-ghost use Rattle.lower.specs.Sizes.{size_of, SizesAdd};
+ghost use Rattle.lower.specs.Sizes.{size_of, width_at, SizesAdd};
 
 use std::fmt;
 
 /// The largest number.
 pub const MOST: u32 = 7;
-const HELP: &str = "sizes // of places";
+pub const HELP: &str = "sizes // of places";
 
 /// How large a place is.
 #[derive(Clone, Copy)]
@@ -44,6 +44,12 @@ impl Place {
         // One after the other.
         sum(self.at, step)
     }
+
+    pub fn ahead(self) -> u32
+        ensures { result ≡ self.at }
+    {
+        self.at.min(7)
+    }
 }
 
 impl fmt::Sized for Place {
@@ -51,6 +57,47 @@ impl fmt::Sized for Place {
         ensures { result ≡ size_of self.at }
     {
         self.at
+    }
+}
+
+/// How wide a place is.
+#[derive(Copy)]
+pub struct Width {
+    pub of: u32,
+}
+
+pub fn width_of(place: &Place) -> Width
+    ensures { result.of ≡ width_at place.at }
+{
+    Width { of: place.at }
+}
+
+impl fmt::Sized for Width {
+    fn size(&self) -> u32
+        ensures { result ≡ self.of }
+    {
+        self.of
+    }
+}
+
+/// How deep it is.
+pub struct Depth {
+    pub down: u32,
+}
+
+impl Depth {
+    pub fn behind(self) -> u32
+        ensures { result ≡ self.down }
+    {
+        self.down
+    }
+}
+
+impl fmt::Sized for Depth {
+    fn size(&self) -> u32
+        ensures { result ≡ self.down + 0 }
+    {
+        self.down
     }
 }
 
@@ -116,17 +163,47 @@ module _ (n : ℕ)
   pub size_is : size_of n ≡ size_of n
   size_is = same
 """
+DEFINITIONS = """-- Sizes.
+abbrev pub size_of : ℕ → ℕ
+size_of n = n
+
+pub SizesAdd : Type 0
+SizesAdd = Unit {0}
+
+abbrev half_of : ℕ → ℕ
+half_of n = n
+
+abbrev pub width_at : ℕ → ℕ
+width_at n = half_of (size_of n)
+
+abbrev pub depth-at : ℕ → ℕ
+depth-at n = size_of n
+"""
+# It names what is tried, but no depth, and a width only through the function that gives it.
+NAMING = """//! Above.
+use lower::{Counted, HELP, MOST, Place, Size, both, sizes_add, width_of};
+
+pub fn six() -> u32 {
+    6
+}
+
+pub fn last(place: Place) -> u32 {
+    place.behind(MOST)
+}
+
+const FIRST: Size = Size::FIRST;
+"""
 LIB, SIZES, CITED, OTHERS, ANSWERS = (f"crates/lower/{it}" for it in ("src/lib.rt", "specs/Sizes.antt", "proofs/Sizes.antt", "proofs/Others.antt", "proofs/sum/Answers.antt"))
 ABOVE = "crates/sample/src/lib.rt"
 FILES = {
     "crates.txt": "lower:\nsample: lower std\n",
     LIB: LIBRARY,
-    SIZES: "-- Sizes.\nabbrev pub size_of : ℕ → ℕ\nsize_of n = n\n\npub SizesAdd : Type 0\nSizesAdd = Unit {0}\n",
+    SIZES: DEFINITIONS,
     CITED: LEMMAS,
     OTHERS: "pub other_size : 1 ≡ 1\nother_size = refl\n",
     ANSWERS: "pub returns : goal.returns\nreturns c = refl\n",
-    ABOVE: "//! Above.\n\npub fn six() -> u32 {\n    6\n}\n",
-    "crates/sample/proofs/six/Answers.antt": "use Rattle.lower.proofs.Sizes.{same_size}\n",
+    ABOVE: NAMING,
+    "crates/sample/proofs/six/Answers.antt": "use Rattle.lower.proofs.Sizes.{same_size, size_is, sizes}\n",
 }
 # What only the crate itself sees of itself: a file, what it has, and what it gets.
 OF_ITS_OWN = {
@@ -147,6 +224,15 @@ OF_ITS_OWN = {
     "a comment on a lemma": (CITED, "-- A size", "-- Each size"),
     "a comment on a definition": (SIZES, "-- Sizes.", "-- Sizes of places."),
     "a lemma that nobody cites": (OTHERS, "1 ≡ 1", "2 ≡ 2"),
+    "a type that nobody names": (LIB, "pub down: u32", "pub down: u64"),
+    "a function of a type that nobody names": (LIB, "{ result ≡ self.down }", "{ self.down ≡ result }"),
+    "a trait's function for a type that nobody names": (LIB, "self.down + 0 }", "0 + self.down }"),
+    "a function that nobody names": (LIB, "{ result ≡ self.at }", "{ self.at ≡ result }"),
+    "a definition that nobody names": (SIZES, "depth-at n = size_of n", "depth-at n = n"),
+    "a new type": (LIB, "/// What is counted.", "pub struct Height;\n\n/// What is counted."),
+    "a new function": (LIB, "    pub fn ahead(self)", "    pub fn afore(self) {}\n\n    pub fn ahead(self)"),
+    "a new definition": (SIZES, "abbrev half_of", "abbrev pub third_of : ℕ → ℕ\nthird_of n = n\n\nabbrev half_of"),
+    "a new module": (LIB, "use std::fmt;", "mod others;\n\nuse std::fmt;"),
 }
 # What proofs above see as well.
 SEEN_ABOVE = {
@@ -172,13 +258,19 @@ SEEN_ABOVE = {
     "a lemma in a set of rules": (CITED, "3 ≡ 3", "4 ≡ 4"),
     "a set of rules": (CITED, "(ruled, same_size)", "(ruled)"),
     "what a lemma's statement unfolds": (CITED, "doubled n = n + n", "doubled n = 2 * n"),
+    "a type that what is named gives": (LIB, "#[derive(Copy)]", "#[derive(Copy, Clone)]"),
+    "a trait's function for such a type": (LIB, "{ result ≡ self.of }", "{ self.of ≡ result }"),
+    "a definition that what is named names": (SIZES, "half_of n = n", "half_of n = 0"),
+    "a function that is named now": (LIB, "    pub fn ahead(self)", "    pub fn six(self)"),
+    "a new trait's function for a type": (LIB, "/// How deep", "impl fmt::Deep for Place {\n}\n\n/// How deep"),
     "the line of crates.txt": ("crates.txt", "lower:", "lower: bytes"),
 }
 OF_SAMPLE = {
     "a body above": (ABOVE, "    6", "    2 * 3"),
     "a comment above": (ABOVE, "//! Above.", "//! Right above."),
     "what a crate uses": ("crates.txt", "lower std", "lower"),
-    "a lemma of which it takes the file": ("crates/sample/proofs/six/Answers.antt", "Sizes.{same_size}", "Others.{other_size}"),
+    "what it names": (ABOVE, "width_of}", "width_of, Depth}"),
+    "a lemma of which it takes the file": ("crates/sample/proofs/six/Answers.antt", "Sizes.{same_size, ", "Sizes.{other_size, "),
 }
 KIT = "rattle-kit-1 logic 0a"
 # What `rt version` says, and whose verdicts lapse.

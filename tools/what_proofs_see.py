@@ -4,10 +4,13 @@ functions; bodies go, and with them what stands only in bodies: private function
 A trait and a macro stay whole, since a body there may become one of another crate. Definitions (`specs/`) stay whole.
 Of the lemmas right in `proofs/`, which a crate above can cite, the public statements stay, with what a proof can
 unfold; what proves the crate's own functions goes. Comments, tests and hints to tactics go.
+
+Of all this a proof sees what its crate names, and what that names in turn (named_items.py).
 """
 import re
 import textwrap
 
+from named_items import items_of_definitions, items_of_source, named_in, names_in, words_of
 from wrong_edits import functions_of, text_of
 
 # What may hold bodies that are not the crate's own alone.
@@ -18,33 +21,18 @@ HINT = re.compile(r"^ *#!?\[(?:tactic|inline|cold)\b.*\]$", re.M)
 LITERAL_OR_SPACE = re.compile(
     r"""((?<!\w)b?r(#*)".*?"\2|"(?:\\.|[^"\\])*"|'(?:\\(?:u\{\w*\}|.)\w*|[^'\\])')|(?:\s|//[^\n]*|/\*.*?\*/)+""", re.S
 )
-IMPORT = re.compile(r"^(?:ghost )?use ([^;{\n]*)(?:\{([^{};]*)\})?;?\n", re.M)
 # An item of a file of definitions or lemmas begins where its first line does.
 ITEM = re.compile(r"^(?=[^\s})\]])", re.M)
-LEMMAS = re.compile(r"proofs/(\w+)\.antt")
-CITED = re.compile(r"\bRattle\.(\w+)\.proofs\.(\w+)")
 
 
-def without_comments(source):
-    """A source without comments and layout: each line begins at its first letter, and none is empty."""
-    return LITERAL_OR_SPACE.sub(lambda it: it[1] or ("\n" if "\n" in it[0] else " "), f"{source}\n").lstrip()
+def without_comments(source, has_layout=False):
+    """A source without comments and empty lines, and without layout, if that isn't to stay: each line begins at its first letter."""
 
+    def space(text):
+        _, is_line, indent = text.rpartition("\n")
+        return (f"\n{indent}" if has_layout else "\n") if is_line else " "
 
-def with_imports_named(text):
-    """A text without the imports whose name nothing else in it has."""
-    rest = IMPORT.sub("", text)
-
-    def is_named(name):
-        # An operator's name has a mark where each argument goes.
-        pieces = re.split(r" as |::|\.", name)[-1].split("◌")
-        return name == "self" or all(it in rest for it in pieces)
-
-    def named(it):
-        if it[2] is None:
-            return it[0] if is_named(it[1]) else ""
-        return "".join(f"use {it[1]}{name}\n" for name in re.split(r",\s*", it[2].strip()) if name and is_named(name))
-
-    return IMPORT.sub(named, text)
+    return LITERAL_OR_SPACE.sub(lambda it: it[1] or space(it[0]), f"{source}\n").lstrip("\n" if has_layout else None)
 
 
 def opening_of(lines, function):
@@ -84,7 +72,7 @@ def lines_kept_whole(lines):
 
 
 def seen_of_source(file, source):
-    """What a proof in another crate sees of a source."""
+    """What a proof in another crate sees of a source, as items."""
     lines = source.split("\n")
     whole, gone = lines_kept_whole(lines), set()
     for it in functions_of(file, source):
@@ -92,11 +80,11 @@ def seen_of_source(file, source):
         if opening is not None:
             gone.update(range(it.first - 1, it.last) if is_hidden(lines, it) else range(opening + 1, it.last - 1))
     kept = "\n".join(line for at, line in enumerate(lines) if at not in gone)
-    return with_imports_named(without_comments(HINT.sub("", kept)))
+    return items_of_source(without_comments(HINT.sub("", kept), has_layout=True), without_comments)
 
 
-def seen_of_definitions(text):
-    """What a proof in another crate sees of a file of definitions: all but the lines that are comments."""
+def without_remarks(text):
+    """A file of definitions or lemmas without the lines that are comments."""
     return re.sub(r"^ *--.*\n?", "", text, flags=re.M)
 
 
@@ -120,39 +108,41 @@ def statements(text):
     return found
 
 
-def seen_of_lemmas(text):
-    """What a proof in another crate sees of a file of lemmas."""
-    return with_imports_named("".join(f"{it}\n" for it in statements(seen_of_definitions(text))))
-
-
-def lemmas_cited(texts):
-    """The files of lemmas that texts cite: (crate, name)."""
-    return {it for text in texts for it in CITED.findall(text)}
+def seen_of(crate, path, text):
+    """What a proof in another crate sees of a file of a crate, as items; nothing of what proves the crate's own functions."""
+    folder, _, file = path.partition("/")
+    if path.endswith(".rt"):
+        return seen_of_source(path, text)
+    if folder == "proofs" and "/" in file:
+        return []
+    bare = without_remarks(text)
+    if folder == "proofs":
+        bare = "".join(f"{it}\n" for it in statements(bare))
+    return items_of_definitions(bare, crate.name, folder, file.removesuffix(".antt"))
 
 
 class Sight:
     """What the proofs of crates see of the crates below them. Each file is read once."""
 
     def __init__(self):
-        self.cites, self.seen, self.lemmas = {}, {}, {}
+        self.names, self.seen = {}, {}
 
     def read(self, crate):
-        """Reads a crate: what it cites, what is seen of its sources and definitions, and of its lemmas where these are cited."""
+        """Reads a crate: what it names, and what is seen of each of its files."""
         texts = {path: text_of(f"{crate.folder}/{path}") for path in crate.files()}
-        self.cites[crate.name], self.seen[crate.name] = lemmas_cited(texts.values()), []
-        for path, text in texts.items():
-            if not path.startswith("proofs/"):
-                self.seen[crate.name].append((path, seen_of_source(path, text) if path.endswith(".rt") else seen_of_definitions(text)))
-            elif it := LEMMAS.fullmatch(path):
-                self.lemmas[crate.name, it[1]] = seen_of_lemmas(text)
+        sources = [without_comments(text) for path, text in texts.items() if path.endswith(".rt")]
+        self.names[crate.name] = set().union(*map(words_of, sources), *map(names_in, texts.values()))
+        self.seen[crate.name] = [(path, seen_of(crate, path, text)) for path, text in texts.items()]
 
     def of(self, crate, below):
         """What the proofs of a crate see of each of the crates below it: the crate, and its files with what is seen of them."""
         for it in (crate, *below):
             if it.name not in self.seen:
                 self.read(it)
-        cites, found = self.cites[crate.name] | lemmas_cited(text for it in below for _, text in self.seen[it.name]), set()
-        while new := (cites & self.lemmas.keys()) - found:
-            found |= new
-            cites = lemmas_cited(self.lemmas[it] for it in new)
-        return [(it, [*self.seen[it.name], *[(of[1], self.lemmas[of]) for of in sorted(found) if of[0] == it.name]]) for it in below]
+        named = named_in(self.names[crate.name], [item for it in below for _, items in self.seen[it.name] for item in items])
+        return [(it, self.named_of(it, named)) for it in below]
+
+    def named_of(self, crate, named):
+        """The files of a crate with the texts of what is named there."""
+        texts = [(path, "".join(f"{item.text}\n" for item in items if item in named)) for path, items in self.seen[crate.name]]
+        return [(path, text) for path, text in texts if text]
