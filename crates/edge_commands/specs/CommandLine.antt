@@ -12,7 +12,7 @@ use Rattle.edge_case.specs.Order.{events_of}
 use Rattle.edge_setup.specs.Case.{case_command}
 use Rattle.edge_setup.specs.Check.{check_command, SaysChecking}
 use Rattle.edge_setup.specs.Command.{serve_command}
-use Rattle.edge_setup.specs.Words.{IsFirstWrong, IsWithin as IsWithinPages, SaysSetup, is_set}
+use Rattle.edge_setup.specs.Words.{IsFirstWrong, SaysSetup, is_set}
 use Rattle.edge_setup.specs.declared.check.Checking.{Checking}
 use Rattle.edge_setup.specs.declared.setup.Setup.{Setup}
 use Rattle.edge_commands.specs.declared.command.Asked.{Asked}
@@ -153,5 +153,5 @@ IsRefused words why = (fault_of program words ≡ []) × IsRefusedBy (subcommand
 -- the numbers are within their limits
 abbrev pub IsWithin : Asked → Type 0
 IsWithin (Case order ahead levels is_why) = (ahead ≤ MAX_AHEAD) × AreLevels levels
-IsWithin (Serve setup) = IsWithinPages setup.pages
+IsWithin (Serve setup) = Unit {0}
 IsWithin (Check checking) = Unit {0}

@@ -3,6 +3,7 @@ use Rattle.std.specs.Prelude.{◌≡◌, ◌⊎◌, Result, Ok, Err}
 use Rattle.clap.specs.declared.error.kind.ErrorKind.{ErrorKind}
 use Rattle.clap.specs.declared.error.kind.ErrorKind.TheVariants.{DisplayHelp, DisplayVersion, OutOfMemory}
 use Rattle.clap.specs.Words.{kind_of}
+use Rattle.edge_setup.specs.declared.number.Number.TheVariants as number
 use Rattle.edge_setup.specs.declared.setup.Named.TheVariants as named
 use Rattle.edge_connections.specs.declared.roster.ServeEnd.{ServeEnd}
 use Rattle.edge_connections.specs.declared.roster.ServeEnd.TheVariants as end
@@ -28,7 +29,7 @@ IsEndOf _ status = status ≡ Usage
 abbrev pub IsRefusedAs : Refusal → Status → Type 0
 IsRefusedAs (refusal.Words error) status = IsEndOf (kind_of error) status
 IsRefusedAs refusal.Order status = status ≡ BadOrder
-IsRefusedAs refusal.Ahead status = status ≡ BadOption named.Ahead
-IsRefusedAs refusal.Levels status = status ≡ BadOption named.Levels
+IsRefusedAs refusal.Ahead status = status ≡ BadOption (named.Number number.Ahead)
+IsRefusedAs refusal.Levels status = status ≡ BadOption (named.Number number.Levels)
 IsRefusedAs (refusal.Serve option) status = status ≡ BadOption option
 IsRefusedAs refusal.NoMemory status = status ≡ NoMemory

@@ -1,10 +1,15 @@
 -- The server that the options of `serve` ask for.
-use Rattle.std.specs.Prelude.{◌≡◌, ◌*◌, ◌==◌, min, ℕ, Option, Some, None, option_map, MatchOption, if◌then◌else◌}
+use Rattle.std.specs.Prelude.{◌≡◌, ◌*◌, ◌==◌, min, ℕ, Option, Some, None, option_map, unwrap_or, MatchOption, if◌then◌else◌}
 use Rattle.std.specs.Duration.{as_nanos}
 use Rattle.std.specs.declared.time.Duration.{Duration}
-use Rattle.edge_setup.specs.declared.setup.Fetching.{Fetching}
+use Rattle.edge_connections.specs.declared.exchange.Limits.{Limits}
+use Rattle.edge_setup.specs.Said.{number_of, value_of}
+use Rattle.edge_setup.specs.declared.number.Number.TheVariants as number
+use Rattle.edge_setup.specs.declared.numbers.Numbers.{Numbers}
 use Rattle.edge_setup.specs.declared.setup.Setup.{Setup}
+use Rattle.fetch_workers.specs.declared.assembler.Assembling.{Assembling}
 use Rattle.hyper_source.specs.declared.gate.Bounds.{Bounds}
+use Rattle.edge_main.specs.declared.server.Fetches.{Fetches}
 use Rattle.edge_main.specs.declared.server.Server.{Server}
 
 -- how many nanoseconds a limit has, if there is one
@@ -36,48 +41,62 @@ crowd_of fetches most = if fetches == 1 then bound_of most else None
 abbrev pub bytes_of : ℕ → ℕ
 bytes_of count = if count == 0 then 18_446_744_073_709_551_615 else count
 
--- neither the fetches at once nor a rest are asked for
-pub record IsUnbounded (fetching : Fetching) : Type 0 where
-  pub any_fetches : fetching.origin_fetches ≡ 0
-  pub no_rest : fetching.origin_rest ≡ 0
+-- how many slots posts may open ahead where no number says so: all that may be, where more than one fetch may be in flight
+abbrev pub ahead_for : ℕ → Option ℕ → ℕ
+ahead_for fetches None = if fetches == 1 then 16 else 256
+ahead_for fetches (Some ahead) = ahead
 
--- so many fetches that wait; where no word says how many, as many as connections may be open
+-- so many fetches that wait; where no number says how many, as many as connections may be open
 abbrev pub queue_for : ℕ → Option ℕ → ℕ
 queue_for connections None = connections
 queue_for connections (Some most) = most
 
+-- neither the fetches at once nor a rest are asked for
+pub record IsUnbounded (numbers : Numbers) : Type 0 where
+  pub any_fetches : number_of numbers number.OriginFetches ≡ 0
+  pub no_rest : number_of numbers number.OriginRest ≡ 0
+
 -- so many fetches at once, so many that wait, and a rest of so many seconds, in milliseconds
-pub record AreBounds (fetching : Fetching) (connections : ℕ) (bounds : Bounds) : Type 0 where
-  pub fetches_are : bounds.most_in_flight ≡ bound_of fetching.origin_fetches
-  pub queue_is : bounds.most_waiting ≡ queue_for connections fetching.origin_queue
-  pub rest_is : bounds.rest ≡ fetching.origin_rest * 1_000
+pub record AreBounds (numbers : Numbers) (bounds : Bounds) : Type 0 where
+  pub fetches_are : bounds.most_in_flight ≡ bound_of (number_of numbers number.OriginFetches)
+  pub queue_is : bounds.most_waiting ≡ queue_for (number_of numbers number.Connections) (value_of numbers number.OriginQueue)
+  pub rest_is : bounds.rest ≡ number_of numbers number.OriginRest * 1_000
+
+-- origins are asked as their options say
+pub record AreFetchesOf (numbers : Numbers) (fetches : Fetches) : Type 0 where
+  pub limit_is : nanos_of fetches.limit ≡ limit_of (fetch_millis (number_of numbers number.Timeout) (number_of numbers number.PageTimeout))
+  pub idle_are : fetches.idle ≡ number_of numbers number.OriginKeepAlive
+  pub bounds_are : MatchOption fetches.bounds (IsUnbounded numbers) (AreBounds numbers)
+  pub crowd_is : fetches.crowd ≡ crowd_of (number_of numbers number.Fetches) (number_of numbers number.OriginFetches)
+  pub url_rest_is : fetches.url_rest ≡ number_of numbers number.UrlRest
+
+-- pages are assembled as theirs say
+pub record ArePagesOf (numbers : Numbers) (pages : Assembling) : Type 0 where
+  pub workers_are : pages.workers ≡ number_of numbers number.Workers
+  pub fetches_are : pages.fetches ≡ number_of numbers number.Fetches
+  pub ahead_is : pages.ahead ≡ ahead_for (number_of numbers number.Fetches) (value_of numbers number.Ahead)
+  pub levels_are : pages.levels ≡ number_of numbers number.Levels
+  pub bytes_are : pages.bytes ≡ bytes_of (number_of numbers number.PageBytes)
+
+-- clients may take as long as theirs say
+pub record AreClientsOf (numbers : Numbers) (clients : Limits) : Type 0 where
+  pub request_is : nanos_of clients.request ≡ limit_of (number_of numbers number.ClientTimeout)
+  pub response_is : nanos_of clients.response ≡ limit_of (number_of numbers number.ClientTimeout)
+  pub idle_is : nanos_of clients.idle ≡ idle_of (number_of numbers number.KeepAlive)
 
 -- each part is what its option asks for
 pub record IsServerOf (setup : Setup) (server : Server) : Type 0 where
   pub addresses_are : server.addresses ≡ setup.addresses
   pub origins_are : server.origins ≡ setup.origins
-  pub fetch_is : nanos_of server.fetches.limit ≡ limit_of (fetch_millis setup.fetching.timeout setup.fetching.page_timeout)
-  pub idle_origins_are : server.fetches.idle ≡ setup.fetching.origin_keep_alive
-  pub bounds_are : MatchOption server.fetches.bounds (IsUnbounded setup.fetching) (AreBounds setup.fetching setup.serving.connections)
-  pub crowd_is : server.fetches.crowd ≡ crowd_of setup.pages.fetches setup.fetching.origin_fetches
-  pub url_rest_is : server.fetches.url_rest ≡ setup.fetching.url_rest
+  pub fetches_are : AreFetchesOf setup.numbers server.fetches
   pub name_is : server.name ≡ setup.name
-  pub request_is : nanos_of server.clients.request ≡ limit_of setup.serving.client_timeout
-  pub response_is : nanos_of server.clients.response ≡ limit_of setup.serving.client_timeout
-  pub idle_is : nanos_of server.clients.idle ≡ idle_of setup.serving.keep_alive
-  pub workers_are : server.pages.workers ≡ setup.pages.workers
-  pub fetches_are : server.pages.fetches ≡ setup.pages.fetches
-  pub ahead_is : server.pages.ahead ≡ setup.pages.ahead
-  pub levels_are : server.pages.levels ≡ setup.pages.levels
-  pub page_bytes_are : server.pages.bytes ≡ bytes_of setup.pages.page_bytes
-  pub page_is : nanos_of server.page ≡ limit_of setup.fetching.page_timeout
-  pub capacity_is : server.capacity ≡ setup.pages.capacity
-  pub threads_are : server.at_once.threads ≡ setup.serving.threads
-  pub connections_are : server.at_once.connections ≡ setup.serving.connections
-  pub accepts_are : server.accept ≡ setup.serving.accept
-  pub stops_are : server.stops_with_input ≡ setup.serving.stops_with_input
-  pub head_is : server.answers_head ≡ setup.serving.answers_head
-  pub close_is : server.aborts_on_close ≡ setup.serving.aborts_on_close
-  pub log_is : server.log ≡ setup.serving.log
+  pub clients_are : AreClientsOf setup.numbers server.clients
+  pub pages_are : ArePagesOf setup.numbers server.pages
+  pub page_is : nanos_of server.page ≡ limit_of (number_of setup.numbers number.PageTimeout)
+  pub capacity_is : server.capacity ≡ number_of setup.numbers number.Capacity
+  pub threads_are : server.at_once.threads ≡ number_of setup.numbers number.Threads
+  pub connections_are : server.at_once.connections ≡ number_of setup.numbers number.Connections
+  pub accepts_are : server.accept ≡ unwrap_or (value_of setup.numbers number.Accept) 18_446_744_073_709_551_615
+  pub flags_are : server.flags ≡ setup.flags
   pub forwarded_is : server.forwarded ≡ setup.forwarded
   pub hosts_are : server.admin_hosts ≡ setup.admin_hosts

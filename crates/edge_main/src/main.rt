@@ -15,7 +15,7 @@ mod serving;
 
 use clap::error::ErrorKind;
 use edge_commands::{Refusal, Status, Words, check, explain, print_config, prints_config};
-use edge_setup::Named;
+use edge_setup::{Named, Number};
 use ending::status_of_serving;
 use program::{Done, run_words};
 use serving::serve;
@@ -68,8 +68,8 @@ fn refused(rt: &HostRuntime, refusal: &Refusal) -> Status
     match refusal {
         Refusal::Words(error) => told(rt, error),
         Refusal::Order => Status::BadOrder,
-        Refusal::Ahead => Status::BadOption(Named::Ahead),
-        Refusal::Levels => Status::BadOption(Named::Levels),
+        Refusal::Ahead => Status::BadOption(Named::Number(Number::Ahead)),
+        Refusal::Levels => Status::BadOption(Named::Number(Number::Levels)),
         Refusal::Serve(option) => Status::BadOption(*option),
         Refusal::NoMemory => Status::NoMemory,
     }

@@ -1,11 +1,12 @@
 //! The server that the options of `serve` ask for.
 ghost use Rattle.std.specs.Prelude.{◌≡◌, MatchOption};
-ghost use Rattle.edge_setup.specs.Words.{IsWithin};
-ghost use Rattle.edge_main.specs.Server.{AreBounds, IsServerOf, IsUnbounded, bytes_of, crowd_of, fetch_millis, idle_of, limit_of, nanos_of};
+ghost use Rattle.edge_setup.specs.Said.{number_of, value_of};
+ghost use Rattle.edge_setup.specs.declared.number.Number.TheVariants as number;
+ghost use Rattle.edge_main.specs.Server.{ahead_for, AreBounds, AreClientsOf, AreFetchesOf, ArePagesOf, IsServerOf, IsUnbounded, bytes_of, crowd_of, fetch_millis, idle_of, limit_of, nanos_of, queue_for};
 
 use crate::server::{Fetches, Server};
 use edge_connections::{Capacity, Limits};
-use edge_setup::{Fetching, Pages, Setup};
+use edge_setup::{Number, Numbers, Setup};
 use fetch_workers::Assembling;
 use hyper_source::Bounds;
 use std::time::Duration;
@@ -22,15 +23,15 @@ fn limit_of(millis: u32) -> Option<Duration>
 }
 
 // The milliseconds that a fetch may take: no more than its page may; 0 means no limit.
-fn fetch_millis(fetching: Fetching) -> u32
-    ensures { result ≡ fetch_millis fetching.timeout fetching.page_timeout }
+fn fetch_millis(timeout: u32, page: u32) -> u32
+    ensures { result ≡ fetch_millis timeout page }
 {
-    if fetching.page_timeout == 0 {
-        fetching.timeout
-    } else if fetching.timeout == 0 {
-        fetching.page_timeout
+    if page == 0 {
+        timeout
+    } else if timeout == 0 {
+        page
     } else {
-        fetching.timeout.min(fetching.page_timeout)
+        timeout.min(page)
     }
 }
 
@@ -56,85 +57,122 @@ fn bytes_of(count: u32) -> usize
     }
 }
 
-// When an address may be asked: 0 fetches in flight mean that there is no bound, as many wait as connections may be open
-// where no number says how many, and a rest is in milliseconds.
-fn bounds_of(fetching: Fetching, connections: u32) -> Option<Bounds>
-    ensures { MatchOption result (IsUnbounded fetching) (AreBounds fetching connections) }
+// How many slots posts may open ahead: they are of the whole page, and a fetch without a slot begins late.
+fn ahead_of(numbers: &Numbers) -> u16
+    ensures { result ≡ ahead_for (number_of numbers.now number.Fetches) (value_of numbers.now number.Ahead) }
 {
-    if fetching.origin_fetches == 0 && fetching.origin_rest == 0 {
+    match numbers.said(Number::Ahead) {
+        Some(ahead) => ahead as u16,
+        None if numbers.u16_of(Number::Fetches) == 1 => 16,
+        None => 256,
+    }
+}
+
+// How many fetches may wait for an address: where no number says how many, as many as connections may be open.
+fn queue_of(numbers: &Numbers) -> u32
+    ensures { result ≡ queue_for (number_of numbers.now number.Connections) (value_of numbers.now number.OriginQueue) }
+{
+    match numbers.said(Number::OriginQueue) {
+        Some(most) => most as u32,
+        None => numbers.u32_of(Number::Connections),
+    }
+}
+
+// When an address may be asked: 0 fetches in flight mean that there is no bound, and a rest is in milliseconds.
+fn bounds_of(numbers: &Numbers) -> Option<Bounds>
+    ensures { MatchOption result (IsUnbounded numbers.now) (AreBounds numbers.now) }
+{
+    let fetches = numbers.u32_of(Number::OriginFetches);
+    let rest = numbers.u64_of(Number::OriginRest);
+    if fetches == 0 && rest == 0 {
         return None;
     }
-    let most_in_flight = if fetching.origin_fetches == 0 {
-        None
-    } else {
-        Some(u32::from(fetching.origin_fetches))
-    };
     Some(Bounds {
-        most_in_flight,
-        most_waiting: fetching.origin_queue.unwrap_or(connections),
-        rest: u64::from(fetching.origin_rest) * 1_000,
+        most_in_flight: if fetches == 0 { None } else { Some(fetches) },
+        most_waiting: queue_of(numbers),
+        rest: rest * 1_000,
     })
 }
 
 // How many may wait for a fetch that another page has begun: where each of them holds a thread, no more than may fetch at
 // once.
-fn crowd_of(pages: Pages, fetching: Fetching) -> Option<u32>
-    ensures { result ≡ crowd_of pages.fetches fetching.origin_fetches }
+fn crowd_of(numbers: &Numbers) -> Option<u32>
+    ensures { result ≡ crowd_of (number_of numbers.now number.Fetches) (number_of numbers.now number.OriginFetches) }
 {
-    if pages.fetches == 1 && fetching.origin_fetches > 0 {
-        Some(u32::from(fetching.origin_fetches))
+    let most = numbers.u32_of(Number::OriginFetches);
+    if numbers.u16_of(Number::Fetches) == 1 && most > 0 {
+        Some(most)
     } else {
         None
     }
 }
 
+// How origins are asked.
+fn fetches_of(numbers: &Numbers) -> Fetches
+    ensures { AreFetchesOf numbers.now result }
+{
+    let timeout = numbers.u32_of(Number::Timeout);
+    let page = numbers.u32_of(Number::PageTimeout);
+    Fetches {
+        limit: limit_of(fetch_millis(timeout, page)),
+        idle: numbers.u16_of(Number::OriginKeepAlive),
+        bounds: bounds_of(numbers),
+        crowd: crowd_of(numbers),
+        url_rest: numbers.u32_of(Number::UrlRest),
+    }
+}
+
+// How pages are assembled.
+fn pages_of(numbers: &Numbers) -> Assembling
+    ensures { ArePagesOf numbers.now result }
+{
+    let workers = numbers.u8_of(Number::Workers);
+    let levels = numbers.u8_of(Number::Levels);
+    Assembling::new(ahead_of(numbers), workers, levels)
+        .with_fetches(numbers.u16_of(Number::Fetches))
+        .with_most_bytes(bytes_of(numbers.u32_of(Number::PageBytes)))
+}
+
+// How long a client may take.
+fn clients_of(numbers: &Numbers) -> Limits
+    ensures { AreClientsOf numbers.now result }
+{
+    let client = limit_of(numbers.u32_of(Number::ClientTimeout));
+    Limits {
+        request: client,
+        response: client,
+        idle: idle_of(numbers.u32_of(Number::KeepAlive)),
+    }
+}
+
 /// The server of a setup.
 pub(crate) fn server_of(setup: Setup) -> Server
-    requires { IsWithin setup.pages }
     ensures { IsServerOf setup result }
 {
     let Setup {
         addresses,
         origins,
-        pages,
-        fetching,
-        serving,
+        numbers,
+        flags,
         name,
         forwarded,
         admin_hosts,
     } = setup;
-    let client = limit_of(serving.client_timeout);
-    let how = Assembling::new(pages.ahead, pages.workers, pages.levels);
     Server {
         addresses,
         origins,
-        fetches: Fetches {
-            limit: limit_of(fetch_millis(fetching)),
-            idle: fetching.origin_keep_alive,
-            bounds: bounds_of(fetching, serving.connections),
-            crowd: crowd_of(pages, fetching),
-            url_rest: fetching.url_rest,
-        },
+        fetches: fetches_of(&numbers),
         name,
-        clients: Limits {
-            request: client,
-            response: client,
-            idle: idle_of(serving.keep_alive),
-        },
-        pages: how
-            .with_fetches(pages.fetches)
-            .with_most_bytes(bytes_of(pages.page_bytes)),
-        page: limit_of(fetching.page_timeout),
-        capacity: usize::from(pages.capacity),
+        clients: clients_of(&numbers),
+        pages: pages_of(&numbers),
+        page: limit_of(numbers.u32_of(Number::PageTimeout)),
+        capacity: usize::from(numbers.u16_of(Number::Capacity)),
         at_once: Capacity {
-            threads: serving.threads,
-            connections: serving.connections,
+            threads: numbers.u16_of(Number::Threads),
+            connections: numbers.u32_of(Number::Connections),
         },
-        accept: serving.accept,
-        stops_with_input: serving.stops_with_input,
-        answers_head: serving.answers_head,
-        aborts_on_close: serving.aborts_on_close,
-        log: serving.log,
+        accept: numbers.said(Number::Accept).unwrap_or(u64::MAX),
+        flags,
         forwarded,
         admin_hosts,
     }

@@ -1,9 +1,8 @@
 //! The server that is to run, as its parts take it.
 ghost use Rattle.std.specs.Prelude.{◌≤◌};
 
-use access_log::LogFormat;
 use edge_connections::{Capacity, Limits};
-use edge_setup::{Addresses, Origin};
+use edge_setup::{Addresses, Flags, Origin};
 use fetch_workers::Assembling;
 use hyper_source::Bounds;
 use std::time::Duration;
@@ -46,14 +45,8 @@ pub(crate) struct Server {
     pub at_once: Capacity,
     /// After how many connections it ends.
     pub accept: u64,
-    /// Whether it stops once standard input has ended.
-    pub stops_with_input: bool,
-    /// Whether HEAD is answered like GET.
-    pub answers_head: bool,
-    /// Whether a client that has ended its input has left.
-    pub aborts_on_close: bool,
-    /// How each request is logged, where it is.
-    pub log: Option<LogFormat>,
+    /// What is asked for by flags.
+    pub flags: Flags,
     /// The name of the field by which a trusted proxy names the client to log, where there is one.
     pub forwarded: Option<Vec<u8>>,
     /// The names of hosts by which its operator may ask, with commas between, where there are some.

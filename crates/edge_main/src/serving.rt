@@ -98,7 +98,7 @@ where
     R: AllocGlobal + Clock + Files<File = File>,
 {
     let reports = Reports {
-        log: AccessLog::new(rt.alloc(), server.log),
+        log: AccessLog::new(rt.alloc(), server.flags.log),
         connections: Connections::new(),
         fetches: notes,
         cache,
@@ -186,7 +186,7 @@ fn listening<R>(
 where
     R: AllocGlobal + Files<File = File> + Net<Stream = TcpStream, Listener = TcpListener>,
 {
-    let input = EndOfInput::of(rt, server.stops_with_input)?;
+    let input = EndOfInput::of(rt, server.flags.stops_with_input)?;
     let stop = Stop::of(input, operator)?;
     let (listener, address) = bound(rt, server.addresses.listen)?;
     let sockets = Sockets::new(rt, listener, server.clients, stop)?;
@@ -308,10 +308,10 @@ where
         };
         service = told;
     }
-    if server.answers_head {
+    if server.flags.answers_head {
         service = service.answering_head();
     }
-    if server.aborts_on_close {
+    if server.flags.aborts_on_close {
         service = service.aborting_on_close();
     }
     Ok(service)

@@ -1,1 +1,2 @@
-pub mod OriginLists
+mod OriginLists
+mod NumberLemmas

@@ -1,5 +1,6 @@
 pub mod Rules
 pub mod Numbers
+pub mod Said
 pub mod Command
 pub mod Case
 pub mod OriginWord

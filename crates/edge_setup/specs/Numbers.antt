@@ -1,110 +1,129 @@
 -- The options that take a number, and what they say by the rows of `clap`'s matches.
-use Rattle.std.specs.Prelude.{ℕ, nat_le, List, codes, Option, Some, None, option_and_then, if◌then◌else◌}
-use Rattle.clap.specs.Words.{Row, Rule, Text, first_of}
+use Rattle.std.specs.Prelude.{ℕ, Bool, true, false, ◌&&◌, nat_le, List, [], ◌∷◌, map, codes, Option, Some, None, option_and_then, option_map, is_none, if◌then◌else◌}
+use Rattle.clap.specs.Words.{App, Row, Rule, Text, first_of, with_rule}
 use Rattle.decimals.specs.Decimal.{decimal_of}
 use Rattle.edge_setup.specs.Rules.{named_option, with_default}
-use Rattle.edge_setup.specs.declared.number.NumericOption.{NumericOption}
+use Rattle.edge_setup.specs.declared.number.Number.{Number}
+use Rattle.edge_setup.specs.declared.number.Number.TheVariants.{Workers, Fetches, Ahead, Levels, Capacity, PageBytes, Timeout, PageTimeout, OriginKeepAlive, OriginFetches, OriginQueue, OriginRest, UrlRest, Accept, ClientTimeout, KeepAlive, Threads, Connections}
+use Rattle.edge_setup.specs.declared.number.NumberRow.{NumberRow}
 
--- its name, its limits, the word that counts where it isn't there, and the line for a word that is no such number
+-- its name, its limits, the word that counts where it isn't there, if one does, and the line for a word that is no such number
 pub record Numeric : Type 0 where
   pub name : Text
   pub least : ℕ
   pub most : ℕ
-  pub default : Text
+  pub default : Option Text
   pub refusal : Text
 
--- an option of the code
-abbrev pub shown : NumericOption → Numeric
-shown option = record { name = option.name.now; least = option.least; most = option.most; default = option.default.now; refusal = option.refusal.now }
+-- a row of the code
+abbrev pub shown : NumberRow → Numeric
+shown row = record { name = row.name.now; least = row.least; most = row.most; default = option_map (λ word. word.now) row.default; refusal = row.refusal.now }
+
+abbrev numeric : Text → ℕ → ℕ → Option Text → Text → Numeric
+numeric name least most default refusal = record { name = name; least = least; most = most; default = default; refusal = refusal }
 
 -- ---- the options
 
--- the threads that may work for a page
-abbrev pub workers : Numeric
-workers = record { name = codes "workers"; least = 1; most = 16; default = codes "4"; refusal = codes "error: --workers takes a number from 1 to 16" }
+-- the row of each
+abbrev pub row_of : Number → Numeric
+row_of Workers = numeric (codes "workers") 1 16 (Some (codes "4")) (codes "error: --workers takes a number from 1 to 16")
+row_of Fetches = numeric (codes "fetches") 1 256 (Some (codes "1")) (codes "error: --fetches takes a number from 1 to 256")
+row_of Ahead = numeric (codes "ahead") 0 256 None (codes "error: --ahead takes a number from 0 to 256")
+row_of Levels = numeric (codes "levels") 1 8 (Some (codes "4")) (codes "error: --levels takes a number from 1 to 8")
+row_of Capacity = numeric (codes "capacity") 1 1024 (Some (codes "128")) (codes "error: --capacity takes a number from 1 to 1024")
+row_of PageBytes = numeric (codes "page-bytes") 0 4294967295 (Some (codes "0")) (codes "error: --page-bytes takes a number from 0 to 4294967295")
+row_of Timeout = numeric (codes "timeout") 0 86400000 (Some (codes "10000")) (codes "error: --timeout takes milliseconds, from 0 to 86400000")
+row_of PageTimeout = numeric (codes "page-timeout") 0 86400000 (Some (codes "0")) (codes "error: --page-timeout takes milliseconds, from 0 to 86400000")
+row_of OriginKeepAlive = numeric (codes "origin-keep-alive") 0 1024 (Some (codes "0")) (codes "error: --origin-keep-alive takes a number from 0 to 1024")
+row_of OriginFetches = numeric (codes "origin-fetches") 0 65535 (Some (codes "0")) (codes "error: --origin-fetches takes a number from 0 to 65535")
+row_of OriginQueue = numeric (codes "origin-queue") 0 65536 None (codes "error: --origin-queue takes a number from 0 to 65536")
+row_of OriginRest = numeric (codes "origin-rest") 0 86400 (Some (codes "0")) (codes "error: --origin-rest takes seconds, from 0 to 86400")
+row_of UrlRest = numeric (codes "url-rest") 0 86400 (Some (codes "0")) (codes "error: --url-rest takes seconds, from 0 to 86400")
+row_of Accept = numeric (codes "accept") 0 18446744073709551615 None (codes "error: --accept takes a number from 0 to 18446744073709551615")
+row_of ClientTimeout = numeric (codes "client-timeout") 0 86400000 (Some (codes "60000")) (codes "error: --client-timeout takes milliseconds, from 0 to 86400000")
+row_of KeepAlive = numeric (codes "keep-alive") 0 86400 (Some (codes "0")) (codes "error: --keep-alive takes seconds, from 0 to 86400")
+row_of Threads = numeric (codes "threads") 1 64 (Some (codes "64")) (codes "error: --threads takes a number from 1 to 64")
+row_of Connections = numeric (codes "connections") 1 65536 (Some (codes "64")) (codes "error: --connections takes a number from 1 to 65536")
 
--- the fetches that a page may have in flight
-abbrev pub fetches : Numeric
-fetches = record { name = codes "fetches"; least = 1; most = 256; default = codes "1"; refusal = codes "error: --fetches takes a number from 1 to 256" }
+-- all of them, in the order of the command
+abbrev pub numbers : List Number
+numbers =
+    Workers ∷ Fetches ∷ Ahead ∷ Levels ∷ Capacity ∷ PageBytes ∷ Timeout ∷ PageTimeout ∷ OriginKeepAlive ∷ OriginFetches
+    ∷ OriginQueue ∷ OriginRest ∷ UrlRest ∷ Accept ∷ ClientTimeout ∷ KeepAlive ∷ Threads ∷ Connections ∷ []
 
--- how many slots posts may open ahead
-abbrev pub ahead : Numeric
-ahead = record { name = codes "ahead"; least = 0; most = 256; default = codes "16"; refusal = codes "error: --ahead takes a number from 0 to 256" }
+-- the place of each in this order
+abbrev pub place_of : Number → ℕ
+place_of Workers = 0
+place_of Fetches = 1
+place_of Ahead = 2
+place_of Levels = 3
+place_of Capacity = 4
+place_of PageBytes = 5
+place_of Timeout = 6
+place_of PageTimeout = 7
+place_of OriginKeepAlive = 8
+place_of OriginFetches = 9
+place_of OriginQueue = 10
+place_of OriginRest = 11
+place_of UrlRest = 12
+place_of Accept = 13
+place_of ClientTimeout = 14
+place_of KeepAlive = 15
+place_of Threads = 16
+place_of Connections = 17
 
--- the levels of includes under a page
-abbrev pub levels : Numeric
-levels = record { name = codes "levels"; least = 1; most = 8; default = codes "4"; refusal = codes "error: --levels takes a number from 1 to 8" }
+-- ---- what they are to `clap`
 
--- the answers that each shard of the cache keeps
-abbrev pub capacity : Numeric
-capacity = record { name = codes "capacity"; least = 1; most = 1024; default = codes "128"; refusal = codes "error: --capacity takes a number from 1 to 1024" }
-
--- the bytes that a page may have
-abbrev pub page_bytes : Numeric
-page_bytes = record { name = codes "page-bytes"; least = 0; most = 4294967295; default = codes "0"; refusal = codes "error: --page-bytes takes a number from 0 to 4294967295" }
-
--- the milliseconds that a fetch may take, at most a day
-abbrev pub timeout : Numeric
-timeout = record { name = codes "timeout"; least = 0; most = 86400000; default = codes "10000"; refusal = codes "error: --timeout takes milliseconds, from 0 to 86400000" }
-
--- the milliseconds that a page may take, at most a day
-abbrev pub page_timeout : Numeric
-page_timeout = record { name = codes "page-timeout"; least = 0; most = 86400000; default = codes "0"; refusal = codes "error: --page-timeout takes milliseconds, from 0 to 86400000" }
-
--- the connections to each origin that are kept while nobody fetches over them
-abbrev pub origin_keep_alive : Numeric
-origin_keep_alive = record { name = codes "origin-keep-alive"; least = 0; most = 1024; default = codes "0"; refusal = codes "error: --origin-keep-alive takes a number from 0 to 1024" }
-
--- the fetches that may be in flight to each origin
-abbrev pub origin_fetches : Numeric
-origin_fetches = record { name = codes "origin-fetches"; least = 0; most = 65535; default = codes "0"; refusal = codes "error: --origin-fetches takes a number from 0 to 65535" }
-
--- the seconds that an origin rests after failures, at most a day
-abbrev pub origin_rest : Numeric
-origin_rest = record { name = codes "origin-rest"; least = 0; most = 86400; default = codes "0"; refusal = codes "error: --origin-rest takes seconds, from 0 to 86400" }
-
--- the seconds that a URL rests after a failure, at most a day
-abbrev pub url_rest : Numeric
-url_rest = record { name = codes "url-rest"; least = 0; most = 86400; default = codes "0"; refusal = codes "error: --url-rest takes seconds, from 0 to 86400" }
-
--- the milliseconds that a client may take, at most a day
-abbrev pub client_timeout : Numeric
-client_timeout = record { name = codes "client-timeout"; least = 0; most = 86400000; default = codes "60000"; refusal = codes "error: --client-timeout takes milliseconds, from 0 to 86400000" }
-
--- the seconds that a client's connection is kept for its next request, at most a day
-abbrev pub keep_alive : Numeric
-keep_alive = record { name = codes "keep-alive"; least = 0; most = 86400; default = codes "0"; refusal = codes "error: --keep-alive takes seconds, from 0 to 86400" }
-
--- the threads that serve clients; as many more may go on with those who were waited for
-abbrev pub threads : Numeric
-threads = record { name = codes "threads"; least = 1; most = 64; default = codes "64"; refusal = codes "error: --threads takes a number from 1 to 64" }
-
--- the connections that may be open at once
-abbrev pub connections : Numeric
-connections = record { name = codes "connections"; least = 1; most = 65536; default = codes "64"; refusal = codes "error: --connections takes a number from 1 to 65536" }
-
--- how many slots posts may open ahead where no word says so: all that may be, where more than one fetch may be in flight
-abbrev pub ahead_for : ℕ → ℕ
-ahead_for fetches = if nat_le fetches 1 then 16 else 256
-
--- ---- what they are to `clap`, and what they say
+-- an option, with its default, if it has one
+abbrev pub defaulted : Option Text → Rule → Rule
+defaulted None option = option
+defaulted (Some word) option = with_default word option
 
 abbrev pub numeric_option : Numeric → Rule
-numeric_option option = with_default option.default (named_option option.name)
+numeric_option row = defaulted row.default (named_option row.name)
+
+-- a command with one more of them
+abbrev pub with_number : App → Number → App
+with_number command number = with_rule command (numeric_option (row_of number))
+
+-- ---- what they say
 
 -- a number that is at least so large
 abbrev pub at_least : ℕ → Option ℕ → Option ℕ
 at_least least number = option_and_then (λ n. if nat_le least n then Some n else None) number
 
 -- the number from `least` to `most` that a word writes
-abbrev pub number_in : ℕ → ℕ → Option Text → Option ℕ
-number_in least most word = at_least least (option_and_then (λ w. decimal_of w most) word)
+abbrev pub number_in : ℕ → ℕ → Text → Option ℕ
+number_in least most word = at_least least (decimal_of word most)
 
--- the number of slots that a word says, and that counts without one
-abbrev pub ahead_said : ℕ → Option Text → Option ℕ
-ahead_said fetches None = Some (ahead_for fetches)
-ahead_said fetches (Some word) = number_in ahead.least ahead.most (Some word)
+-- the word of an option, or else its default
+abbrev pub or_default : Option Text → Option Text → Option Text
+or_default default None = default
+or_default default (Some word) = Some word
 
--- the number within its limits that an option says
-abbrev pub said_of : Numeric → List Row → Option ℕ
-said_of option rows = number_in option.least option.most (first_of option.name rows)
+-- the number within its limits that a word says for an option; without a word it says none
+abbrev pub said_by : Numeric → Option Text → Option (Option ℕ)
+said_by row None = Some None
+said_by row (Some word) = option_map Some (number_in row.least row.most word)
+
+-- what is said of an option: nothing valid, or a number, or none where it has no default
+abbrev pub said_of : Numeric → List Row → Option (Option ℕ)
+said_of row rows = said_by row (or_default row.default (first_of row.name rows))
+
+-- what is said of each of these
+abbrev pub all_said : List Row → List Number → List (Option (Option ℕ))
+all_said rows options = map (λ number. said_of (row_of number) rows) options
+
+-- ---- what was said
+
+-- a number is within the limits of its option, and none is only where the option has no default
+abbrev pub fits : Numeric → Option ℕ → Bool
+fits row None = is_none row.default
+fits row (Some n) = nat_le row.least n && nat_le n row.most
+
+-- the same of each of these options
+abbrev pub all_fit : List Number → List (Option ℕ) → Bool
+all_fit [] [] = true
+all_fit [] (value ∷ values) = false
+all_fit (option ∷ options) [] = false
+all_fit (option ∷ options) (value ∷ values) = fits (row_of option) value && all_fit options values

@@ -2,12 +2,9 @@
 ghost use Rattle.std.specs.Prelude.{◌≡◌, false, IfOk};
 ghost use Rattle.clap.specs.Words.{app_of};
 ghost use Rattle.clap.specs.declared.builder.command.Command.TheViews.{out-Command as fields_of};
-ghost use Rattle.edge_setup.specs.Command.{serve_command, with_addresses, with_bounds, with_fetching, with_file, with_flags, with_pages, with_reports, with_serving, without_file};
+ghost use Rattle.edge_setup.specs.Command.{serve_command, with_addresses, with_file, with_flags, with_names, with_numbers, without_file};
 
-use crate::number::{
-    CAPACITY, CLIENT_TIMEOUT, CONNECTIONS, FETCHES, KEEP_ALIVE, LEVELS, ORIGIN_FETCHES,
-    ORIGIN_KEEP_ALIVE, ORIGIN_REST, PAGE_BYTES, PAGE_TIMEOUT, THREADS, TIMEOUT, URL_REST, WORKERS,
-};
+use crate::number::Number;
 use crate::options::{flag, option, with_option};
 use clap::{ArgAction, Command};
 use std::alloc::{AllocError, Global};
@@ -30,11 +27,9 @@ fn without_file<'a>(alloc: Global) -> Result<Command<'a>, AllocError>
         "Serves pages over HTTP/1.1, assembled of what origins answer",
     );
     let command = with_addresses(alloc, command)?;
-    let command = with_pages(alloc, command)?;
-    let command = with_fetching(alloc, command)?;
-    let command = with_serving(alloc, command)?;
+    let command = with_numbers(alloc, command)?;
     let command = with_flags(alloc, command)?;
-    with_reports(alloc, command)
+    with_names(alloc, command)
 }
 
 // Where the server listens, which origins it asks, and where it answers its operator, by which names.
@@ -74,88 +69,16 @@ fn with_addresses<'a>(alloc: Global, command: Command<'a>) -> Result<Command<'a>
     with_option(command, admin_host)
 }
 
-// How pages are assembled and kept.
-fn with_pages<'a>(alloc: Global, command: Command<'a>) -> Result<Command<'a>, AllocError>
-    ensures app { IfOk result (λ more. app_of more ≡ with_pages (app_of command.entry)) }
+// The options that take a number.
+fn with_numbers<'a>(alloc: Global, command: Command<'a>) -> Result<Command<'a>, AllocError>
+    ensures app { IfOk result (λ more. app_of more ≡ with_numbers (app_of command.entry)) }
     ensures local { IfOk result (λ more. (fields_of more).has_globals ≡ (fields_of command.entry).has_globals) }
 {
-    let workers = WORKERS.arg(alloc);
-    let command = with_option(command, workers)?;
-    let fetches = FETCHES.arg(alloc);
-    let command = with_option(command, fetches)?;
-    // Where no word says so, the number rests on another option.
-    let ahead = option(
-        alloc,
-        "ahead",
-        "N",
-        "Fragments that may be fetched before it is known that they are needed, from 0 to 256 [default: 16; 256 with --fetches above 1]",
-    );
-    let command = with_option(command, ahead)?;
-    let levels = LEVELS.arg(alloc);
-    let command = with_option(command, levels)?;
-    let capacity = CAPACITY.arg(alloc);
-    let command = with_option(command, capacity)?;
-    let page_bytes = PAGE_BYTES.arg(alloc);
-    with_option(command, page_bytes)
-}
-
-// How origins are asked.
-fn with_fetching<'a>(alloc: Global, command: Command<'a>) -> Result<Command<'a>, AllocError>
-    ensures app { IfOk result (λ more. app_of more ≡ with_fetching (app_of command.entry)) }
-    ensures local { IfOk result (λ more. (fields_of more).has_globals ≡ (fields_of command.entry).has_globals) }
-{
-    let timeout = TIMEOUT.arg(alloc);
-    let command = with_option(command, timeout)?;
-    let page_timeout = PAGE_TIMEOUT.arg(alloc);
-    let command = with_option(command, page_timeout)?;
-    let origin_keep_alive = ORIGIN_KEEP_ALIVE.arg(alloc);
-    let command = with_option(command, origin_keep_alive)?;
-    with_bounds(alloc, command)
-}
-
-// When an origin is asked, and as whom.
-fn with_bounds<'a>(alloc: Global, command: Command<'a>) -> Result<Command<'a>, AllocError>
-    ensures app { IfOk result (λ more. app_of more ≡ with_bounds (app_of command.entry)) }
-    ensures local { IfOk result (λ more. (fields_of more).has_globals ≡ (fields_of command.entry).has_globals) }
-{
-    let origin_fetches = ORIGIN_FETCHES.arg(alloc);
-    let command = with_option(command, origin_fetches)?;
-    // Where no word says so, the number is that of another option.
-    let origin_queue = option(
-        alloc,
-        "origin-queue",
-        "N",
-        "Fetches over --origin-fetches that may wait for each origin's address, from 0 to 65536; 0 to fail at once [default: --connections]",
-    );
-    let command = with_option(command, origin_queue)?;
-    let origin_rest = ORIGIN_REST.arg(alloc);
-    let command = with_option(command, origin_rest)?;
-    let url_rest = URL_REST.arg(alloc);
-    let command = with_option(command, url_rest)?;
-    let name = option(
-        alloc,
-        "name",
-        "TOKEN",
-        "The edge's name: a request that has passed it before is refused",
-    );
-    with_option(command, name)
-}
-
-// How connections are served.
-fn with_serving<'a>(alloc: Global, command: Command<'a>) -> Result<Command<'a>, AllocError>
-    ensures app { IfOk result (λ more. app_of more ≡ with_serving (app_of command.entry)) }
-    ensures local { IfOk result (λ more. (fields_of more).has_globals ≡ (fields_of command.entry).has_globals) }
-{
-    let accept = option(alloc, "accept", "N", "Ends after this many connections");
-    let command = with_option(command, accept)?;
-    let client_timeout = CLIENT_TIMEOUT.arg(alloc);
-    let command = with_option(command, client_timeout)?;
-    let keep_alive = KEEP_ALIVE.arg(alloc);
-    let command = with_option(command, keep_alive)?;
-    let threads = THREADS.arg(alloc);
-    let command = with_option(command, threads)?;
-    let connections = CONNECTIONS.arg(alloc);
-    with_option(command, connections)
+    let mut command = command;
+    for number in Number::ALL {
+        command = with_option(command, number.arg(alloc))?;
+    }
+    Ok(command)
 }
 
 // Whether HEAD is answered, when a client has left, what stops the server, and whether each request is reported.
@@ -181,9 +104,9 @@ fn with_flags<'a>(alloc: Global, command: Command<'a>) -> Result<Command<'a>, Al
     with_option(command, log)
 }
 
-// In which format each request is reported, and as whose.
-fn with_reports<'a>(alloc: Global, command: Command<'a>) -> Result<Command<'a>, AllocError>
-    ensures app { IfOk result (λ more. app_of more ≡ with_reports (app_of command.entry)) }
+// In which format each request is reported, and as whose; and the edge's name.
+fn with_names<'a>(alloc: Global, command: Command<'a>) -> Result<Command<'a>, AllocError>
+    ensures app { IfOk result (λ more. app_of more ≡ with_names (app_of command.entry)) }
     ensures local { IfOk result (λ more. (fields_of more).has_globals ≡ (fields_of command.entry).has_globals) }
 {
     let format = option(
@@ -199,7 +122,14 @@ fn with_reports<'a>(alloc: Global, command: Command<'a>) -> Result<Command<'a>, 
         "FIELD",
         "Field by which a trusted proxy names the client to report, as x-forwarded-for",
     );
-    with_option(command, forwarded)
+    let command = with_option(command, forwarded)?;
+    let name = option(
+        alloc,
+        "name",
+        "TOKEN",
+        "The edge's name: a request that has passed it before is refused",
+    );
+    with_option(command, name)
 }
 
 // In which file further options stand, and whether those that hold are printed as one.

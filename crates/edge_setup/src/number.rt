@@ -1,7 +1,8 @@
-//! The options that take a number: what each is called, its limits, and what is said of it.
-ghost use Rattle.std.specs.Prelude.{◌≡◌, ◌≤◌, false, Some, IfSome};
+//! The options that take a number. This is the one table of them.
+ghost use Rattle.std.specs.Prelude.{◌≡◌, false, Some, slice_get};
 ghost use Rattle.clap.specs.Words.{found_of, rows_of, rule_of};
-ghost use Rattle.edge_setup.specs.Numbers.{number_in, numeric_option, said_of, shown};
+ghost use Rattle.edge_setup.specs.Numbers.{number_in, numbers, numeric_option, place_of, row_of, said_of, shown};
+ghost use Rattle.edge_setup.specs.Rules.{named_option};
 
 use crate::options::option;
 use crate::words::word_of;
@@ -9,241 +10,359 @@ use clap::{Arg, ArgMatches};
 use decimals::decimal_of;
 use std::alloc::Global;
 
-/// An option that takes a number, which has a default.
+/// An option that takes a number.
+#[derive(Clone, Copy, Debug, Drop, PartialEq, Eq)]
+pub enum Number {
+    /// The threads that may work for a page.
+    Workers,
+    /// The fetches that a page may have in flight.
+    Fetches,
+    /// How many slots posts may open ahead.
+    Ahead,
+    /// The levels of includes under a page.
+    Levels,
+    /// The answers that each shard of the cache keeps.
+    Capacity,
+    /// The bytes that a page may have; 0 means any number.
+    PageBytes,
+    /// The milliseconds that a fetch may take; 0 means no limit.
+    Timeout,
+    /// The milliseconds that a page may take until nothing more is fetched for it; 0 means no limit.
+    PageTimeout,
+    /// The idle connections that are kept to each address; 0 means that each fetch has its own.
+    OriginKeepAlive,
+    /// The fetches that may be in flight to each address; 0 means no bound.
+    OriginFetches,
+    /// The fetches to each address that may wait until one of those has ended.
+    OriginQueue,
+    /// The seconds for which an address isn't asked after five failures in succession; 0 means that it is asked on.
+    OriginRest,
+    /// The seconds for which a URL that failed isn't asked again; 0 means that it is asked on.
+    UrlRest,
+    /// After how many connections the server ends.
+    Accept,
+    /// The milliseconds that a client may take; 0 means no limit.
+    ClientTimeout,
+    /// The seconds that a connection is kept for its client's next request; 0 means that none is kept.
+    KeepAlive,
+    /// The threads that serve clients; as many more may go on with those who were waited for.
+    Threads,
+    /// The connections that may be open at once.
+    Connections,
+}
+
+/// What there is to say of such an option.
 #[derive(Clone, Copy)]
-pub(crate) struct NumericOption {
+pub(crate) struct NumberRow {
     /// Its name, without the dashes.
     pub name: &'static str,
+    /// The smallest number that it takes.
+    pub least: u64,
+    /// The largest.
+    pub most: u64,
+    /// The word that counts where the option isn't there; without one, its number rests on other options.
+    pub default: Option<&'static str>,
     /// What its number is, as help says it.
     pub help: &'static str,
-    /// The smallest number that it takes.
-    pub least: u32,
-    /// The largest.
-    pub most: u32,
-    /// The word that counts where the option isn't there.
-    pub default: &'static str,
     /// The line for a word that is no such number.
     pub refusal: &'static str,
 }
 
-/// The threads that may work for a page.
-pub(crate) const WORKERS: NumericOption = NumericOption {
-    name: "workers",
-    help: "Threads that may fetch for a page, from 1 to 16",
-    least: 1,
-    most: 16,
-    default: "4",
-    refusal: "error: --workers takes a number from 1 to 16",
-};
+// A row: its name, its limits, its default, what help says before and behind these limits, and what it takes.
+macro_rules! row {
+    ($name:literal, $least:literal, $most:literal, $default:expr, $help:literal, $more:literal, $takes:literal) => {
+        NumberRow {
+            name: $name,
+            least: $least,
+            most: $most,
+            default: $default,
+            help: concat!($help, ", from ", $least, " to ", $most, $more),
+            refusal: concat!("error: --", $name, " takes ", $takes, " from ", $least, " to ", $most),
+        }
+    };
+}
 
-/// The fetches that a page may have in flight.
-pub(crate) const FETCHES: NumericOption = NumericOption {
-    name: "fetches",
-    help: "Fetches that a page may have in flight, from 1 to 256; above 1 it holds no thread while it waits",
-    least: 1,
-    most: 256,
-    default: "1",
-    refusal: "error: --fetches takes a number from 1 to 256",
-};
+// The row of each.
+const WORKERS: NumberRow = row!(
+    "workers",
+    1,
+    16,
+    Some("4"),
+    "Threads that may fetch for a page",
+    "",
+    "a number"
+);
 
-/// How many slots posts may open ahead.
-pub(crate) const AHEAD: NumericOption = NumericOption {
-    name: "ahead",
-    help: "Fragments that may be fetched before it is known that they are needed, from 0 to 256",
-    least: 0,
-    most: 256,
-    default: "16",
-    refusal: "error: --ahead takes a number from 0 to 256",
-};
+const FETCHES: NumberRow = row!(
+    "fetches",
+    1,
+    256,
+    Some("1"),
+    "Fetches that a page may have in flight",
+    "; above 1 it holds no thread while it waits",
+    "a number"
+);
 
-/// The levels of includes under a page.
-pub(crate) const LEVELS: NumericOption = NumericOption {
-    name: "levels",
-    help: "Levels of includes under a page, from 1 to 8",
-    least: 1,
-    most: 8,
-    default: "4",
-    refusal: "error: --levels takes a number from 1 to 8",
-};
+const AHEAD: NumberRow = row!(
+    "ahead",
+    0,
+    256,
+    None,
+    "Fragments that may be fetched before it is known that they are needed",
+    " [default: 16; 256 with --fetches above 1]",
+    "a number"
+);
 
-/// The answers that each shard of the cache keeps.
-pub(crate) const CAPACITY: NumericOption = NumericOption {
-    name: "capacity",
-    help: "Answers that each of 8 shards keeps, from 1 to 1024",
-    least: 1,
-    most: 1_024,
-    default: "128",
-    refusal: "error: --capacity takes a number from 1 to 1024",
-};
+const LEVELS: NumberRow = row!(
+    "levels",
+    1,
+    8,
+    Some("4"),
+    "Levels of includes under a page",
+    "",
+    "a number"
+);
 
-/// The bytes that a page may have.
-pub(crate) const PAGE_BYTES: NumericOption = NumericOption {
-    name: "page-bytes",
-    help: "Bytes that a page may have, a longer one is refused; 0 for no bound",
-    least: 0,
-    most: 4_294_967_295,
-    default: "0",
-    refusal: "error: --page-bytes takes a number from 0 to 4294967295",
-};
+const CAPACITY: NumberRow = row!(
+    "capacity",
+    1,
+    1024,
+    Some("128"),
+    "Answers that each of 8 shards keeps",
+    "",
+    "a number"
+);
 
-/// The milliseconds that a fetch may take, at most a day.
-pub(crate) const TIMEOUT: NumericOption = NumericOption {
-    name: "timeout",
-    help: "Milliseconds that a fetch may take; 0 for no limit",
-    least: 0,
-    most: 86_400_000,
-    default: "10000",
-    refusal: "error: --timeout takes milliseconds, from 0 to 86400000",
-};
+const PAGE_BYTES: NumberRow = row!(
+    "page-bytes",
+    0,
+    4294967295,
+    Some("0"),
+    "Bytes that a page may have",
+    "; a longer one is refused, 0 for no bound",
+    "a number"
+);
 
-/// The milliseconds that a page may take, at most a day.
-pub(crate) const PAGE_TIMEOUT: NumericOption = NumericOption {
-    name: "page-timeout",
-    help: "Milliseconds after which nothing more is fetched for a page; 0 for no limit",
-    least: 0,
-    most: 86_400_000,
-    default: "0",
-    refusal: "error: --page-timeout takes milliseconds, from 0 to 86400000",
-};
+const TIMEOUT: NumberRow = row!(
+    "timeout",
+    0,
+    86400000,
+    Some("10000"),
+    "Milliseconds that a fetch may take",
+    "; 0 for no limit",
+    "milliseconds,"
+);
 
-/// The connections to each origin that are kept while nobody fetches over them.
-pub(crate) const ORIGIN_KEEP_ALIVE: NumericOption = NumericOption {
-    name: "origin-keep-alive",
-    help: "Idle connections that are kept to each origin's address, from 0 to 1024; 0 to fetch once over each",
-    least: 0,
-    most: 1_024,
-    default: "0",
-    refusal: "error: --origin-keep-alive takes a number from 0 to 1024",
-};
+const PAGE_TIMEOUT: NumberRow = row!(
+    "page-timeout",
+    0,
+    86400000,
+    Some("0"),
+    "Milliseconds after which nothing more is fetched for a page",
+    "; 0 for no limit",
+    "milliseconds,"
+);
 
-/// The fetches that may be in flight to each origin.
-pub(crate) const ORIGIN_FETCHES: NumericOption = NumericOption {
-    name: "origin-fetches",
-    help: "Fetches that may be in flight to each origin's address, further ones wait; 0 for no bound",
-    least: 0,
-    most: 65_535,
-    default: "0",
-    refusal: "error: --origin-fetches takes a number from 0 to 65535",
-};
+const ORIGIN_KEEP_ALIVE: NumberRow = row!(
+    "origin-keep-alive",
+    0,
+    1024,
+    Some("0"),
+    "Idle connections that are kept to each origin's address",
+    "; 0 to fetch once over each",
+    "a number"
+);
 
-/// The seconds that an origin rests after failures, at most a day.
-pub(crate) const ORIGIN_REST: NumericOption = NumericOption {
-    name: "origin-rest",
-    help: "Seconds for which an origin isn't asked after five failures in succession; 0 to ask on",
-    least: 0,
-    most: 86_400,
-    default: "0",
-    refusal: "error: --origin-rest takes seconds, from 0 to 86400",
-};
+const ORIGIN_FETCHES: NumberRow = row!(
+    "origin-fetches",
+    0,
+    65535,
+    Some("0"),
+    "Fetches that may be in flight to each origin's address",
+    "; further ones wait, 0 for no bound",
+    "a number"
+);
 
-/// The seconds that a URL rests after a failure, at most a day.
-pub(crate) const URL_REST: NumericOption = NumericOption {
-    name: "url-rest",
-    help: "Seconds for which a URL that failed isn't asked again, and its failing answer counts; 0 to ask on",
-    least: 0,
-    most: 86_400,
-    default: "0",
-    refusal: "error: --url-rest takes seconds, from 0 to 86400",
-};
+const ORIGIN_QUEUE: NumberRow = row!(
+    "origin-queue",
+    0,
+    65536,
+    None,
+    "Fetches over --origin-fetches that may wait for each origin's address",
+    "; 0 to fail at once [default: --connections]",
+    "a number"
+);
 
-/// The milliseconds that a client may take, at most a day.
-pub(crate) const CLIENT_TIMEOUT: NumericOption = NumericOption {
-    name: "client-timeout",
-    help: "Milliseconds that a client may take; 0 for no limit",
-    least: 0,
-    most: 86_400_000,
-    default: "60000",
-    refusal: "error: --client-timeout takes milliseconds, from 0 to 86400000",
-};
+const ORIGIN_REST: NumberRow = row!(
+    "origin-rest",
+    0,
+    86400,
+    Some("0"),
+    "Seconds for which an origin isn't asked after five failures in succession",
+    "; 0 to ask on",
+    "seconds,"
+);
 
-/// The seconds that a client's connection is kept for its next request, at most a day.
-pub(crate) const KEEP_ALIVE: NumericOption = NumericOption {
-    name: "keep-alive",
-    help: "Seconds that a connection is kept for its client's next request; 0 to serve one request each",
-    least: 0,
-    most: 86_400,
-    default: "0",
-    refusal: "error: --keep-alive takes seconds, from 0 to 86400",
-};
+const URL_REST: NumberRow = row!(
+    "url-rest",
+    0,
+    86400,
+    Some("0"),
+    "Seconds for which a URL that failed isn't asked again, and its failing answer counts",
+    "; 0 to ask on",
+    "seconds,"
+);
 
-/// The threads that serve clients; as many more may go on with those who were waited for.
-pub(crate) const THREADS: NumericOption = NumericOption {
-    name: "threads",
-    help: "Threads that serve clients, from 1 to 64; up to as many more go on with those who were waited for",
-    least: 1,
-    most: 64,
-    default: "64",
-    refusal: "error: --threads takes a number from 1 to 64",
-};
+const ACCEPT: NumberRow = row!(
+    "accept",
+    0,
+    18446744073709551615,
+    None,
+    "Connections after which the server ends",
+    " [default: no end]",
+    "a number"
+);
 
-/// The connections that may be open at once.
-pub(crate) const CONNECTIONS: NumericOption = NumericOption {
-    name: "connections",
-    help: "Connections that may be open at once, from 1 to 65536; a client who is waited for holds no thread",
-    least: 1,
-    most: 65_536,
-    default: "64",
-    refusal: "error: --connections takes a number from 1 to 65536",
-};
+const CLIENT_TIMEOUT: NumberRow = row!(
+    "client-timeout",
+    0,
+    86400000,
+    Some("60000"),
+    "Milliseconds that a client may take",
+    "; 0 for no limit",
+    "milliseconds,"
+);
 
-impl NumericOption {
-    /// The option, as `clap` takes it.
-    pub(crate) fn arg<'a>(&self, alloc: Global) -> Arg<'a>
-        ensures rule { rule_of result ≡ numeric_option (shown self.now) }
-        ensures local { result.global ≡ false }
+const KEEP_ALIVE: NumberRow = row!(
+    "keep-alive",
+    0,
+    86400,
+    Some("0"),
+    "Seconds that a connection is kept for its client's next request",
+    "; 0 to serve one request each",
+    "seconds,"
+);
+
+const THREADS: NumberRow = row!(
+    "threads",
+    1,
+    64,
+    Some("64"),
+    "Threads that serve clients",
+    "; up to as many more go on with those who were waited for",
+    "a number"
+);
+
+const CONNECTIONS: NumberRow = row!(
+    "connections",
+    1,
+    65536,
+    Some("64"),
+    "Connections that may be open at once",
+    "; a client who is waited for holds no thread",
+    "a number"
+);
+
+impl Number {
+    /// All of them, in the order of the options.
+    pub const ALL: [Number; 18] = [
+        Number::Workers,
+        Number::Fetches,
+        Number::Ahead,
+        Number::Levels,
+        Number::Capacity,
+        Number::PageBytes,
+        Number::Timeout,
+        Number::PageTimeout,
+        Number::OriginKeepAlive,
+        Number::OriginFetches,
+        Number::OriginQueue,
+        Number::OriginRest,
+        Number::UrlRest,
+        Number::Accept,
+        Number::ClientTimeout,
+        Number::KeepAlive,
+        Number::Threads,
+        Number::Connections,
+    ];
+
+    // Its place in `ALL`.
+    pub(crate) fn place(self) -> usize
+        ensures place { result ≡ place_of self }
+        ensures there { slice_get numbers result ≡ Some self }
     {
-        option(alloc, self.name, "N", self.help).default_value(self.default)
+        self as usize
     }
 
-    /// Its number, where that is within the limits.
-    pub(crate) fn u32_of(&self, matches: &ArgMatches<'_>) -> Option<u32>
-        ensures value { result ≡ said_of (shown self.now) (rows_of (found_of matches.now)) }
-        ensures some { IfSome result (λ number. self.now.least ≤ number) }
-        ensures few { IfSome result (λ number. number ≤ self.now.most) }
+    // Its row.
+    pub(crate) fn row(self) -> NumberRow
+        ensures { shown result ≡ row_of self }
     {
-        self.u32_in(word_of(matches, self.name)?)
+        match self {
+            Number::Workers => WORKERS,
+            Number::Fetches => FETCHES,
+            Number::Ahead => AHEAD,
+            Number::Levels => LEVELS,
+            Number::Capacity => CAPACITY,
+            Number::PageBytes => PAGE_BYTES,
+            Number::Timeout => TIMEOUT,
+            Number::PageTimeout => PAGE_TIMEOUT,
+            Number::OriginKeepAlive => ORIGIN_KEEP_ALIVE,
+            Number::OriginFetches => ORIGIN_FETCHES,
+            Number::OriginQueue => ORIGIN_QUEUE,
+            Number::OriginRest => ORIGIN_REST,
+            Number::UrlRest => URL_REST,
+            Number::Accept => ACCEPT,
+            Number::ClientTimeout => CLIENT_TIMEOUT,
+            Number::KeepAlive => KEEP_ALIVE,
+            Number::Threads => THREADS,
+            Number::Connections => CONNECTIONS,
+        }
+    }
+
+    /// The option, as `clap` takes it.
+    pub(crate) fn arg<'a>(self, alloc: Global) -> Arg<'a>
+        ensures rule { rule_of result ≡ numeric_option (row_of self) }
+        ensures local { result.global ≡ false }
+    {
+        let row = self.row();
+        let named = row.named(alloc);
+        match row.default {
+            Some(word) => named.default_value(word),
+            None => named,
+        }
+    }
+
+    /// What the matches say of it: `None` if that is no number within its limits.
+    pub(crate) fn said(self, matches: &ArgMatches<'_>) -> Option<Option<u64>>
+        ensures { result ≡ said_of (row_of self) (rows_of (found_of matches.now)) }
+    {
+        let row = self.row();
+        match word_of(matches, row.name).or(row.default) {
+            Some(word) => Some(Some(row.number_in(word)?)),
+            None => Some(None),
+        }
+    }
+}
+
+impl NumberRow {
+    // The option without a default.
+    fn named<'a>(&self, alloc: Global) -> Arg<'a>
+        ensures rule { rule_of result ≡ named_option self.now.name.now }
+        ensures local { result.global ≡ false }
+    {
+        option(alloc, self.name, "N", self.help)
     }
 
     // The number that a word writes, where that is within the limits.
-    fn u32_in(&self, word: &str) -> Option<u32>
-        ensures value { result ≡ number_in self.now.least self.now.most (Some word.now) }
-        ensures some { IfSome result (λ number. self.now.least ≤ number) }
-        ensures few { IfSome result (λ number. number ≤ self.now.most) }
+    fn number_in(&self, word: &str) -> Option<u64>
+        ensures { result ≡ number_in self.now.least self.now.most word.now }
     {
-        let number = decimal_of(word.as_bytes(), u64::from(self.most))? as u32;
+        let number = decimal_of(word.as_bytes(), self.most)?;
         if self.least <= number {
             Some(number)
         } else {
             None
         }
-    }
-
-    /// The number that a word writes, where that is within the limits, for an option that takes at most 65,535.
-    pub(crate) fn u16_in(&self, word: &str) -> Option<u16>
-        requires { self.now.most ≤ 65535 }
-        ensures value { result ≡ number_in self.now.least self.now.most (Some word.now) }
-        ensures few { IfSome result (λ number. number ≤ self.now.most) }
-    {
-        Some(self.u32_in(word)? as u16)
-    }
-
-    /// The same of an option that takes at most 65,535.
-    pub(crate) fn u16_of(&self, matches: &ArgMatches<'_>) -> Option<u16>
-        requires { self.now.most ≤ 65535 }
-        ensures value { result ≡ said_of (shown self.now) (rows_of (found_of matches.now)) }
-        ensures some { IfSome result (λ number. self.now.least ≤ number) }
-        ensures few { IfSome result (λ number. number ≤ self.now.most) }
-    {
-        Some(self.u32_of(matches)? as u16)
-    }
-
-    /// The same of an option that takes at most 255.
-    pub(crate) fn u8_of(&self, matches: &ArgMatches<'_>) -> Option<u8>
-        requires { self.now.most ≤ 255 }
-        ensures value { result ≡ said_of (shown self.now) (rows_of (found_of matches.now)) }
-        ensures some { IfSome result (λ number. self.now.least ≤ number) }
-        ensures few { IfSome result (λ number. number ≤ self.now.most) }
-    {
-        Some(self.u32_of(matches)? as u8)
     }
 }

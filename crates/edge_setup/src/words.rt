@@ -1,20 +1,15 @@
 //! What the options of `serve` ask for.
-ghost use Rattle.std.specs.Prelude.{◌≡◌, ◌≤◌, option_map, IfNone, IfOk, IfSome, IsSome, None, Some, MatchOption, MatchResult};
+ghost use Rattle.std.specs.Prelude.{◌≡◌, option_map, IfOk, MatchOption, MatchResult};
 ghost use Rattle.std.specs.declared.net.socket_addr.SocketAddr.{SocketAddr};
 ghost use Rattle.clap.specs.Words.{first_of, found_of, rows_of};
-ghost use Rattle.edge_setup.specs.Numbers.{ahead_said};
-ghost use Rattle.edge_setup.specs.Words.{accepts_of, are_hosts, hosts_of, hosts_said, is_comma, is_set, log_of, log_said, queue_of, token_of, IsAddress, IsAdmin, IsNoAdmin, HasAddresses, HasFetching, HasPages, HasServing, IsFirstWrong, IsRefusedBy, IsWithin, SaysAddresses, SaysFetching, SaysPages, SaysServing, SaysSetup, SaysTokens};
+ghost use Rattle.edge_setup.specs.Words.{are_hosts, hosts_of, hosts_said, is_comma, is_set, log_of, log_said, token_of, IsAddress, IsAdmin, IsNoAdmin, HasAddresses, HasFlags, HasNumbers, IsFirstWrong, IsRefusedBy, SaysAddresses, SaysFlags, SaysSetup, SaysTokens};
 
-use crate::number::{
-    AHEAD, CAPACITY, CLIENT_TIMEOUT, CONNECTIONS, FETCHES, KEEP_ALIVE, LEVELS, ORIGIN_FETCHES,
-    ORIGIN_KEEP_ALIVE, ORIGIN_REST, PAGE_BYTES, PAGE_TIMEOUT, THREADS, TIMEOUT, URL_REST, WORKERS,
-};
+use crate::numbers::Numbers;
 use crate::origin::is_name;
 use crate::origins::origins_of;
-use crate::setup::{Addresses, Fetching, Named, Pages, Serving, Setup, SetupFault};
+use crate::setup::{Addresses, Flags, Named, Setup, SetupFault};
 use access_log::LogFormat;
 use clap::ArgMatches;
-use decimals::decimal_of;
 use std::alloc::{AllocError, Global};
 use std::net::SocketAddr;
 use surrogate_headers::is_token;
@@ -24,30 +19,6 @@ pub(crate) fn word_of<'a>(matches: &ArgMatches<'a>, name: &str) -> Option<&'a st
     ensures { option_map (λ word. word.now) result ≡ first_of name.now (rows_of (found_of matches.now)) }
 {
     matches.get_str(name)
-}
-
-// The number of connections after which the server ends.
-fn accepts_of(word: Option<&str>) -> Option<u64>
-    ensures { result ≡ accepts_of (option_map (λ w. w.now) word.entry) }
-{
-    match word {
-        Some(word) => decimal_of(word.as_bytes(), u64::MAX),
-        None => Some(u64::MAX),
-    }
-}
-
-// As many fetches may wait as connections may be open.
-const MAX_QUEUE: u64 = 65_536;
-
-// The number of fetches that may wait, where a word says it; `None` if it is no such number.
-fn queue_of(word: Option<&str>) -> Option<Option<u32>>
-    ensures { result ≡ queue_of (option_map (λ w. w.now) word.entry) }
-{
-    let Some(word) = word else {
-        return Some(None);
-    };
-    let most = decimal_of(word.as_bytes(), MAX_QUEUE)?;
-    Some(Some(most as u32))
 }
 
 // The longest name of an edge or of a field.
@@ -173,21 +144,6 @@ fn log_said(matches: &ArgMatches<'_>) -> Option<Option<LogFormat>>
     log_of(is_asked, word_of(matches, "log-format"))
 }
 
-// How many slots may be opened ahead, by a word, or else by how many fetches may be in flight: the slots are of the whole
-// page, and a fetch without a slot begins late.
-fn ahead_of(word: Option<&str>, fetches: u16) -> Option<u16>
-    ensures said { result ≡ ahead_said fetches (option_map (λ w. w.now) word.entry) }
-    ensures missing { IfNone result (ahead_said 1 (option_map (λ w. w.now) word.entry) ≡ None) }
-    ensures there { IfSome result (λ _. IsSome (ahead_said 1 (option_map (λ w. w.now) word.entry))) }
-    ensures few { IfSome result (λ ahead. ahead ≤ 256) }
-{
-    match word {
-        Some(word) => AHEAD.u16_in(word),
-        None if fetches <= 1 => Some(16),
-        None => Some(256),
-    }
-}
-
 // Where the server listens.
 fn addresses_of(matches: &ArgMatches<'_>) -> Result<Addresses, Named>
     ensures { let rows = rows_of (found_of matches.now) in
@@ -199,53 +155,12 @@ fn addresses_of(matches: &ArgMatches<'_>) -> Result<Addresses, Named>
     })
 }
 
-// How pages are assembled and kept.
-fn pages_of(matches: &ArgMatches<'_>) -> Result<Pages, Named>
-    ensures says { let rows = rows_of (found_of matches.now) in
-        MatchResult result (SaysPages rows) (λ option. HasAddresses rows → IsFirstWrong rows option) }
-    ensures within { IfOk result IsWithin }
-{
-    let workers = WORKERS.u8_of(matches).ok_or(Named::Workers)?;
-    let fetches = FETCHES.u16_of(matches).ok_or(Named::Fetches)?;
-    Ok(Pages {
-        workers,
-        fetches,
-        ahead: ahead_of(word_of(matches, "ahead"), fetches).ok_or(Named::Ahead)?,
-        levels: LEVELS.u8_of(matches).ok_or(Named::Levels)?,
-        capacity: CAPACITY.u16_of(matches).ok_or(Named::Capacity)?,
-        page_bytes: PAGE_BYTES.u32_of(matches).ok_or(Named::PageBytes)?,
-    })
-}
-
-// How origins are asked.
-fn fetching_of(matches: &ArgMatches<'_>) -> Result<Fetching, Named>
+// What is asked for by flags.
+fn flags_of(matches: &ArgMatches<'_>) -> Result<Flags, Named>
     ensures { let rows = rows_of (found_of matches.now) in
-        MatchResult result (SaysFetching rows) (λ option. HasAddresses rows → HasPages rows → IsFirstWrong rows option) }
+        MatchResult result (SaysFlags rows) (λ option. HasAddresses rows → HasNumbers rows → IsFirstWrong rows option) }
 {
-    Ok(Fetching {
-        timeout: TIMEOUT.u32_of(matches).ok_or(Named::Timeout)?,
-        page_timeout: PAGE_TIMEOUT.u32_of(matches).ok_or(Named::PageTimeout)?,
-        origin_keep_alive: ORIGIN_KEEP_ALIVE
-            .u16_of(matches)
-            .ok_or(Named::OriginKeepAlive)?,
-        origin_fetches: ORIGIN_FETCHES.u16_of(matches).ok_or(Named::OriginFetches)?,
-        origin_queue: queue_of(word_of(matches, "origin-queue")).ok_or(Named::OriginQueue)?,
-        origin_rest: ORIGIN_REST.u32_of(matches).ok_or(Named::OriginRest)?,
-        url_rest: URL_REST.u32_of(matches).ok_or(Named::UrlRest)?,
-    })
-}
-
-// How connections are served.
-fn serving_of(matches: &ArgMatches<'_>) -> Result<Serving, Named>
-    ensures { let rows = rows_of (found_of matches.now) in
-        MatchResult result (SaysServing rows) (λ option. HasAddresses rows → HasPages rows → HasFetching rows → IsFirstWrong rows option) }
-{
-    Ok(Serving {
-        accept: accepts_of(word_of(matches, "accept")).ok_or(Named::Accept)?,
-        client_timeout: CLIENT_TIMEOUT.u32_of(matches).ok_or(Named::ClientTimeout)?,
-        keep_alive: KEEP_ALIVE.u32_of(matches).ok_or(Named::KeepAlive)?,
-        threads: THREADS.u16_of(matches).ok_or(Named::Threads)?,
-        connections: CONNECTIONS.u32_of(matches).ok_or(Named::Connections)?,
+    Ok(Flags {
         stops_with_input: is_set(word_of(matches, "stop-with-input")),
         answers_head: is_set(word_of(matches, "head")),
         aborts_on_close: is_set(word_of(matches, "abort-on-close")),
@@ -264,7 +179,7 @@ pub(crate) struct Tokens<'a> {
 // What the options name.
 fn tokens_of<'a>(matches: &ArgMatches<'a>) -> Result<Tokens<'a>, Named>
     ensures { let rows = rows_of (found_of matches.now) in
-        MatchResult result (SaysTokens rows) (λ option. HasAddresses rows → HasPages rows → HasFetching rows → HasServing rows → IsFirstWrong rows option) }
+        MatchResult result (SaysTokens rows) (λ option. HasAddresses rows → HasNumbers rows → HasFlags rows → IsFirstWrong rows option) }
 {
     Ok(Tokens {
         name: token_of(word_of(matches, "name")).ok_or(Named::Name)?,
@@ -278,13 +193,11 @@ fn tokens_of<'a>(matches: &ArgMatches<'a>) -> Result<Tokens<'a>, Named>
 ///
 /// Our profile.
 pub fn setup_of(alloc: Global, matches: &ArgMatches<'_>) -> Result<Setup, SetupFault>
-    ensures says { MatchResult result (SaysSetup (rows_of (found_of matches.now))) (IsRefusedBy (rows_of (found_of matches.now))) }
-    ensures within { IfOk result (λ setup. IsWithin setup.pages) }
+    ensures { MatchResult result (SaysSetup (rows_of (found_of matches.now))) (IsRefusedBy (rows_of (found_of matches.now))) }
 {
     let addresses = addresses_of(matches)?;
-    let pages = pages_of(matches)?;
-    let fetching = fetching_of(matches)?;
-    let serving = serving_of(matches)?;
+    let numbers = Numbers::of(alloc, matches)?;
+    let flags = flags_of(matches)?;
     let tokens = tokens_of(matches)?;
     let origins = match origins_of(alloc, matches)? {
         Ok(origins) => origins,
@@ -293,9 +206,8 @@ pub fn setup_of(alloc: Global, matches: &ArgMatches<'_>) -> Result<Setup, SetupF
     Ok(Setup {
         addresses,
         origins,
-        pages,
-        fetching,
-        serving,
+        numbers,
+        flags,
         name: copy_of(alloc, tokens.name)?,
         forwarded: copy_of(alloc, tokens.forwarded)?,
         admin_hosts: copy_of(alloc, tokens.hosts)?,

@@ -1,0 +1,18 @@
+-- What was said by the options that take a number.
+use Rattle.std.specs.Prelude.{◌≡◌, ℕ, List, map, Option, Some, option_and_then, slice_get, unwrap_or}
+use Rattle.clap.specs.Words.{Row}
+use Rattle.edge_setup.specs.Numbers.{all_said, numbers, place_of}
+use Rattle.edge_setup.specs.declared.number.Number.{Number}
+use Rattle.edge_setup.specs.declared.numbers.Numbers.{Numbers}
+
+-- what was said of an option
+abbrev pub value_of : Numbers → Number → Option ℕ
+value_of said option = option_and_then (λ value. value) (slice_get said.values.items (place_of option))
+
+-- the number of an option that has a default
+abbrev pub number_of : Numbers → Number → ℕ
+number_of said option = unwrap_or (value_of said option) 0
+
+-- this is what each option says
+abbrev pub SaysNumbers : List Row → Numbers → Type 0
+SaysNumbers rows said = all_said rows numbers ≡ map Some said.values.items
