@@ -41,8 +41,8 @@ pub fn out_of_memory(rt: &impl Print) -> Option<()> {
 /// Prints the status of a page and its pieces, or the name of its fault.
 pub fn print_outcome(rt: &impl Print, outcome: &Outcome) -> Option<()> {
     match outcome {
-        Outcome::Page { status, body, .. } => {
-            number(rt, usize::from(*status))?;
+        Outcome::Page { head, body } => {
+            number(rt, usize::from(head.status))?;
             for at in 0..body.mark() {
                 bytes(rt, body.piece(at)?)?;
             }

@@ -9,7 +9,7 @@ use Rattle.answer_sources.specs.declared.given.WayCounts.{WayCounts}
 -- the way of a reply: one that fails didn't come
 abbrev pub way_told : Reply → Way → Way
 way_told Failed by = way.Failed
-way_told (Got status content_type control body) by = by
+way_told (Got head control body) by = by
 
 abbrev pub no_way : WayCounts
 no_way = record { kept = 0; joined = 0; bridged = 0; fetched = 0; failed = 0 }

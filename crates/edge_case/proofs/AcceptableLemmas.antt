@@ -6,8 +6,10 @@ use Rattle.std.specs.Bool.{Decides}
 use Rattle.std.specs.List.{All, list_all}
 use Rattle.std.specs.Option.{IsSome}
 use Rattle.std.specs.Prelude.{◌↔◌}
-use Rattle.edge_types.specs.declared.answer.TheConstants.{MIN_STATUS, MAX_STATUS, MAX_CONTENT_TYPE, MAX_BODY}
-use Rattle.edge_types.specs.Answered.{Answered, IsAcceptable, IsPrintable, got}
+use Rattle.edge_types.specs.declared.answer.TheConstants.{MAX_BODY}
+use Rattle.edge_types.specs.declared.head.TheConstants.{MIN_STATUS, MAX_STATUS, MAX_CONTENT_TYPE}
+use Rattle.edge_types.specs.Answered.{Answered, IsAcceptable, got}
+use Rattle.edge_types.specs.Head.{IsPrintable, head_of}
 use Rattle.edge_types.specs.declared.control.Control.{Control}
 use Rattle.surrogate_headers.specs.Control.{control_of}
 use Rattle.edge_case.specs.Case.{device}
@@ -22,12 +24,15 @@ printable-decides b = Decides-and (leb 32 b) (leb b 126) (le-decides 32 b) (le-d
 printables-decide : (text : List ℕ) → Decides (list_all is_printable text) (All IsPrintable text)
 printables-decide text = Decides-by_and is_printable IsPrintable (list_all is_printable) printable-decides refl (λ x xs. refl) text
 
-pub acceptable-decides : (status : ℕ) (content_type body : List ℕ) → Decides (is_acceptable status content_type body) (IsAcceptable status content_type body)
+pub acceptable-decides : (status : ℕ) (content_type body : List ℕ) → Decides (is_acceptable status content_type body) (IsAcceptable (head_of status content_type) body)
 unfolding is_acceptable
 acceptable-decides status content_type body =
     Decides-like (is_acceptable status content_type body)
-    (λ h. record { status_from = h.0; status_to = h.1.0; body_length = h.1.1.0; type_length = h.1.1.1.0; type_printable = h.1.1.1.1 })
-    (λ h. (h.status_from, (h.status_to, (h.body_length, (h.type_length, h.type_printable)))))
+    (λ h. record {
+      head = record { status_from = h.0; status_to = h.1.0; content_type = record { short = h.1.1.1.0; printable = h.1.1.1.1 } };
+      body_length = h.1.1.0;
+    })
+    (λ h. (h.head.status_from, (h.head.status_to, (h.body_length, (h.head.content_type.short, h.head.content_type.printable)))))
     (Decides-and (leb MIN_STATUS status) _ (le-decides MIN_STATUS status)
     (Decides-and (leb status MAX_STATUS) _ (le-decides status MAX_STATUS)
     (Decides-and (leb (length body) MAX_BODY) _ (le-decides (length body) MAX_BODY)
@@ -35,18 +40,18 @@ acceptable-decides status content_type body =
     (printables-decide content_type)))))
 
 -- what the edge doesn't take in gives nothing
-refused : (status : ℕ) (content_type control body u : List ℕ) → (IsAcceptable status content_type body → ⊥) → got_from status content_type control body u ≡ None
+refused : (status : ℕ) (content_type control body u : List ℕ) → (IsAcceptable (head_of status content_type) body → ⊥) → got_from status content_type control body u ≡ None
 unfolding got_from
 refused status content_type control body u h =
     cond-false (is_acceptable status content_type body) _ None (false_from_ne_true _ (λ e. h ((acceptable-decides status content_type body).0 e)))
 
 -- a status that is too large
 pub got_from_none : (status : ℕ) (content_type control body u : List ℕ) → 599 < status → got_from status content_type control body u ≡ None
-got_from_none status content_type control body u h = refused status content_type control body u (λ a. omega (arith, a.status_to))
+got_from_none status content_type control body u h = refused status content_type control body u (λ a. omega (arith, a.head.status_to))
 
 -- what `Answer::got` gives
 got_from_is : (result : Option Answered) (status : ℕ) (content_type control body u : List ℕ)
-    → (IsSome result ↔ IsAcceptable status content_type body) → IfSome result (λ answer. answer ≡ got u status content_type (control_of control device) body)
+    → (IsSome result ↔ IsAcceptable (head_of status content_type) body) → IfSome result (λ answer. answer ≡ got u (head_of status content_type) (control_of control device) body)
     → result ≡ got_from status content_type control body u
 unfolding got_from
 got_from_is None status content_type control body u when value = sym (refused status content_type control body u (λ a. false≢true (when.1 a)))
@@ -56,7 +61,7 @@ got_from_is (Some answer) status content_type control body u when value =
 -- the same, of copies of the parts
 pub got_from_copies : (result : Option Answered) (status : ℕ) (content_type control body u type_copy body_copy : List ℕ) (asks : Control)
     → type_copy ≡ content_type → body_copy ≡ body → asks ≡ control_of control device
-    → (IsSome result ↔ IsAcceptable status type_copy body_copy) → IfSome result (λ answer. answer ≡ got u status type_copy asks body_copy)
+    → (IsSome result ↔ IsAcceptable (head_of status type_copy) body_copy) → IfSome result (λ answer. answer ≡ got u (head_of status type_copy) asks body_copy)
     → result ≡ got_from status content_type control body u
 got_from_copies result status content_type control body u type_copy body_copy asks e f g when value =
     rw (← e, ← f) (got_from_is result status type_copy control body_copy u when (rw g at value))

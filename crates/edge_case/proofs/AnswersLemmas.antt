@@ -71,7 +71,7 @@ answered_complete (Got status url content_type control body) answer stands =
 pub small_by : (e : Entry) (answer : Answered) → Stands e answer → IsSmall e
 small_by (Failed url) answer stands = tt
 small_by (Got status url content_type control body) answer stands =
-    let a = stands.1.acceptable in (omega (arith, a.status_to), omega (arith, a.body_length))
+    let a = stands.1.acceptable in (omega (arith, a.head.status_to), omega (arith, a.body_length))
 
 -- ---- tables
 

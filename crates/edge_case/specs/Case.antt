@@ -5,6 +5,7 @@ use Rattle.edge_types.specs.declared.request.RequestField.{RequestField}
 use Rattle.edge_types.specs.Request.{place_of, request_saying}
 use Rattle.edge_types.specs.Asked.{asked}
 use Rattle.edge_types.specs.Answered.{Answered, IsAcceptable, failed, got}
+use Rattle.edge_types.specs.Head.{head_of}
 use Rattle.edge_types.specs.Query.{query_of}
 use Rattle.edge_types.specs.Table.{IsTable}
 use Rattle.surrogate_headers.specs.Control.{control_of}
@@ -31,8 +32,8 @@ device = own_device
 
 -- what was fetched, within the limits of the edge, at a URL
 pub record IsGot (status : ℕ) (u : List ℕ) (content_type control : Option (List ℕ)) (body : List ℕ) (answer : Answered) : Type 0 where
-  pub acceptable : IsAcceptable status (value_or_empty content_type) body
-  pub says : answer ≡ got u status (value_or_empty content_type) (control_of (value_or_empty control) device) body
+  pub acceptable : IsAcceptable (head_of status (value_or_empty content_type)) body
+  pub says : answer ≡ got u (head_of status (value_or_empty content_type)) (control_of (value_or_empty control) device) body
 
 -- a written answer denotes this one
 abbrev pub Stands : Entry → Answered → Type 0

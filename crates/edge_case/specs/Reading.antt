@@ -6,10 +6,12 @@ use Rattle.std.specs.List.{list_all}
 use Rattle.std.specs.Char.{is_ascii_digit}
 use Rattle.std.specs.Str.{byte}
 use Rattle.std.specs.Str.Parse.{digits_value}
+use Rattle.edge_types.specs.Head.{head_of}
 use Rattle.edge_types.specs.Halves.{around}
 use Rattle.edge_types.specs.Asked.{asked}
 use Rattle.edge_types.specs.Answered.{Answered, failed, got}
-use Rattle.edge_types.specs.declared.answer.TheConstants.{MIN_STATUS, MAX_STATUS, MAX_CONTENT_TYPE, MAX_BODY}
+use Rattle.edge_types.specs.declared.answer.TheConstants.{MAX_BODY}
+use Rattle.edge_types.specs.declared.head.TheConstants.{MIN_STATUS, MAX_STATUS, MAX_CONTENT_TYPE}
 use Rattle.edge_types.specs.Table.{answer_of}
 use Rattle.surrogate_headers.specs.Control.{control_of}
 use Rattle.edge_case.specs.declared.number.TheConstants.{MAX_DIGITS}
@@ -123,7 +125,7 @@ is_acceptable status content_type body =
 -- what was fetched at a URL, if the edge accepts it
 unfoldable pub got_from : ℕ → List ℕ → List ℕ → List ℕ → List ℕ → Option Answered
 got_from status content_type control body u =
-    if is_acceptable status content_type body then Some (got u status content_type (control_of control device) body) else None
+    if is_acceptable status content_type body then Some (got u (head_of status content_type) (control_of control device) body) else None
 
 -- the answer that a written one denotes
 unfoldable pub answered_by : Entry → Option Answered

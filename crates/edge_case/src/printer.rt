@@ -8,22 +8,18 @@ ghost use Rattle.edge_case.specs.Printed.{page_line, fault_line, printed, end_of
 use crate::ending::{CaseEnd, CaseFault};
 use crate::line::LINE_FEED;
 use crate::writing::{write_bytes, write_page};
-use edge_types::{NoMemory, Octets, Outcome, PageFault};
+use edge_types::{Head, NoMemory, Outcome, PageFault};
 use std::alloc::Global;
 use std::io::Write;
 
 // A page's line: status, length of the body and content type.
-fn page_line(
-    alloc: Global,
-    status: u16,
-    len: usize,
-    content_type: &Octets,
-) -> Result<Vec<u8>, NoMemory>
-    ensures { IfOk result (λ line. line.items ≡ page_line status len content_type.now) }
+fn page_line(alloc: Global, head: &Head, len: usize) -> Result<Vec<u8>, NoMemory>
+    ensures { IfOk result (λ line. line.items ≡ page_line head.now len) }
 {
+    let status = head.status;
     let numbers = format!(in alloc; "{status} {len} ")?;
     let mut line = numbers.as_bytes().to_vec(alloc)?;
-    line.extend_from_slice(content_type.as_bytes())?;
+    line.extend_from_slice(head.content_type.as_bytes())?;
     line.push(LINE_FEED)?;
     Ok(line)
 }
@@ -58,12 +54,8 @@ pub(crate) fn print<W: Write>(
     ensures never_bad { IfErr result (λ e. e ≢ CaseFault.BadCase) }
 {
     match outcome {
-        Outcome::Page {
-            status,
-            content_type,
-            body,
-        } => {
-            let line = page_line(alloc, *status, body.len(), content_type)?;
+        Outcome::Page { head, body } => {
+            let line = page_line(alloc, head, body.len())?;
             write_page(writer, &line, body)?;
             Ok(CaseEnd::PagePrinted)
         }

@@ -49,7 +49,8 @@ fn explain_leg<R: Eprint>(rt: &R, answer: &Answer) {
     // If standard error can't be written, only the status says it.
     let _ = match answer.reply() {
         Reply::Failed => eprintln!(rt; "{url}: the page fails here: there is no answer"),
-        Reply::Got { status, .. } if !answer.succeeded() => {
+        Reply::Got { head, .. } if !answer.succeeded() => {
+            let status = head.status;
             eprintln!(rt; "{url}: the page fails here: the status is {status}")
         }
         Reply::Got { .. } => eprintln!(rt; "{url}: the page fails here: this is no template"),

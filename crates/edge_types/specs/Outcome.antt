@@ -1,19 +1,20 @@
 -- The outcome of a page, as its reader sees it.
 use Rattle.std.specs.Prelude.{ℕ, List, codes}
+use Rattle.edge_types.specs.declared.head.Head.{Head}
 use Rattle.edge_types.specs.declared.outcome.Outcome.{Outcome}
 use Rattle.edge_types.specs.declared.outcome.Outcome.TheVariants as outcome
 use Rattle.edge_types.specs.declared.outcome.PageFault.{PageFault}
 use Rattle.edge_types.specs.declared.outcome.PageFault.TheVariants.{PageFetch, BadTemplate, IncludeFailed, TooManyLegs}
 use Rattle.edge_types.specs.Pieces.{joined}
 
--- a page's status, content type and bytes, or its fault
+-- a page's head and bytes, or its fault
 pub data Shown : Type 0 where
-  Page : ℕ → List ℕ → List ℕ → Shown
+  Page : Head → List ℕ → Shown
   Fault : PageFault → Shown
 
 -- what a reader sees of an outcome: the body's pieces joined
 abbrev pub shown : Outcome → Shown
-shown (outcome.Page status content_type body) = Page status content_type (joined body)
+shown (outcome.Page head body) = Page head (joined body)
 shown (outcome.Fault fault) = Fault fault
 
 -- the fault's number

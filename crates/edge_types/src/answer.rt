@@ -1,20 +1,15 @@
 //! What origins answer. Clauses see an `Answer` as its URL and its reply.
 
-ghost use Rattle.std.specs.Prelude.{◌≡◌, ◌↔◌, IsTrue, IsSome, IfSome, IfOk};
+ghost use Rattle.std.specs.Prelude.{◌≡◌, ◌↔◌, IsSome, IfSome, IfOk};
 
 use crate::control::Control;
+use crate::head::Head;
 use crate::no_memory::NoMemory;
 use crate::octets::Octets;
 use crate::page_url::PageUrl;
 use crate::shared_bytes::SharedBytes;
 use std::marker::Model;
 
-/// The smallest status of an answer.
-pub const MIN_STATUS: u16 = 200;
-/// The largest status of an answer.
-pub const MAX_STATUS: u16 = 599;
-/// The longest content type, in bytes.
-pub const MAX_CONTENT_TYPE: usize = 256;
 /// The longest body, in bytes.
 pub const MAX_BODY: usize = 262_144;
 
@@ -25,10 +20,8 @@ pub enum Reply {
     Failed,
     /// An origin answered.
     Got {
-        /// The HTTP status.
-        status: u16,
-        /// The `Content-Type` field; empty if absent.
-        content_type: Octets,
+        /// What the head says to a reader.
+        head: Head,
         /// What the origin asks of the edge.
         control: Control,
         /// The body, whole.
@@ -55,6 +48,7 @@ impl Model for Answer {
 
 impl Answer {
     ghost use Rattle.edge_types.specs.Answered.{IsAcceptable, IsWithinLimits, failed, got, succeeded, processed, body_of};
+    ghost use Rattle.edge_types.specs.Head.{head_of};
 
     /// The answer of a URL that could not be fetched. Takes no memory.
     pub fn failed(url: PageUrl) -> Answer
@@ -66,11 +60,9 @@ impl Answer {
         }
     }
 
-    /// The answer of a URL with this head and body. Takes no memory.
+    /// The answer of a URL with this status, content type and body, and nothing else in its head. Takes no memory.
     ///
-    /// `None` if the status is not `MIN_STATUS` to `MAX_STATUS`, the body is longer than
-    /// `MAX_BODY` bytes, or the content type is longer than `MAX_CONTENT_TYPE` bytes or has one
-    /// that is neither printable ASCII nor a space; the arguments are dropped then.
+    /// `None` where `of_head` says so.
     pub fn got(
         url: PageUrl,
         status: u16,
@@ -78,17 +70,27 @@ impl Answer {
         control: Control,
         body: SharedBytes,
     ) -> Option<Answer>
-        ensures limits { IsSome result ↔ IsAcceptable status content_type body }
-        ensures value { IfSome result (λ answer. answer ≡ got url status content_type control body) }
+        ensures limits { IsSome result ↔ IsAcceptable (head_of status content_type) body }
+        ensures value { IfSome result (λ answer. answer ≡ got url (head_of status content_type) control body) }
     {
-        if !is_acceptable(status, &content_type, &body) {
+        Answer::of_head(url, Head::of(status, content_type), control, body)
+    }
+
+    /// The answer of a URL with this head and body. Takes no memory.
+    ///
+    /// `None` if the edge doesn't accept the head (`Head::is_acceptable`), or the body is longer than `MAX_BODY`
+    /// bytes; the arguments are dropped then.
+    pub fn of_head(url: PageUrl, head: Head, control: Control, body: SharedBytes) -> Option<Answer>
+        ensures limits { IsSome result ↔ IsAcceptable head body }
+        ensures value { IfSome result (λ answer. answer ≡ got url head control body) }
+    {
+        if !head.is_acceptable() || MAX_BODY < body.len() {
             return None;
         }
         Some(Answer {
             url,
             reply: Reply::Got {
-                status,
-                content_type,
+                head,
                 control,
                 body,
             },
@@ -136,7 +138,7 @@ impl Answer {
     {
         match &self.reply {
             Reply::Failed => false,
-            Reply::Got { status, .. } => is_success(*status),
+            Reply::Got { head, .. } => head.is_success(),
         }
     }
 
@@ -147,32 +149,7 @@ impl Answer {
     {
         match &self.reply {
             Reply::Failed => false,
-            Reply::Got {
-                status,
-                control,
-                ..
-            } => is_success(*status) && control.esi,
+            Reply::Got { head, control, .. } => head.is_success() && control.esi,
         }
     }
-}
-
-ghost use Rattle.edge_types.specs.Answered.{IsAcceptable, is_success};
-
-// Whether the edge accepts an answer with this head and body.
-fn is_acceptable(status: u16, content_type: &Octets, body: &SharedBytes) -> bool
-    ensures { IsTrue result ↔ IsAcceptable status content_type.now body.now }
-{
-    (MIN_STATUS..=MAX_STATUS).contains(&status)
-        && body.len() <= MAX_BODY
-        && content_type.as_bytes().len() <= MAX_CONTENT_TYPE
-        && content_type
-            .as_bytes()
-            .iter()
-            .all(|b| 0x20 <= *b && *b <= 0x7e)
-}
-
-fn is_success(status: u16) -> bool
-    ensures { result ≡ is_success status }
-{
-    200 <= status && status <= 299
 }

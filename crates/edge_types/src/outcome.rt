@@ -2,7 +2,7 @@
 
 ghost use Rattle.std.specs.Prelude.{◌≡◌};
 
-use crate::octets::Octets;
+use crate::head::Head;
 use crate::page_body::PageBody;
 
 /// A finished page, or the one fault that keeps it from being one.
@@ -10,10 +10,8 @@ use crate::page_body::PageBody;
 pub enum Outcome {
     /// The page.
     Page {
-        /// The HTTP status.
-        status: u16,
-        /// The `Content-Type` field; empty if absent.
-        content_type: Octets,
+        /// What its head says to the reader: that of the page's own answer.
+        head: Head,
         /// The body.
         body: PageBody,
     },

@@ -10,6 +10,8 @@ use Rattle.edge_types.specs.Table.{reply_of}
 use Rattle.esi_vars.specs.declared.part.Part.{Part}
 use Rattle.esi_vars.specs.Values.{substituted}
 use Rattle.esi_expr.specs.Truth.{holds}
+use Rattle.esi_tree.specs.declared.include.OnError.{OnError}
+use Rattle.esi_tree.specs.declared.include.OnError.TheVariants.{Fails, Continues}
 use Rattle.esi_tree.specs.Reading.{tree_of}
 use Rattle.esi_tree.specs.Tree.{Element, Text, VarsText, Include, Choose, Try, Vars, Inline, Nothing, Elements, End, Then, Branches, NoBranch, When, Otherwise}
 use Rattle.esi_meaning.specs.Ahead.{alt_sources, sources_in, sources, sources_among}
@@ -42,9 +44,9 @@ of_in_turn P a b ha hb = of_followed P a (behind b) ha (of_behind P b hb)
 of_or_else : (P : Leg → Type 0) (a b : Run) → OfLegs P a → OfLegs P b → OfLegs P (or_else a b)
 of_or_else P a b ha hb = of_followed P a (instead b) ha (of_instead P b hb)
 
-of_on_error : (P : Leg → Type 0) (goes_on : Bool) → OfLegs P (on_error goes_on)
-of_on_error P true = tt
-of_on_error P false = tt
+of_on_error : (P : Leg → Type 0) (asked : OnError) → OfLegs P (on_error asked)
+of_on_error P Continues = tt
+of_on_error P Fails = tt
 
 of_if : (P : Leg → Type 0) (test : Bool) (a b : Run) → OfLegs P a → OfLegs P b → OfLegs P (if test then a else b)
 of_if P true a b ha hb = ha
@@ -72,7 +74,7 @@ module _ (r : Request) (P : Leg → Type 0) (leg : List Part → Run) where
     of_element (VarsText parts) h = tt
     of_element (Include include) h =
         of_or_else P (leg include.src) (alternative_run leg include) (h include.src (0, omega arith, refl))
-        (of_or_else P (alt_run leg include.alt) (on_error include.continues) (of_alt include.alt (back_of (include.src ∷ []) (alt_sources include.alt) h)) (of_on_error P include.continues))
+        (of_or_else P (alt_run leg include.alt) (on_error include.on_error) (of_alt include.alt (back_of (include.src ∷ []) (alt_sources include.alt) h)) (of_on_error P include.on_error))
     of_element (Choose branches) h = of_chosen (gives (Some [])) branches tt h
     of_element (Try attempt except swapped) h =
         of_or_else P (elements_run r leg attempt) (elements_run r leg except) (of_elements attempt (front_of (sources attempt) (sources except) h))

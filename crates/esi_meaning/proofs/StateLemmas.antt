@@ -3,6 +3,7 @@ use Rattle.std.proofs.Common.{◌≡◌, ◌≢◌, slice_index_or, ℕ, zero, s
 use Rattle.std.proofs.lemmas.List.Elements.{recursion_from_All}
 use Rattle.std.proofs.lemmas.Slice.Eq.{bytes_eq-Decides}
 use Rattle.std.specs.List.{AllByRecursion}
+use Rattle.edge_types.specs.declared.head.Head.{Head}
 use Rattle.edge_types.specs.declared.request.Request.{Request}
 use Rattle.edge_types.specs.declared.answer.Reply.{Reply}
 use Rattle.edge_types.specs.declared.answer.Reply.TheVariants.{Failed, Got}
@@ -101,41 +102,41 @@ found_among_more p (suc k) (suc m) (Asks n v ∷ legs) w h e =
 abbrev state_of : List Answered → ℕ → List Leg → Shown → State
 state_of log m legs outcome = state_from (find (is_missing log) (urls (take m legs))) outcome
 
-module _ (log S T : List Answered) (s : Agrees log S) (t : Agrees log T) (m status : ℕ) (content_type : List ℕ) (a b : Run) (n : Near S T a b) where
+module _ (log S T : List Answered) (s : Agrees log S) (t : Agrees log T) (m : ℕ) (head : Head) (a b : Run) (n : Near S T a b) where
   same_if_found : (found : Option (List ℕ)) → find (is_missing log) (urls (take m a.legs)) ≡ found
-      → state_of log m a.legs (run_outcome m status content_type a) ≡ state_of log m b.legs (run_outcome m status content_type b)
+      → state_of log m a.legs (run_outcome m head a) ≡ state_of log m b.legs (run_outcome m head b)
   same_if_found None is =
-      let both = settled S T m status content_type a b n (all_same log S T s t (urls (take m a.legs)) is) in
-      ap (λ (ws : List (List ℕ)). state_from (find (is_missing log) ws) (run_outcome m status content_type a)) both.0
+      let both = settled S T m head a b n (all_same log S T s t (urls (take m a.legs)) is) in
+      ap (λ (ws : List (List ℕ)). state_from (find (is_missing log) ws) (run_outcome m head a)) both.0
       ∙ ap (λ (o : Shown). state_from (find (is_missing log) (urls (take m b.legs))) o) both.1
   same_if_found (Some w) is =
       let first = first_missing log S T s t m a.legs w is in
       let ahead = (n.at first.k first.alike).ahead in
       let there = subst (λ (legs : List Leg). find (is_missing log) (urls legs) ≡ Some w) ahead first.here in
       let more = found_among_more (is_missing log) (suc first.k) m b.legs w (omega (arith, first.below)) there in
-      ap (λ (f : Option (List ℕ)). state_from f (run_outcome m status content_type a)) is
-      ∙ sym (ap (λ (f : Option (List ℕ)). state_from f (run_outcome m status content_type b)) more)
+      ap (λ (f : Option (List ℕ)). state_from f (run_outcome m head a)) is
+      ∙ sym (ap (λ (f : Option (List ℕ)). state_from f (run_outcome m head b)) more)
 
-  same_state_run : state_of log m a.legs (run_outcome m status content_type a) ≡ state_of log m b.legs (run_outcome m status content_type b)
+  same_state_run : state_of log m a.legs (run_outcome m head a) ≡ state_of log m b.legs (run_outcome m head b)
   same_state_run = same_if_found (find (is_missing log) (urls (take m a.legs))) refl
 
 module _ (r : Request) (log S T : List Answered) (s : Agrees log S) (t : Agrees log T) (L : ℕ) (u : List ℕ) where
-  same_state_tree : (status : ℕ) (content_type : List ℕ) (read : Result Elements ℕ)
-      → state_of log most_legs (tree_legs r S L u read) (tree_outcome r S L u status content_type read) ≡ state_of log most_legs (tree_legs r T L u read) (tree_outcome r T L u status content_type read)
-  same_state_tree status content_type (Ok tree) =
-      same_state_run log S T s t most_legs status content_type (page_run r S L u tree) (page_run r T L u tree) (near-page S T r L u tree)
-  same_state_tree status content_type (Err place) = refl
+  same_state_tree : (head : Head) (read : Result Elements ℕ)
+      → state_of log most_legs (tree_legs r S L u read) (tree_outcome r S L u head read) ≡ state_of log most_legs (tree_legs r T L u read) (tree_outcome r T L u head read)
+  same_state_tree head (Ok tree) =
+      same_state_run log S T s t most_legs head (page_run r S L u tree) (page_run r T L u tree) (near-page S T r L u tree)
+  same_state_tree head (Err place) = refl
 
-  same_state_if : (b : Bool) (status : ℕ) (content_type body : List ℕ)
-      → state_of log most_legs (if b then tree_legs r S L u (tree_of body) else []) (if b then tree_outcome r S L u status content_type (tree_of body) else Page status content_type body)
-      ≡ state_of log most_legs (if b then tree_legs r T L u (tree_of body) else []) (if b then tree_outcome r T L u status content_type (tree_of body) else Page status content_type body)
-  same_state_if true status content_type body = same_state_tree status content_type (tree_of body)
-  same_state_if false status content_type body = refl
+  same_state_if : (b : Bool) (head : Head) (body : List ℕ)
+      → state_of log most_legs (if b then tree_legs r S L u (tree_of body) else []) (if b then tree_outcome r S L u head (tree_of body) else Page head body)
+      ≡ state_of log most_legs (if b then tree_legs r T L u (tree_of body) else []) (if b then tree_outcome r T L u head (tree_of body) else Page head body)
+  same_state_if true head body = same_state_tree head (tree_of body)
+  same_state_if false head body = refl
 
   same_state_reply : (reply : Reply)
       → state_of log most_legs (reply_legs r S L u reply) (reply_outcome r S L u reply) ≡ state_of log most_legs (reply_legs r T L u reply) (reply_outcome r T L u reply)
   same_state_reply Failed = refl
-  same_state_reply (Got status content_type control body) = same_state_if (processed (Got status content_type control body)) status content_type body
+  same_state_reply (Got head control body) = same_state_if (processed (Got head control body)) head body
 
   same_state_page : (b : Bool) → is_missing log u ≡ b → state_over r log S L u ≡ state_over r log T L u
   unfolding asked outcome

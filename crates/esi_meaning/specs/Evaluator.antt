@@ -1,6 +1,7 @@
 -- What the evaluator's arguments denote, in terms of the meaning.
 use Rattle.std.specs.Prelude.{ℕ, suc, ◌+◌, ◌≤◌, List, [], Option, Some, None}
 use Rattle.std.specs.Borrow.{Bor}
+use Rattle.edge_types.specs.declared.head.Head.{Head}
 use Rattle.edge_types.specs.declared.answer.Reply.{Reply}
 use Rattle.edge_types.specs.Outcome.{Shown}
 use Rattle.edge_types.specs.Table.{reply_of}
@@ -69,8 +70,8 @@ fetched_at s level w = tries (Asks (suc level) w) (reply_at s level w (reply_of 
 abbrev pub answered_page : Setting → ℕ → List ℕ → Reply → Shown
 answered_page s levels u reply = reply_outcome s.request.now s.table.now levels u reply
 
-abbrev pub processed_page : Setting → ℕ → List ℕ → ℕ → List ℕ → List ℕ → Shown
-processed_page s levels u status content_type body = tree_outcome s.request.now s.table.now levels u status content_type (tree_of body)
+abbrev pub processed_page : Setting → ℕ → List ℕ → Head → List ℕ → Shown
+processed_page s levels u head body = tree_outcome s.request.now s.table.now levels u head (tree_of body)
 
 -- the elements that a slice lends, if there is one
 abbrev pub shown_slice : Option (Bor (List Node)) → Option Elements

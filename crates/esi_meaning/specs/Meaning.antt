@@ -2,6 +2,7 @@
 -- outputs is that of the ESI Language Specification 1.0; that branches and the parts of a try come in any order, that
 -- an inline is processed in its place, levels, the count of legs and the order of the faults are our profile.
 use Rattle.std.specs.Prelude.{ℕ, zero, suc, ◌≤◌, Bool, true, false, nat_lt, List, [], ◌∷◌, length, take, Option, Some, None, Result, Ok, Err, if◌then◌else◌}
+use Rattle.edge_types.specs.declared.head.Head.{Head}
 use Rattle.edge_types.specs.declared.request.Request.{Request}
 use Rattle.edge_types.specs.declared.answer.Reply.{Reply}
 use Rattle.edge_types.specs.declared.answer.Reply.TheVariants.{Failed, Got}
@@ -13,6 +14,8 @@ use Rattle.edge_types.specs.Outcome.{Shown, Page, Fault}
 use Rattle.esi_vars.specs.declared.part.Part.{Part}
 use Rattle.esi_vars.specs.Values.{substituted}
 use Rattle.esi_expr.specs.Truth.{holds}
+use Rattle.esi_tree.specs.declared.include.OnError.{OnError}
+use Rattle.esi_tree.specs.declared.include.OnError.TheVariants.{Fails, Continues}
 use Rattle.esi_tree.specs.declared.include.Include as code
 use Rattle.esi_tree.specs.Tree.{Element, Text, VarsText, Include, Choose, Try, Vars, Inline, Nothing, Elements, End, Then, Branches, NoBranch, When, Otherwise}
 use Rattle.esi_tree.specs.Reading.{tree_of}
@@ -28,13 +31,13 @@ alt_run leg None = gives None
 alt_run leg (Some alt) = leg alt
 
 -- an include that can't be fetched
-abbrev pub on_error : Bool → Run
-on_error true = gives (Some [])
-on_error false = gives None
+abbrev pub on_error : OnError → Run
+on_error Continues = gives (Some [])
+on_error Fails = gives None
 
 -- what stands for an include whose src can't be had
 abbrev pub alternative_run : (List Part → Run) → code.Include → Run
-alternative_run leg include = or_else (alt_run leg include.alt) (on_error include.continues)
+alternative_run leg include = or_else (alt_run leg include.alt) (on_error include.on_error)
 
 abbrev pub include_run : (List Part → Run) → code.Include → Run
 include_run leg include = or_else (leg include.src) (alternative_run leg include)
@@ -105,15 +108,15 @@ leg_run r T (suc n) u t s = resolved_run r (leg_run r T n) T (suc n) u t (resolv
 abbrev pub page_run : Request → List Answered → ℕ → List ℕ → Elements → Run
 page_run r T n u t = elements_run r (leg_run r T n u t) t
 
--- the page's text with its status and content type
-abbrev pub text_outcome : ℕ → List ℕ → Option (List ℕ) → Shown
-text_outcome status content_type None = Fault IncludeFailed
-text_outcome status content_type (Some text) = Page status content_type text
+-- the page's text under its head
+abbrev pub text_outcome : Head → Option (List ℕ) → Shown
+text_outcome head None = Fault IncludeFailed
+text_outcome head (Some text) = Page head text
 
 -- too many legs are reported before a failure
-abbrev pub run_outcome : ℕ → ℕ → List ℕ → Run → Shown
-run_outcome limit status content_type run =
-    if nat_lt limit (length run.legs) then Fault TooManyLegs else text_outcome status content_type run.text
+abbrev pub run_outcome : ℕ → Head → Run → Shown
+run_outcome limit head run =
+    if nat_lt limit (length run.legs) then Fault TooManyLegs else text_outcome head run.text
 
 -- the most legs that a page may try
 unfoldable pub most_legs : ℕ
@@ -134,15 +137,15 @@ module _ (r : Request) (T : List Answered) (L : ℕ) (u : List ℕ) where
   abbrev pub reply_legs : Reply → List Leg
   reply_legs reply = if processed reply then tree_legs (tree_of (body_of reply)) else []
 
-  abbrev pub tree_outcome : ℕ → List ℕ → Result Elements ℕ → Shown
-  tree_outcome status content_type (Ok t) = run_outcome most_legs status content_type (page_run r T L u t)
-  tree_outcome status content_type (Err place) = Fault (BadTemplate place)
+  abbrev pub tree_outcome : Head → Result Elements ℕ → Shown
+  tree_outcome head (Ok t) = run_outcome most_legs head (page_run r T L u t)
+  tree_outcome head (Err place) = Fault (BadTemplate place)
 
   abbrev pub reply_outcome : Reply → Shown
   reply_outcome Failed = Fault PageFetch
-  reply_outcome (Got status content_type control body) =
-      if processed (Got status content_type control body) then tree_outcome status content_type (tree_of body)
-      else Page status content_type body
+  reply_outcome (Got head control body) =
+      if processed (Got head control body) then tree_outcome head (tree_of body)
+      else Page head body
 
   -- the outcome of the page at the URL u, for the request r over the table T, with L levels
   unfoldable pub outcome : Shown

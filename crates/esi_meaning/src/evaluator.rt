@@ -177,10 +177,10 @@ fn alternative(
         (Ends (alternative_at setting.now standing.entry include.now) progress.old progress.new) }
 {
     let Some(alt) = &include.alt else {
-        return Ok(on_error(include.continues));
+        return Ok(on_error(include.on_error));
     };
     match leg(setting, standing, alt.as_slice(), progress)? {
-        Ending::Failed => Ok(on_error(include.continues)),
+        Ending::Failed => Ok(on_error(include.on_error)),
         ended => Ok(ended),
     }
 }

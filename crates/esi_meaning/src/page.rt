@@ -11,7 +11,7 @@ ghost use Rattle.esi_meaning.specs.Evaluator.{answered_page, processed_page};
 use crate::evaluator::{Setting, Standing, elements};
 use crate::progress::{Ending, Progress, push_whole};
 use edge_types::{
-    Answer, NoMemory, Octets, Outcome, PageBody, PageFault, PageUrl, Reply, Request, SharedBytes,
+    Answer, Head, NoMemory, Outcome, PageBody, PageFault, PageUrl, Reply, Request, SharedBytes,
     Table,
 };
 use esi_tree::{TreeFault, template};
@@ -58,21 +58,14 @@ fn answered_page(
     ensures { IfOk result (λ o. shown o ≡
         answered_page setting.now levels url.now (arc_value answer.now).reply) }
 {
-    let Reply::Got {
-        status,
-        content_type,
-        body,
-        ..
-    } = answer.reply()
-    else {
+    let Reply::Got { head, body, .. } = answer.reply() else {
         return Ok(Outcome::Fault(PageFault::PageFetch));
     };
     if answer.processed() {
-        return processed_page(setting, url, levels, *status, content_type, body);
+        return processed_page(setting, url, levels, head, body);
     }
     Ok(Outcome::Page {
-        status: *status,
-        content_type: content_type.copy(setting.alloc)?,
+        head: head.copy(setting.alloc)?,
         body: whole(setting.alloc, answer)?,
     })
 }
@@ -92,12 +85,11 @@ fn processed_page(
     setting: &Setting<'_>,
     url: &PageUrl,
     levels: u8,
-    status: u16,
-    content_type: &Octets,
+    head: &Head,
     body: &SharedBytes,
 ) -> Result<Outcome, NoMemory>
     ensures { IfOk result (λ o. shown o ≡
-        processed_page setting.now levels url.now status content_type.now body.now) }
+        processed_page setting.now levels url.now head.now body.now) }
 {
     let template = match template(setting.alloc, body) {
         Ok(template) => template,
@@ -115,8 +107,7 @@ fn processed_page(
     };
     match elements(setting, standing, template.nodes(), &mut progress)? {
         Ending::Complete => Ok(Outcome::Page {
-            status,
-            content_type: content_type.copy(setting.alloc)?,
+            head: head.copy(setting.alloc)?,
             body: progress.body,
         }),
         Ending::Failed => Ok(Outcome::Fault(PageFault::IncludeFailed)),

@@ -11,6 +11,7 @@ ghost use Rattle.esi_meaning.specs.Run.{AsksNobody, gives, tries};
 
 use crate::limits::MAX_LEGS;
 use edge_types::{Answer, NoMemory, PageBody, Request, SharedBytes};
+use esi_tree::OnError;
 use esi_vars::{Part, substitute};
 use std::alloc::Global;
 use std::sync::Arc;
@@ -62,13 +63,12 @@ pub(crate) fn push_values(
 }
 
 /// An include that can't be fetched: nothing, or a failure.
-pub(crate) fn on_error(goes_on: bool) -> Ending
-    ensures { (p : Progress) → p.legs ≤ MAX_LEGS → Ends (on_error goes_on) p p result }
+pub(crate) fn on_error(asked: OnError) -> Ending
+    ensures { (p : Progress) → p.legs ≤ MAX_LEGS → Ends (on_error asked) p p result }
 {
-    if goes_on {
-        Ending::Complete
-    } else {
-        Ending::Failed
+    match asked {
+        OnError::Continues => Ending::Complete,
+        OnError::Fails => Ending::Failed,
     }
 }
 

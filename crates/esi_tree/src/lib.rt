@@ -19,7 +19,7 @@ mod tag;
 pub mod tree;
 
 pub use fault::TreeFault;
-pub use include::Include;
+pub use include::{Include, OnError};
 pub use node::{Branch, Node};
 pub use open_element::stands_in_run;
 pub use open_elements::OPEN_LIMIT;

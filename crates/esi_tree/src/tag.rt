@@ -3,13 +3,13 @@ ghost use Rattle.std.specs.Prelude.{◌≡◌, IfOk, option_map};
 ghost use Rattle.esi_vars.specs.Parts.{parts_of};
 ghost use Rattle.esi_tree.specs.Shown.{element_of};
 ghost use Rattle.esi_tree.specs.Items.{bytes_at};
-ghost use Rattle.esi_tree.specs.Attributes.{continues, is_white};
+ghost use Rattle.esi_tree.specs.Attributes.{is_white, on_error_of};
 ghost use Rattle.esi_tree.specs.Reading.{opened_by, text_element};
 ghost use Rattle.esi_tree.specs.State.{frame_of};
 ghost use Rattle.esi_scanner.specs.declared.element_name.ElementName.TheVariants as element;
 
 use crate::halves::Halves;
-use crate::include::Include;
+use crate::include::{Include, OnError};
 use crate::node::Node;
 use crate::open_element::OpenElement;
 use crate::parts::Parts;
@@ -18,9 +18,6 @@ use esi_expr::{Expr, parse};
 use esi_scanner::{Attributes, ElementName, KnownAttribute, Span, Tag};
 use std::alloc::Global;
 use std::sync::Arc;
-
-// The only value of `onerror` that has a meaning.
-const CONTINUE: &[u8] = b"continue";
 
 // The bytes of a text in this span, as a part of it.
 #[tactic(auto, using(crate::proofs::SpanLemmas::clamped))]
@@ -57,14 +54,14 @@ fn parts_of_value(alloc: Global, value: &[u8]) -> Result<Parts, NoMemory>
     Parts::of(alloc, &SharedBytes::copy_of(alloc, value)?)
 }
 
-// Whether the page goes on without the element.
-#[tactic(auto, unfolding(crate::specs::Attributes::continues))]
-fn continues(attributes: &Attributes) -> bool
-    ensures { result ≡ continues attributes.now }
+// What the include of a tag does where nothing that it names can be had.
+#[tactic(auto, unfolding(crate::specs::Attributes::on_error_of))]
+fn on_error_of(attributes: &Attributes) -> OnError
+    ensures { result ≡ on_error_of attributes.now }
 {
     match attributes.value(KnownAttribute::OnError) {
-        Some(value) => value == CONTINUE,
-        None => false,
+        Some(value) => OnError::of(value).unwrap_or(OnError::Fails),
+        None => OnError::Fails,
     }
 }
 
@@ -84,7 +81,7 @@ fn include_of(alloc: Global, attributes: &Attributes) -> Result<Option<OpenEleme
     Ok(Some(OpenElement::Include(Include {
         src,
         alt,
-        continues: continues(attributes),
+        on_error: on_error_of(attributes),
     })))
 }
 

@@ -9,7 +9,7 @@ use Rattle.fragment_cache.specs.Times.{second_after, is_failing}
 -- A URL rests after this reply: its origin fails, as where a failing origin is bridged. 508 says something of who asked, and not of the URL.
 abbrev pub rests_after : Reply → Bool
 rests_after Failed = true
-rests_after (Got status content_type control body) = is_failing (Got status content_type control body) && not (nat_eq status 508)
+rests_after (Got head control body) = is_failing (Got head control body) && not (nat_eq head.status 508)
 
 -- the answers that failed, that of the latest failure first, each until the second from which its URL is asked again; how many there may be; and for how many seconds a URL rests
 pub record Failures : Type 0 where

@@ -103,6 +103,6 @@ fn rests_after(answer: &Answer) -> bool
 {
     match answer.reply() {
         Reply::Failed => true,
-        Reply::Got { status, .. } => 500 <= *status && *status <= 599 && *status != 508,
+        Reply::Got { head, .. } => 500 <= head.status && head.status <= 599 && head.status != 508,
     }
 }

@@ -3,7 +3,9 @@
 use crate::values::print_request;
 use allocation_tools::printing::{answers, bytes, calls, number, out_of_memory, word};
 use bytes::Bytes;
-use edge_types::{NoMemory, Octets, Outcome, PageBody, PageFault, PageUrl, Request, SharedBytes};
+use edge_types::{
+    Head, NoMemory, Octets, Outcome, PageBody, PageFault, PageUrl, Request, SharedBytes,
+};
 use futures::task::{Context, Poll};
 use futures::{Future, FutureExt};
 use http::Response;
@@ -85,8 +87,7 @@ fn page(alloc: Global) -> Option<Arc<Outcome>> {
     let mut body = PageBody::new(alloc);
     body.push(SharedBytes::copy_of(alloc, b"A").ok()?).ok()?;
     let page = Outcome::Page {
-        status: 200,
-        content_type: Octets::copy_of(alloc, b"text/html").ok()?,
+        head: Head::of(200, Octets::copy_of(alloc, b"text/html").ok()?),
         body,
     };
     Arc::new(alloc, page).ok()

@@ -5,7 +5,8 @@ use Rattle.std.proofs.lemmas.Bool.Decides.{nat_tests}
 use Rattle.std.specs.List.{AllByRecursion}
 use Rattle.edge_types.specs.declared.answer.Reply.{Reply}
 use Rattle.edge_types.specs.declared.answer.Reply.TheVariants.{Failed, Got}
-use Rattle.edge_types.specs.Answered.{Answered, is_success}
+use Rattle.edge_types.specs.Answered.{Answered}
+use Rattle.edge_types.specs.Head.{is_success}
 use Rattle.fragment_cache.specs.Times.{second_after, expiry_of, expiry_of_reply, fresh_until, extension_of, is_failing}
 use Rattle.fragment_cache.specs.Machine.{Entry, Entries, Flight, Airspace, Kept, State, Flights, empty, flying, entry_of, left, others, used, stored, fresh, bridge_end, bridging, answer_before, same_number, kept_at, flying_at, landed_at, picks_at, NoneFlies, changed, without, departed, one_more, one_fewer, landed_with, picked}
 use Rattle.fragment_cache.specs.Steps.{PicksUp, Arrives, LandsSomehow, Hit, Join, Lead, Bypass, LookAnswer, Found, Missing, Refused, Here, Flying, Unknown}
@@ -163,13 +164,13 @@ module _ (h : History) (s : State) (number : ℕ) (given : Answered) (flights : 
 -- a reply that is stored is no failing one
 stored-is_failing : (reply : Reply) (at expiry : ℕ) → expiry_of_reply reply at ≡ Some expiry → is_failing reply ≡ false
 stored-is_failing Failed at expiry e = absurd (cc)
-stored-is_failing (Got status content_type control body) at expiry e = by_status (is_success status) refl
+stored-is_failing (Got head control body) at expiry e = by_status (is_success head.status) refl
   where
-    by_status : (b : Bool) → is_success status ≡ b → is_failing (Got status content_type control body) ≡ false
+    by_status : (b : Bool) → is_success head.status ≡ b → is_failing (Got head control body) ≡ false
     by_status true t =
-        let most : nat_le status 299 ≡ true = (and_parts (nat_le 200 status) (nat_le status 299) t).1 in
-        let least : nat_le 500 status ≡ false = grind (arith, nat_tests) in
-        ap (λ (b : Bool). b && nat_le status 599) least
+        let most : nat_le head.status 299 ≡ true = (and_parts (nat_le 200 head.status) (nat_le head.status 299) t).1 in
+        let least : nat_le 500 head.status ≡ false = grind (arith, nat_tests) in
+        ap (λ (b : Bool). b && nat_le head.status 599) least
     by_status false t =
         let none : None ≡ Some expiry = sym (ap (λ (b : Bool). cond (b && not control.no_store) (fresh_until at control.max_age) None) t) ∙ e in
         absurd (cc)

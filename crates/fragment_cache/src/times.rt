@@ -58,6 +58,6 @@ pub fn is_failing(answer: &Answer) -> bool
 {
     match answer.reply() {
         Reply::Failed => true,
-        Reply::Got { status, .. } => 500 <= *status && *status <= 599,
+        Reply::Got { head, .. } => 500 <= head.status && head.status <= 599,
     }
 }

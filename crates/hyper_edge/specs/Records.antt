@@ -12,7 +12,7 @@ IsCopyOrEmpty text kept = (kept ≡ text) ⊎ (kept ≡ [])
 
 -- the status of a page, or its fault
 abbrev pub status_of : Outcome → Result ℕ PageFault
-status_of (outcome.Page status content_type body) = Ok status
+status_of (outcome.Page head body) = Ok head.status
 status_of (outcome.Fault fault) = Err fault
 
 -- why this status was sent: the page has a fault, HTTP can't carry the page, or its origin sent a status from 400 on

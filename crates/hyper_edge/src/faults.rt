@@ -21,7 +21,7 @@ pub(crate) fn status_of(outcome: &Outcome) -> Result<u16, PageFault>
     ensures { result ≡ status_of outcome.now }
 {
     match outcome {
-        Outcome::Page { status, .. } => Ok(*status),
+        Outcome::Page { head, .. } => Ok(head.status),
         Outcome::Fault(fault) => Err(*fault),
     }
 }
@@ -96,7 +96,8 @@ fn message_of(alloc: Global, reason: Reason, answer: &Answer) -> Vec<u8> {
     let message = match answer.reply() {
         Reply::Failed => None,
         Reply::Got { body, .. } if answer.processed() => invalid(alloc, body),
-        Reply::Got { status, .. } if reason == Reason::Page(PageFault::IncludeFailed) => {
+        Reply::Got { head, .. } if reason == Reason::Page(PageFault::IncludeFailed) => {
+            let status = head.status;
             format!(in alloc; "status {status}").ok()
         }
         Reply::Got { .. } => None,

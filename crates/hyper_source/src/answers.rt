@@ -2,15 +2,15 @@
 
 ghost use Rattle.std.specs.Prelude.{◌≡◌, None, IsTrue, IfOk, IfErr};
 ghost use Rattle.fetch_outcomes.specs.declared.fetch_fault.FetchFault.TheVariants as faults;
-ghost use Rattle.hyper_source.specs.Fetches.{AnswersLost, HasControl, IsNotStored, IsRefused, NamesFault, control_asked, lost_with};
+ghost use Rattle.hyper_source.specs.Fetches.{AnswersLost, HasControl, HasHead, IsNotStored, IsRefused, NamesFault, control_asked, lost_with};
 ghost use Rattle.hyper_source.specs.Heads as heads;
 ghost use Rattle.hyper_source.specs.Heads.{EndsByClose};
 
-use crate::fields::{content_type_of, control_for};
+use crate::fields::{control_for, head_of};
 use crate::gathered::Lost;
 use crate::head::is_coded;
 use crate::round_trip::Response;
-use edge_types::{Answer, NoMemory, Octets, PageUrl, SharedBytes};
+use edge_types::{Answer, NoMemory, PageUrl, SharedBytes};
 use fetch_outcomes::FetchFault;
 use http::response::Parts;
 use std::alloc::Global;
@@ -55,10 +55,11 @@ pub(crate) fn answered(
     ensures fault { IfOk result NamesFault }
     ensures coded { IfOk came (λ page. IsTrue (heads.is_coded page.0.headers) → IfOk result (λ fetched. fetched ≡ lost_with faults.Coded url.now)) }
     ensures status { IfOk came (λ page. IsRefused page.0 → IfOk result (λ fetched. fetched ≡ lost_with faults.Status url.now)) }
+    ensures head { IfOk came (λ page. IfOk result (λ fetched. HasHead fetched.answer.reply page.0)) }
     ensures lost { IfErr came (λ lost. AnswersLost lost url.now result) }
 {
     match came {
-        Ok((head, body)) => answer_of(alloc, url, device, &head, body),
+        Ok((parts, body)) => answer_of(alloc, url, device, &parts, body),
         Err(Lost::Fault(fault)) => Fetched::failed(url, fault),
         Err(Lost::NoMemory) => Err(NoMemory),
     }
@@ -69,25 +70,24 @@ fn answer_of(
     alloc: Global,
     url: &PageUrl,
     device: &[u8],
-    head: &Parts,
+    parts: &Parts,
     body: Vec<u8>,
 ) -> Result<Fetched, NoMemory>
     ensures url { IfOk result (λ fetched. fetched.answer.url ≡ url.now) }
     ensures fault { IfOk result NamesFault }
-    ensures coded { IsTrue (heads.is_coded head.now.headers) → IfOk result (λ fetched. fetched ≡ lost_with faults.Coded url.now) }
-    ensures status { IsRefused head.now → IfOk result (λ fetched. fetched ≡ lost_with faults.Status url.now) }
-    ensures framed { ¬ (EndsByClose head.now) → IfOk result (λ fetched. HasControl fetched.answer.reply (control_asked head.now.headers device.now)) }
-    ensures unframed { EndsByClose head.now → IfOk result (λ fetched. IsNotStored fetched.answer.reply) }
+    ensures coded { IsTrue (heads.is_coded parts.now.headers) → IfOk result (λ fetched. fetched ≡ lost_with faults.Coded url.now) }
+    ensures status { IsRefused parts.now → IfOk result (λ fetched. fetched ≡ lost_with faults.Status url.now) }
+    ensures head { IfOk result (λ fetched. HasHead fetched.answer.reply parts.now) }
+    ensures framed { ¬ (EndsByClose parts.now) → IfOk result (λ fetched. HasControl fetched.answer.reply (control_asked parts.now.headers device.now)) }
+    ensures unframed { EndsByClose parts.now → IfOk result (λ fetched. IsNotStored fetched.answer.reply) }
 {
-    let fields = &head.headers;
-    if is_coded(fields) {
+    if is_coded(&parts.headers) {
         return Fetched::failed(url, FetchFault::Coded);
     }
-    let got = Answer::got(
+    let got = Answer::of_head(
         url.share()?,
-        head.status.as_u16(),
-        Octets::copy_of(alloc, content_type_of(fields))?,
-        control_for(alloc, head, device)?,
+        head_of(alloc, parts)?,
+        control_for(alloc, parts, device)?,
         SharedBytes::of(body)?,
     );
     match got {

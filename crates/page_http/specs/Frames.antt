@@ -14,7 +14,7 @@ use Rattle.page_http.specs.declared.body.Frames.TheVariants as held
 
 -- the pieces of an outcome's page; a fault has none
 abbrev pub pieces_of : Outcome → List (List ℕ)
-pieces_of (Page status content_type pieces) = pieces
+pieces_of (Page head pieces) = pieces
 pieces_of (Fault fault) = []
 
 -- what clauses see of a body's frames

@@ -5,6 +5,7 @@ use Rattle.http_body.specs.declared.frame.Frame.{Frame}
 use Rattle.http_body.specs.Frame.{bytes_in}
 use Rattle.edge_types.specs.Answered.{IsAcceptable}
 use Rattle.edge_types.specs.Pieces.{joined}
+use Rattle.edge_types.specs.declared.head.Head.{Head}
 use Rattle.edge_types.specs.declared.outcome.Outcome.{Outcome}
 use Rattle.edge_types.specs.declared.request.Request.{Request}
 use Rattle.page_http.specs.declared.field.Field.{Field}
@@ -23,11 +24,10 @@ AsksOnce =
 abbrev pub TellsOneThing : Type 0
 TellsOneThing = (outcome : Outcome) (one other : Sent) → Tells outcome one → Tells outcome other → one ≡ other
 
--- HTTP carries the status and the type of every answer that the edge accepts
+-- HTTP carries the head of every answer that the edge accepts
 abbrev pub CarriesAnswers : Type 0
 CarriesAnswers =
-    (status : ℕ) (content_type body : List ℕ) → IsAcceptable status content_type body
-    → IsSendable status content_type
+    (head : Head) (body : List ℕ) → IsAcceptable head body → IsSendable head
 
 -- the bytes that came, whatever lack of memory was reported in between
 abbrev pub bytes_of : List (Result (Frame (List ℕ)) AllocError) → List ℕ

@@ -4,6 +4,7 @@ use Rattle.http.specs.declared.response.Response.{Response}
 use Rattle.http.specs.Response.{head_of, body_of}
 use Rattle.http_header.specs.FieldValue.{FieldValue, plain_value, IsFieldValue}
 use Rattle.http_header.specs.HeaderMap.{Entry, Entries}
+use Rattle.edge_types.specs.declared.head.Head.{Head}
 use Rattle.edge_types.specs.declared.outcome.Outcome.{Outcome}
 use Rattle.edge_types.specs.declared.outcome.Outcome.TheVariants.{Page, Fault}
 
@@ -51,25 +52,25 @@ refusal status =
 abbrev pub is_bodiless : ℕ → Bool
 is_bodiless status = status == 204 || status == 205 || status == 304
 
--- a page: its status, its type, and a frame for each piece of its body
-abbrev pub page : ℕ → List ℕ → List (List ℕ) → Sent
-page status content_type pieces = record {
-  status = status;
-  fields = type_field content_type;
-  frames = if is_bodiless status then [] else pieces;
+-- a page: the status and the type of its head, and a frame for each piece of its body
+abbrev pub page : Head → List (List ℕ) → Sent
+page head pieces = record {
+  status = head.status;
+  fields = type_field head.content_type;
+  frames = if is_bodiless head.status then [] else pieces;
 }
 
 -- HTTP carries the status as a final one, and the type as a field's value (RFC 9110, sections 15
 -- and 5.5): so it does for each answer that the edge accepts
-pub record IsSendable (status : ℕ) (content_type : List ℕ) : Type 0 where
-  pub status_from : 200 ≤ status
-  pub status_to : status ≤ 599
-  pub type_value : IsFieldValue content_type
+pub record IsSendable (head : Head) : Type 0 where
+  pub status_from : 200 ≤ head.status
+  pub status_to : head.status ≤ 599
+  pub type_value : IsFieldValue head.content_type
 
 -- a response reports an outcome: a page as it is, and a fault as there being no page. What
 -- HTTP can't carry counts as a fault
 abbrev pub Tells : Outcome → Sent → Type 0
-Tells (Page status content_type pieces) response =
-    (IsSendable status content_type × (response ≡ page status content_type pieces))
-    ⊎ (¬ (IsSendable status content_type) × (response ≡ unassembled))
+Tells (Page head pieces) response =
+    (IsSendable head × (response ≡ page head pieces))
+    ⊎ (¬ (IsSendable head) × (response ≡ unassembled))
 Tells (Fault fault) response = response ≡ unassembled

@@ -4,7 +4,7 @@ ghost use Rattle.std.specs.Arc.{arc_value};
 ghost use Rattle.page_http.specs.Sent as spec;
 
 use crate::body::EdgeBody;
-use edge_types::{MAX_STATUS, MIN_STATUS, NoMemory, Outcome};
+use edge_types::{Head, MAX_STATUS, MIN_STATUS, NoMemory, Outcome};
 use http::header::{ALLOW, CONTENT_TYPE, HeaderValue, HeaderValueError};
 use http::response::Parts;
 use http::{Response, StatusCode};
@@ -23,22 +23,18 @@ use std::sync::Arc;
 pub fn response_of(alloc: Global, outcome: Arc<Outcome>) -> Result<Response<EdgeBody>, NoMemory>
     ensures { IfOk result (λ response. spec.Tells (arc_value outcome) (spec.sent response)) }
 {
-    let (status, head) = match &*outcome {
-        Outcome::Page {
-            status,
-            content_type,
-            ..
-        } => (*status, page_head(alloc, *status, content_type.as_bytes())?),
+    let (status, parts) = match &*outcome {
+        Outcome::Page { head, .. } => (head.status, page_parts(alloc, head)?),
         Outcome::Fault(_) => (0, None),
     };
-    let Some(head) = head else {
-        let head = own_head(alloc, StatusCode::BAD_GATEWAY)?;
-        return Ok(Response::from_parts(head, EdgeBody::text(UNASSEMBLED)));
+    let Some(parts) = parts else {
+        let parts = own_head(alloc, StatusCode::BAD_GATEWAY)?;
+        return Ok(Response::from_parts(parts, EdgeBody::text(UNASSEMBLED)));
     };
     if is_bodiless(status) {
-        return Ok(Response::from_parts(head, EdgeBody::nothing()));
+        return Ok(Response::from_parts(parts, EdgeBody::nothing()));
     }
-    Ok(Response::from_parts(head, EdgeBody::of(outcome)))
+    Ok(Response::from_parts(parts, EdgeBody::of(outcome)))
 }
 
 const UNASSEMBLED: &str = "The page could not be assembled.\n";
@@ -110,28 +106,29 @@ fn own_head(alloc: Global, status: StatusCode) -> Result<Parts, NoMemory>
 }
 
 // The head of a page's response; `None` if HTTP can't carry it.
-fn page_head(alloc: Global, status: u16, content_type: &[u8]) -> Result<Option<Parts>, NoMemory>
-    ensures { IfOk result (λ head. MatchOption head (¬ (spec.IsSendable status content_type.now))
-        (λ head. spec.IsSendable status content_type.now × (head.status ≡ status)
-        × (head.headers ≡ spec.type_field content_type.now))) }
+fn page_parts(alloc: Global, head: &Head) -> Result<Option<Parts>, NoMemory>
+    ensures { IfOk result (λ parts. MatchOption parts (¬ (spec.IsSendable head.now))
+        (λ parts. spec.IsSendable head.now × (parts.status ≡ head.now.status)
+        × (parts.headers ≡ spec.type_field head.now.content_type))) }
 {
-    let Some(status) = final_status(status) else {
+    let Some(status) = final_status(head.status) else {
         return Ok(None);
     };
-    let mut head = Parts::new(alloc);
-    head.status = status;
+    let mut parts = Parts::new(alloc);
+    parts.status = status;
+    let content_type = head.content_type.as_bytes();
     if content_type.is_empty() {
-        return Ok(Some(head));
+        return Ok(Some(parts));
     }
     let value = match HeaderValue::from_bytes(alloc, content_type) {
         Ok(value) => value,
         Err(HeaderValueError::Invalid) => return Ok(None),
         Err(HeaderValueError::OutOfMemory) => return Err(NoMemory),
     };
-    if head.headers.insert(CONTENT_TYPE, value).is_err() {
+    if parts.headers.insert(CONTENT_TYPE, value).is_err() {
         return Err(NoMemory);
     }
-    Ok(Some(head))
+    Ok(Some(parts))
 }
 
 // A status that ends an exchange.

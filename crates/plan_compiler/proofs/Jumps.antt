@@ -1,11 +1,13 @@
 -- No step of a tree jumps past the end of its plan.
 use Rattle.std.proofs.Common.{◌≡◌, ℕ, zero, suc, ◌+◌, ◌≤◌, Bool, true, false, List, [], ◌∷◌, ◌++◌, length, slice_get, Option, Some, None, refl, ap, arith, length-append}
 use Rattle.esi_vars.specs.declared.part.Part.{Part}
+use Rattle.esi_tree.specs.declared.include.OnError.{OnError}
+use Rattle.esi_tree.specs.declared.include.OnError.TheVariants.{Fails, Continues}
 use Rattle.esi_tree.specs.declared.include.Include.{Include}
 use Rattle.esi_tree.specs.Tree as tree
 use Rattle.esi_tree.specs.Tree.{Element, Elements, Branches}
 use Rattle.plan_compiler.specs.Plan.{Step, Test, Jump, Try, EndTry, Leg}
-use Rattle.plan_compiler.specs.Code.{else_code, dropped_code, alternate_code, code_in, code_of, chosen_code}
+use Rattle.plan_compiler.specs.Code.{else_code, last_code, alternate_code, code_in, code_of, chosen_code}
 use Rattle.plan_compiler.specs.Laws.{skip_of, JumpsStay}
 
 -- so many steps stand behind these, and none jumps further
@@ -32,13 +34,13 @@ jumps x y c d over behind b e = (omega (arith, over, length-append c (y ∷ d)),
 else_bounded : (c d : List Step) → Bounded zero c → Bounded zero d → Bounded zero (else_code c d)
 else_bounded c d b e = jumps (Try (length c + 1)) (EndTry (length d)) c d refl refl b e
 
-dropped_bounded : (source : List Part) (goes_on : Bool) → Bounded zero (dropped_code source goes_on)
-dropped_bounded source false = (omega arith, tt)
-dropped_bounded source true = else_bounded (Leg source ∷ []) [] (omega arith, tt) tt
+last_bounded : (source : List Part) (asked : OnError) → Bounded zero (last_code source asked)
+last_bounded source Fails = (omega arith, tt)
+last_bounded source Continues = else_bounded (Leg source ∷ []) [] (omega arith, tt) tt
 
 alternate_bounded : (include : Include) (alt : Option (List Part)) → Bounded zero (alternate_code include alt)
-alternate_bounded include None = dropped_bounded include.src include.continues
-alternate_bounded include (Some alt) = else_bounded (Leg include.src ∷ []) (dropped_code alt include.continues) (omega arith, tt) (dropped_bounded alt include.continues)
+alternate_bounded include None = last_bounded include.src include.on_error
+alternate_bounded include (Some alt) = else_bounded (Leg include.src ∷ []) (last_code alt include.on_error) (omega arith, tt) (last_bounded alt include.on_error)
 
 mutual
   bounded_in : (e : Element) → Bounded zero (code_in e)

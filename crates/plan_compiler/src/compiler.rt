@@ -14,7 +14,7 @@ ghost use Rattle.esi_meaning.specs.Run.{Run};
 ghost use Rattle.plan_compiler.specs.Ahead.{plan_sources};
 ghost use Rattle.plan_compiler.specs.Machine.{frame_run};
 ghost use Rattle.plan_compiler.specs.Bodies.{entries, body_in, body_of, places_in, places_of, places_among, branch_places, kept_behind};
-ghost use Rattle.plan_compiler.specs.Code.{else_code, dropped_code, branch_code, include_code, code_in, code_of, chosen_code};
+ghost use Rattle.plan_compiler.specs.Code.{else_code, last_code, branch_code, include_code, code_in, code_of, chosen_code};
 ghost use Rattle.plan_compiler.specs.Shown.{later_of, later_places, steps_in, inlines_in};
 
 use crate::later_inlines::{LaterInlines, Place};
@@ -22,7 +22,7 @@ use crate::later_steps::LaterSteps;
 use crate::plan::Plan;
 use crate::step::Step;
 use edge_types::{NoMemory, PageUrl};
-use esi_tree::{Branch, Include, Node, Parts, Template};
+use esi_tree::{Branch, Include, Node, OnError, Parts, Template};
 use std::alloc::Global;
 use std::sync::Arc;
 
@@ -109,26 +109,28 @@ fn put_element(
     }
 }
 
-// A leg; if the page goes on without it, a failure outputs nothing.
-fn put_leg(source: &Parts, goes_on: bool, later: &mut LaterSteps) -> Result<(), NoMemory>
-    ensures { OnOk result (later_of later.new ≡ dropped_code source.now goes_on ++ later_of later.old) }
+// The last leg of an include, which does this where the leg fails.
+fn put_last_leg(source: &Parts, on_error: OnError, later: &mut LaterSteps) -> Result<(), NoMemory>
+    ensures { OnOk result (later_of later.new ≡ last_code source.now on_error ++ later_of later.old) }
 {
-    if !goes_on {
-        return later.put_leg(source);
+    match on_error {
+        OnError::Fails => later.put_leg(source),
+        OnError::Continues => {
+            later.put(Step::EndTry { skip: 0 })?;
+            later.put_leg(source)?;
+            later.put(Step::Try { skip: 2 })
+        }
     }
-    later.put(Step::EndTry { skip: 0 })?;
-    later.put_leg(source)?;
-    later.put(Step::Try { skip: 2 })
 }
 
 fn put_include(include: &Include, later: &mut LaterSteps) -> Result<(), NoMemory>
     ensures { OnOk result (later_of later.new ≡ include_code include.now ++ later_of later.old) }
 {
     let Some(alt) = &include.alt else {
-        return put_leg(&include.src, include.continues, later);
+        return put_last_leg(&include.src, include.on_error, later);
     };
     let behind = later.len();
-    put_leg(alt, include.continues, later)?;
+    put_last_leg(alt, include.on_error, later)?;
     let alternate = later.len() - behind;
     later.put(Step::EndTry { skip: alternate })?;
     later.put_leg(&include.src)?;

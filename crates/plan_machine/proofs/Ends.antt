@@ -3,6 +3,7 @@ use Rattle.std.proofs.Common.{◌≡◌, ℕ, zero, suc, ◌+◌, ◌-◌, ◌<�
 use Rattle.std.specs.Option.{option_map}
 use Rattle.std.proofs.lemmas.Bool.{ltb-false}
 use borrow.Author.Tests.{ltb-true}
+use Rattle.edge_types.specs.declared.head.Head.{Head}
 use Rattle.edge_types.specs.declared.request.Request.{Request}
 use Rattle.edge_types.specs.declared.answer.Reply.TheVariants.{Got}
 use Rattle.edge_types.specs.declared.control.Control.{Control}
@@ -205,10 +206,10 @@ lacks_behind log zero (l ∷ ls) more all k e = absurd (omega (arith, e))
 lacks_behind log (suc m) (l ∷ ls) more all k e = rw all.0 (lacks_behind log m ls more all.1 k (omega (arith, e)))
 
 -- the state of a page whose legs and text are these
-module _ (r : Request) (log : List Answered) (L : ℕ) (u : List ℕ) (t : Elements) (status : ℕ) (content_type : List ℕ) (control : Control) (body : List ℕ)
-    (logged : is_missing log u ≡ false) (reply : reply_of log u ≡ Got status content_type control body) (is_template : processed (Got status content_type control body) ≡ true) (read : tree_of body ≡ Ok t) where
+module _ (r : Request) (log : List Answered) (L : ℕ) (u : List ℕ) (t : Elements) (head : Head) (control : Control) (body : List ℕ)
+    (logged : is_missing log u ≡ false) (reply : reply_of log u ≡ Got head control body) (is_template : processed (Got head control body) ≡ true) (read : tree_of body ≡ Ok t) where
   abbrev state_of_run : Run → State
-  state_of_run run = state_from (find (is_missing log) (urls (take most_legs run.legs))) (run_outcome most_legs status content_type run)
+  state_of_run run = state_from (find (is_missing log) (urls (take most_legs run.legs))) (run_outcome most_legs head run)
 
   state_is_run : state r log L u ≡ state_of_run (page_run r log L u t)
   unfolding state outcome asked
@@ -254,7 +255,7 @@ module _ (r : Request) (log : List Answered) (L : ℕ) (u : List ℕ) (t : Eleme
       state_is_run ∙ many_run (page_run r log L u t) m s (step_too_many r log m s.well is)
 
   -- the text is whole, or the page failed
-  rests_run : (run : Run) (m : Machine) → Stands r log run m → m.frames ≡ [] → state_of_run run ≡ Done (text_outcome status content_type (text_so_far m.failed m.out))
+  rests_run : (run : Run) (m : Machine) → Stands r log run m → m.frames ≡ [] → state_of_run run ≡ Done (text_outcome head (text_so_far m.failed m.out))
   unfolding still_to_come
   rests_run run m s none =
       let text : Option (List ℕ) = text_so_far m.failed m.out in
@@ -272,7 +273,7 @@ module _ (r : Request) (log : List Answered) (L : ℕ) (u : List ℕ) (t : Eleme
       none_of zero = refl
       none_of (suc k) = refl
 
-  pub machine_rests : (k : ℕ) (m : Machine) → after r log k (start L u t) ≡ Some m → m.frames ≡ [] → state r log L u ≡ Done (text_outcome status content_type (text_so_far m.failed m.out))
+  pub machine_rests : (k : ℕ) (m : Machine) → after r log k (start L u t) ≡ Some m → m.frames ≡ [] → state r log L u ≡ Done (text_outcome head (text_so_far m.failed m.out))
   machine_rests k m e none =
       let s = page_stands r log L u t (templates_are_single body t read) k m e in
       state_is_run ∙ rests_run (page_run r log L u t) m s none

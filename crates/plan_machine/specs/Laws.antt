@@ -1,5 +1,6 @@
 -- What is true of the machine.
 use Rattle.std.specs.Prelude.{◌≡◌, ◌⊎◌, ℕ, zero, ◌+◌, ◌<◌, ◌≤◌, true, false, List, [], ◌++◌, length, Ok, Some, None}
+use Rattle.edge_types.specs.declared.head.Head.{Head}
 use Rattle.edge_types.specs.declared.request.Request.{Request}
 use Rattle.edge_types.specs.Answered.{Answered, processed}
 use Rattle.esi_tree.specs.Tree.{Elements}
@@ -38,30 +39,30 @@ ComesToTheSame =
     × (page_run request log levels page tree ≡ record { legs = tried ++ (still_to_come request log machine).legs; text = (still_to_come request log machine).text })
 
 -- the page at this URL has this answer in the log, and it is a template with this tree
-pub record IsPage (log : List Answered) (page : List ℕ) (tree : Elements) (status : ℕ) (content_type : List ℕ) : Type 0 where
+pub record IsPage (log : List Answered) (page : List ℕ) (tree : Elements) (head : Head) : Type 0 where
   pub control : Control
   pub body : List ℕ
   pub logged : is_missing log page ≡ false
-  pub reply : reply_of log page ≡ Got status content_type control body
-  pub is_template : processed (Got status content_type control body) ≡ true
+  pub reply : reply_of log page ≡ Got head control body
+  pub is_template : processed (Got head control body) ≡ true
   pub is_tree : tree_of body ≡ Ok tree
 
 -- If a machine stops that was started for a page, it reports the page's state.
 abbrev pub WaitsAsStated : Type 0
 WaitsAsStated =
-    (request : Request) (log : List Answered) (levels : ℕ) (page : List ℕ) (tree : Elements) (status : ℕ) (content_type : List ℕ) → IsPage log page tree status content_type
+    (request : Request) (log : List Answered) (levels : ℕ) (page : List ℕ) (tree : Elements) (head : Head) → IsPage log page tree head
     → (steps : ℕ) (machine : Machine) → after request log steps (start levels page tree) ≡ Some machine → (level : ℕ) (url : List ℕ) → step request log machine ≡ Waits level url
     → (state request log levels page ≡ Waiting url) × (waits_at request log levels page ≡ Some (Asks level url))
 
 abbrev pub TooManyAsStated : Type 0
 TooManyAsStated =
-    (request : Request) (log : List Answered) (levels : ℕ) (page : List ℕ) (tree : Elements) (status : ℕ) (content_type : List ℕ) → IsPage log page tree status content_type
+    (request : Request) (log : List Answered) (levels : ℕ) (page : List ℕ) (tree : Elements) (head : Head) → IsPage log page tree head
     → (steps : ℕ) (machine : Machine) → after request log steps (start levels page tree) ≡ Some machine → step request log machine ≡ TooMany → state request log levels page ≡ Done (Fault TooManyLegs)
 
 abbrev pub EndsAsStated : Type 0
 EndsAsStated =
-    (request : Request) (log : List Answered) (levels : ℕ) (page : List ℕ) (tree : Elements) (status : ℕ) (content_type : List ℕ) → IsPage log page tree status content_type
-    → (steps : ℕ) (machine : Machine) → after request log steps (start levels page tree) ≡ Some machine → machine.frames ≡ [] → state request log levels page ≡ Done (text_outcome status content_type (text_so_far machine.failed machine.out))
+    (request : Request) (log : List Answered) (levels : ℕ) (page : List ℕ) (tree : Elements) (head : Head) → IsPage log page tree head
+    → (steps : ℕ) (machine : Machine) → after request log steps (start levels page tree) ≡ Some machine → machine.frames ≡ [] → state request log levels page ≡ Done (text_outcome head (text_so_far machine.failed machine.out))
 
 -- A page that fails does so at the last leg that it tries, which is the one that its last step tried.
 abbrev pub FailsAtTheLastLeg : Type 0

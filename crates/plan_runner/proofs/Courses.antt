@@ -1,5 +1,6 @@
 -- From a page's own answer to where it waits or is done.
 use Rattle.std.proofs.Common.{◌≡◌, inl, inr, ℕ, ◌+◌, min, Bool, true, false, List, [], ◌∷◌, length, Option, Some, None, is_none, Ok, Err, refl, sym, ◌∙◌, ap, subst, arith, option_and_then}
+use Rattle.edge_types.specs.declared.head.Head.{Head}
 use Rattle.edge_types.specs.declared.request.Request.{Request}
 use Rattle.edge_types.specs.declared.answer.Reply.{Reply}
 use Rattle.edge_types.specs.declared.answer.Reply.TheVariants.{Failed, Got}
@@ -56,37 +57,37 @@ module _ (b : board.State) (sound : IsBoard b) (u : List ℕ) where
       let missing : is_missing (log_of b) u ≡ true = ap is_none e in
       absurd (cc (missing, own.page.logged))
 
-  pub own_got : (a : Answered) → Some a ≡ option_and_then (answer_at b.slots) (number_of b.slots u) → (t : Elements) (status : ℕ) (content_type : List ℕ) (page : IsPage (log_of b) u t status content_type)
-      → a.reply ≡ Got status content_type page.control page.body
-  own_got a is t status content_type page = ap reply_in (sym (own_found a is)) ∙ page.reply
+  pub own_got : (a : Answered) → Some a ≡ option_and_then (answer_at b.slots) (number_of b.slots u) → (t : Elements) (head : Head) (page : IsPage (log_of b) u t head)
+      → a.reply ≡ Got head page.control page.body
+  own_got a is t head page = ap reply_in (sym (own_found a is)) ∙ page.reply
 
   pub own_failed : (a : Answered) → Some a ≡ option_and_then (answer_at b.slots) (number_of b.slots u) → a.reply ≡ Failed → IsTemplate (log_of b) u → ⊥
   own_failed a is failed own =
-      let got : a.reply ≡ Got own.status own.content_type own.page.control own.page.body = own_got a is own.tree own.status own.content_type own.page in
+      let got : a.reply ≡ Got own.head own.page.control own.page.body = own_got a is own.tree own.head own.page in
       absurd (cc (failed, got))
 
 -- a page of this reply's head and this text
 head_with : List ℕ → Reply → Shown
 head_with text Failed = Fault IncludeFailed
-head_with text (Got status content_type control body) = Page status content_type text
+head_with text (Got head control body) = Page head text
 
-pub end_shown : (a : Answered) (s status : ℕ) (c d content_type : List ℕ) (control other : Control) (body bytes : List ℕ) (failed : Bool) (out given : List (List ℕ)) → a.reply ≡ Got s c control body → a.reply ≡ Got status content_type other bytes
-    → d ≡ c → given ≡ out → failed ≡ false → Page s d (joined given) ≡ text_outcome status content_type (text_so_far failed out)
+pub end_shown : (a : Answered) (own copy head : Head) (control other : Control) (body bytes : List ℕ) (failed : Bool) (out given : List (List ℕ)) → a.reply ≡ Got own control body → a.reply ≡ Got head other bytes
+    → copy ≡ own → given ≡ out → failed ≡ false → Page copy (joined given) ≡ text_outcome head (text_so_far failed out)
 unfolding head_with
-end_shown a s status c d content_type control other body bytes failed out given x y copied same whole =
-    let heads : Got s c control body ≡ Got status content_type other bytes = sym x ∙ y in
-    ap (λ (t : List ℕ). Page s t (joined given)) copied ∙ ap (λ (o : List (List ℕ)). Page s c (joined o)) same ∙ ap (head_with (joined out)) heads
-    ∙ ap (λ (f : Bool). text_outcome status content_type (text_so_far f out)) (sym whole)
+end_shown a own copy head control other body bytes failed out given x y copied same whole =
+    let heads : Got own control body ≡ Got head other bytes = sym x ∙ y in
+    ap (λ (h : Head). Page h (joined given)) copied ∙ ap (λ (o : List (List ℕ)). Page own (joined o)) same ∙ ap (head_with (joined out)) heads
+    ∙ ap (λ (f : Bool). text_outcome head (text_so_far f out)) (sym whole)
 
 plain_last : (reply : Reply) → last_step (plain_outcome reply) ≡ 0
 plain_last Failed = refl
-plain_last (Got status content_type control body) = refl
+plain_last (Got head control body) = refl
 
 -- what is told at once
 module _ (r : Request) (log : List Answered) (L : ℕ) (u : List ℕ) (k : ℕ) where
   plain_reply : (reply : Reply) → processed reply ≡ false → (url : List ℕ) → told_of_answer r log L u k (Some (record { url = url; reply = reply })) ≡ Some (Done (plain_outcome reply))
   plain_reply Failed plain url = refl
-  plain_reply (Got status content_type control body) plain url = rw plain refl
+  plain_reply (Got head control body) plain url = rw plain refl
 
   pub plain_told : (a : Answered) → answer_of log u ≡ Some a → processed a.reply ≡ false → (o : Shown) → o ≡ plain_outcome a.reply → told r log L u k ≡ Some (Done o)
   unfolding told
@@ -94,25 +95,25 @@ module _ (r : Request) (log : List Answered) (L : ℕ) (u : List ℕ) (k : ℕ) 
 
   bad_reply : (reply : Reply) (place : ℕ) → processed reply ≡ true → tree_of (body_of reply) ≡ Err place → (url : List ℕ) → told_of_answer r log L u k (Some (record { url = url; reply = reply })) ≡ Some (Done (Fault (BadTemplate place)))
   bad_reply Failed place template bad url = absurd (cc)
-  bad_reply (Got status content_type control body) place template bad url = rw (template, bad) refl
+  bad_reply (Got head control body) place template bad url = rw (template, bad) refl
 
   pub bad_told : (a : Answered) → answer_of log u ≡ Some a → (place : ℕ) → (processed a.reply ≡ true) × (tree_of (body_of a.reply) ≡ Err place) → told r log L u k ≡ Some (Done (Fault (BadTemplate place)))
   unfolding told
   bad_told a found place bad = ap (told_of_answer r log L u k) found ∙ bad_reply a.reply place bad.0 bad.1 a.url
 
-  by_answer : (t : Elements) (status : ℕ) (content_type : List ℕ) (o : Option Answered) → answer_of log u ≡ o → IsPage log u t status content_type → (m : Machine) → after r log k (start L u t) ≡ Some m
-      → told_of_answer r log L u k o ≡ told_by status content_type m (step r log m)
-  by_answer t status content_type None is page m there =
+  by_answer : (t : Elements) (head : Head) (o : Option Answered) → answer_of log u ≡ o → IsPage log u t head → (m : Machine) → after r log k (start L u t) ≡ Some m
+      → told_of_answer r log L u k o ≡ told_by head m (step r log m)
+  by_answer t head None is page m there =
       let missing : is_missing log u ≡ true = ap is_none is in
       absurd (cc (missing, page.logged))
-  by_answer t status content_type (Some a) is page m there =
-      let reply : a.reply ≡ Got status content_type page.control page.body = ap reply_in (sym is) ∙ page.reply in
+  by_answer t head (Some a) is page m there =
+      let reply : a.reply ≡ Got head page.control page.body = ap reply_in (sym is) ∙ page.reply in
       rw (reply, page.is_template, page.is_tree, there) refl
 
-  pub template_told : (t : Elements) (status : ℕ) (content_type : List ℕ) → IsPage log u t status content_type → (m : Machine) → after r log k (start L u t) ≡ Some m
-      → told r log L u k ≡ told_by status content_type m (step r log m)
+  pub template_told : (t : Elements) (head : Head) → IsPage log u t head → (m : Machine) → after r log k (start L u t) ≡ Some m
+      → told r log L u k ≡ told_by head m (step r log m)
   unfolding told
-  template_told t status content_type page m there = by_answer t status content_type (answer_of log u) refl page m there
+  template_told t head page m there = by_answer t head (answer_of log u) refl page m there
 
 pub plain_done : (r : Request) (L : ℕ) (u : List ℕ) (b : board.State) (a : Answered) → answer_of (log_of b) u ≡ Some a → processed a.reply ≡ false → (o : Shown) → o ≡ plain_outcome a.reply → IsDone r L u b 0 o
 plain_done r L u b a found plain o is =
@@ -125,8 +126,8 @@ bad_done r L u b a found place bad = record { count = 0; tells = bad_told r (log
 -- the page's own answer, where it is a template
 page_of : (log : List Answered) (u : List ℕ) (t : Elements) (a : Answered) (reply : Reply) → a.reply ≡ reply → answer_of log u ≡ Some a → processed reply ≡ true → tree_of (body_of reply) ≡ Ok t → IsTemplate log u
 page_of log u t a Failed is found template read = absurd (cc)
-page_of log u t a (Got status content_type control body) is found template read =
-    record { tree = t; status = status; content_type = content_type; page = record { control = control; body = body; logged = ap is_none found; reply = ap reply_in found ∙ is; is_template = template; is_tree = read } }
+page_of log u t a (Got head control body) is found template read =
+    record { tree = t; head = head; page = record { control = control; body = body; logged = ap is_none found; reply = ap reply_in found ∙ is; is_template = template; is_tree = read } }
 
 first_after : (r : Request) (log : List Answered) (x : Machine) → after r log 0 x ≡ Some x
 unfolding after
@@ -136,7 +137,7 @@ tree_is : (log : List Answered) (u : List ℕ) (t : Elements) (a : Answered) (re
     → (page_of log u t a reply is found template read).tree ≡ t
 unfolding page_of
 tree_is log u t a Failed is found template read = absurd (cc)
-tree_is log u t a (Got status content_type control body) is found template read = refl
+tree_is log u t a (Got head control body) is found template read = refl
 
 module _ (r : Request) (L : ℕ) (u : List ℕ) (b : board.State) where
   -- a page before its first step
@@ -158,8 +159,7 @@ module _ (r : Request) (L : ℕ) (u : List ℕ) (b : board.State) where
       let here : shown_machine b p.machine ≡ start L u own.tree = ap (shown_machine b) machine ∙ first in
       record {
         tree = own.tree;
-        status = own.status;
-        content_type = own.content_type;
+        head = own.head;
         page = own.page;
         stands = record { count = 0; there = first_after r (log_of b) (start L u own.tree) ∙ ap Some (sym here); steps = ap (λ (q : Progress). q.steps) is };
         placed = subst (λ (x : code_machine.Machine). ArePlaced b x.frames) (sym machine) (placed (record { answer = a; tree = planned.t; there = sym there; is_processed = form.0; is_tree = planned.read }));
@@ -168,29 +168,29 @@ module _ (r : Request) (L : ℕ) (u : List ℕ) (b : board.State) where
       }
 
   -- the machine is at one leg too many
-  pub too_many : (p : Progress) (tree : Elements) (status : ℕ) (content_type : List ℕ) → IsPage (log_of b) u tree status content_type → StandsAt r b (start L u tree) p
+  pub too_many : (p : Progress) (tree : Elements) (head : Head) → IsPage (log_of b) u tree head → StandsAt r b (start L u tree) p
       → step r (log_of b) (shown_machine b p.machine) ≡ TooMany → (steps : ℕ) → steps ≡ min (p.steps + 1) 18446744073709551615 → IsDone r L u b steps (Fault TooManyLegs)
-  too_many p tree status content_type page s full steps is = record {
+  too_many p tree head page s full steps is = record {
     count = s.count;
-    tells = template_told r (log_of b) L u s.count tree status content_type page _ s.there ∙ ap (told_by status content_type (shown_machine b p.machine)) full;
-    planned = inl (record { tree = tree; status = status; content_type = content_type; page = page });
+    tells = template_told r (log_of b) L u s.count tree head page _ s.there ∙ ap (told_by head (shown_machine b p.machine)) full;
+    planned = inl (record { tree = tree; head = head; page = page });
     steps_are = omega (arith, is, s.steps);
   }
 
-  no_more : (status : ℕ) (content_type : List ℕ) (text : Option (List ℕ)) → last_step (text_outcome status content_type text) ≡ 0
-  no_more status content_type None = refl
-  no_more status content_type (Some text) = refl
+  no_more : (head : Head) (text : Option (List ℕ)) → last_step (text_outcome head text) ≡ 0
+  no_more head None = refl
+  no_more head (Some text) = refl
 
   -- the machine is at its end
-  pub at_end : (p : Progress) (tree : Elements) (status : ℕ) (content_type : List ℕ) → IsPage (log_of b) u tree status content_type → StandsAt r b (start L u tree) p
-      → step r (log_of b) (shown_machine b p.machine) ≡ Rests → (o : Shown) → o ≡ text_outcome status content_type (text_so_far p.machine.failed p.machine.out) → (steps : ℕ) → steps ≡ p.steps → IsDone r L u b steps o
-  at_end p tree status content_type page s rests o is steps same =
-      let none : last_step o ≡ 0 = ap last_step is ∙ no_more status content_type (text_so_far p.machine.failed p.machine.out) in
+  pub at_end : (p : Progress) (tree : Elements) (head : Head) → IsPage (log_of b) u tree head → StandsAt r b (start L u tree) p
+      → step r (log_of b) (shown_machine b p.machine) ≡ Rests → (o : Shown) → o ≡ text_outcome head (text_so_far p.machine.failed p.machine.out) → (steps : ℕ) → steps ≡ p.steps → IsDone r L u b steps o
+  at_end p tree head page s rests o is steps same =
+      let none : last_step o ≡ 0 = ap last_step is ∙ no_more head (text_so_far p.machine.failed p.machine.out) in
       record {
         count = s.count;
         tells =
-            template_told r (log_of b) L u s.count tree status content_type page _ s.there ∙ ap (told_by status content_type (shown_machine b p.machine)) rests
+            template_told r (log_of b) L u s.count tree head page _ s.there ∙ ap (told_by head (shown_machine b p.machine)) rests
             ∙ ap (λ (x : Shown). Some (Done x)) (sym is);
-        planned = inl (record { tree = tree; status = status; content_type = content_type; page = page });
+        planned = inl (record { tree = tree; head = head; page = page });
         steps_are = omega (arith, same, s.steps, none);
       }

@@ -1,5 +1,6 @@
 -- A page that is done stays done when more answers come in.
 use Rattle.std.proofs.Common.{◌≡◌, ℕ, zero, suc, ◌+◌, Bool, true, false, nat_lt, List, [], ◌∷◌, ◌++◌, slice_get, Option, Some, None, Result, Ok, Err, if◌then◌else◌, refl, ◌∙◌, ap, subst}
+use Rattle.edge_types.specs.declared.head.Head.{Head}
 use Rattle.edge_types.specs.declared.request.Request.{Request}
 use Rattle.edge_types.specs.declared.answer.Reply.{Reply}
 use Rattle.edge_types.specs.declared.answer.Reply.TheVariants.{Failed, Got}
@@ -87,31 +88,31 @@ module _ (r : Request) (log more : List Answered) where
   step_ends m = in_ends m.legs m.out m.frames
 
   module _ (L : ℕ) (u : List ℕ) (k : ℕ) (o : Shown) where
-    by_next : (status : ℕ) (content_type : List ℕ) (m : Machine) (x : Next) → step r log m ≡ x → told_by status content_type m x ≡ Some (Done o) → told_by status content_type m (step r (log ++ more) m) ≡ Some (Done o)
+    by_next : (head : Head) (m : Machine) (x : Next) → step r log m ≡ x → told_by head m x ≡ Some (Done o) → told_by head m (step r (log ++ more) m) ≡ Some (Done o)
     unfolding EndStays Makes
-    by_next status content_type m (Went n) e is = absurd (cc)
-    by_next status content_type m (Waits n w) e is = absurd (cc)
-    by_next status content_type m TooMany e is = ap (told_by status content_type m) (step_ends m TooMany (λ x. x) e) ∙ is
-    by_next status content_type m Rests e is = ap (told_by status content_type m) (step_ends m Rests (λ x. x) e) ∙ is
+    by_next head m (Went n) e is = absurd (cc)
+    by_next head m (Waits n w) e is = absurd (cc)
+    by_next head m TooMany e is = ap (told_by head m) (step_ends m TooMany (λ x. x) e) ∙ is
+    by_next head m Rests e is = ap (told_by head m) (step_ends m Rests (λ x. x) e) ∙ is
 
-    by_machine : (status : ℕ) (content_type : List ℕ) (t : Elements) (x : Option Machine) → after r log k (start L u t) ≡ x → told_at r log status content_type x ≡ Some (Done o)
-        → told_at r (log ++ more) status content_type (after r (log ++ more) k (start L u t)) ≡ Some (Done o)
-    by_machine status content_type t None there is = absurd (cc)
-    by_machine status content_type t (Some m) there is =
-        ap (told_at r (log ++ more) status content_type) (after_stays r log more k (start L u t) m there) ∙ by_next status content_type m (step r log m) refl is
+    by_machine : (head : Head) (t : Elements) (x : Option Machine) → after r log k (start L u t) ≡ x → told_at r log head x ≡ Some (Done o)
+        → told_at r (log ++ more) head (after r (log ++ more) k (start L u t)) ≡ Some (Done o)
+    by_machine head t None there is = absurd (cc)
+    by_machine head t (Some m) there is =
+        ap (told_at r (log ++ more) head) (after_stays r log more k (start L u t) m there) ∙ by_next head m (step r log m) refl is
 
-    by_tree : (status : ℕ) (content_type : List ℕ) (t : Result Elements ℕ) → told_of_tree r log L u k status content_type t ≡ Some (Done o) → told_of_tree r (log ++ more) L u k status content_type t ≡ Some (Done o)
-    by_tree status content_type (Ok t) is = by_machine status content_type t (after r log k (start L u t)) refl is
-    by_tree status content_type (Err place) is = is
+    by_tree : (head : Head) (t : Result Elements ℕ) → told_of_tree r log L u k head t ≡ Some (Done o) → told_of_tree r (log ++ more) L u k head t ≡ Some (Done o)
+    by_tree head (Ok t) is = by_machine head t (after r log k (start L u t)) refl is
+    by_tree head (Err place) is = is
 
-    by_kind : (status : ℕ) (content_type body : List ℕ) (b : Bool) (plain : Option State) → (if b then told_of_tree r log L u k status content_type (tree_of body) else plain) ≡ Some (Done o)
-        → (if b then told_of_tree r (log ++ more) L u k status content_type (tree_of body) else plain) ≡ Some (Done o)
-    by_kind status content_type body true plain is = by_tree status content_type (tree_of body) is
-    by_kind status content_type body false plain is = is
+    by_kind : (head : Head) (body : List ℕ) (b : Bool) (plain : Option State) → (if b then told_of_tree r log L u k head (tree_of body) else plain) ≡ Some (Done o)
+        → (if b then told_of_tree r (log ++ more) L u k head (tree_of body) else plain) ≡ Some (Done o)
+    by_kind head body true plain is = by_tree head (tree_of body) is
+    by_kind head body false plain is = is
 
     by_reply : (reply : Reply) → told_of_reply r log L u k reply ≡ Some (Done o) → told_of_reply r (log ++ more) L u k reply ≡ Some (Done o)
     by_reply Failed is = is
-    by_reply (Got status content_type control body) is = by_kind status content_type body (processed (Got status content_type control body)) _ is
+    by_reply (Got head control body) is = by_kind head body (processed (Got head control body)) _ is
 
     by_answer : (x : Option Answered) → answer_of log u ≡ x → told_of_answer r log L u k x ≡ Some (Done o) → told_of_answer r (log ++ more) L u k (answer_of (log ++ more) u) ≡ Some (Done o)
     by_answer None here is = absurd (cc)

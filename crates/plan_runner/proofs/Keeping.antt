@@ -3,6 +3,7 @@ use Rattle.std.proofs.Common.{◌≡◌, ◌≤◌, ◌⊎◌, inl, inr, ℕ, �
 use Rattle.std.proofs.lemmas.List.{append-nil, length-map}
 use Rattle.std.proofs.lemmas.List.Elements.{Contains-push}
 use Rattle.std.specs.List.{Contains}
+use Rattle.edge_types.specs.declared.head.Head.{Head}
 use Rattle.edge_types.specs.declared.request.Request.{Request}
 use Rattle.edge_types.specs.Answered.{Answered}
 use Rattle.edge_types.specs.Outcome.{Shown}
@@ -58,9 +59,9 @@ module _ (b c : State) (more : List Answered) (keeps : KeepsFilled b c) (log : l
   frames_stay [] p = refl
   frames_stay (f ∷ fs) p = ap (λ (g : Frame). g ∷ shown_frames b fs) (frame_stays f p.0) ∙ ap (λ (gs : List Frame). shown_frame c f ∷ gs) (frames_stay fs p.1)
 
-  page_grows : (u : List ℕ) (t : Elements) (status : ℕ) (content_type : List ℕ) (o : Option Answered) → answer_of (log_of b) u ≡ o → IsPage (log_of b) u t status content_type → IsPage (log_of b ++ more) u t status content_type
-  page_grows u t status content_type None is p = let missing : is_missing (log_of b) u ≡ true = ap is_none is in absurd (cc (missing, p.logged))
-  page_grows u t status content_type (Some a) is p =
+  page_grows : (u : List ℕ) (t : Elements) (head : Head) (o : Option Answered) → answer_of (log_of b) u ≡ o → IsPage (log_of b) u t head → IsPage (log_of b ++ more) u t head
+  page_grows u t head None is p = let missing : is_missing (log_of b) u ≡ true = ap is_none is in absurd (cc (missing, p.logged))
+  page_grows u t head (Some a) is p =
       let found : answer_of (log_of b ++ more) u ≡ Some a = found_in_more (is_of u) (log_of b) more a is in
       let same : reply_of (log_of b ++ more) u ≡ reply_of (log_of b) u = ap reply_in (found ∙ sym is) in
       record { control = p.control; body = p.body; logged = ap is_none found; reply = same ∙ p.reply; is_template = p.is_template; is_tree = p.is_tree }
@@ -74,19 +75,18 @@ module _ (b c : State) (more : List Answered) (keeps : KeepsFilled b c) (log : l
     steps = s.steps;
   }
 
-  page_moves : (u : List ℕ) (t : Elements) (status : ℕ) (content_type : List ℕ) → IsPage (log_of b) u t status content_type → IsPage (log_of c) u t status content_type
-  page_moves u t status content_type p = subst (λ (l : List Answered). IsPage l u t status content_type) (sym log) (page_grows u t status content_type (answer_of (log_of b) u) refl p)
+  page_moves : (u : List ℕ) (t : Elements) (head : Head) → IsPage (log_of b) u t head → IsPage (log_of c) u t head
+  page_moves u t head p = subst (λ (l : List Answered). IsPage l u t head) (sym log) (page_grows u t head (answer_of (log_of b) u) refl p)
 
   template_moves : (u : List ℕ) (count : ℕ) → IsTemplate (log_of b) u ⊎ (count ≡ 0) → IsTemplate (log_of c) u ⊎ (count ≡ 0)
-  template_moves u count (inl t) = inl (record { tree = t.tree; status = t.status; content_type = t.content_type; page = page_moves u t.tree t.status t.content_type t.page })
+  template_moves u count (inl t) = inl (record { tree = t.tree; head = t.head; page = page_moves u t.tree t.head t.page })
   template_moves u count (inr none) = inr none
 
   running_moves : (r : Request) (L : ℕ) (u : List ℕ) (p : Progress) → IsRunning r L u b p → IsRunning r L u c p
   running_moves r L u p h = record {
     tree = h.tree;
-    status = h.status;
-    content_type = h.content_type;
-    page = page_moves u h.tree h.status h.content_type h.page;
+    head = h.head;
+    page = page_moves u h.tree h.head h.page;
     stands = stands_moves r _ p h.placed h.stands;
     placed = all_placed_move p.machine.frames h.placed;
     ready = subst (λ (fs : List Frame). Ready p.machine.failed fs) (frames_stay p.machine.frames h.placed) h.ready;
@@ -106,7 +106,7 @@ module _ (b c : State) (more : List Answered) (keeps : KeepsFilled b c) (log : l
   leg_moves r L u last stage.Running h = tt
   leg_moves r L u last (stage.Done outcome) h = λ e.
       let f = h e in
-      record { tree = f.tree; status = f.status; content_type = f.content_type; page = page_moves u f.tree f.status f.content_type f.page; failed_at = failed_at_moves b c more keeps log r (start L u f.tree) last f.failed_at }
+      record { tree = f.tree; head = f.head; page = page_moves u f.tree f.head f.page; failed_at = failed_at_moves b c more keeps log r (start L u f.tree) last f.failed_at }
   leg_moves r L u last stage.Broken h = tt
 
   pub stage_moves : (r : Request) (L : ℕ) (u : List ℕ) (p : Progress) (s : Stage) → IsStage r L u b p s → IsStage r L u c p s
@@ -226,8 +226,7 @@ stage_knows : (r : Request) (L : ℕ) (u : List ℕ) (b : State) (found : Lookup
 stage_knows r L u b found p stage.Unread h = h
 stage_knows r L u b found p stage.Running h = record {
   tree = h.tree;
-  status = h.status;
-  content_type = h.content_type;
+  head = h.head;
   page = h.page;
   stands = record { count = h.stands.count; there = h.stands.there; steps = h.stands.steps };
   placed = h.placed;

@@ -1,5 +1,6 @@
 -- The leg that a page remembers.
 use Rattle.std.proofs.Common.{◌≡◌, ℕ, zero, suc, Bool, true, false, List, [], ◌∷◌, ◌++◌, slice_get, Option, Some, None, option_and_then, refl, sym, ◌∙◌, ap, subst}
+use Rattle.edge_types.specs.declared.head.Head.{Head}
 use Rattle.edge_types.specs.declared.answer.Reply.{Reply}
 use Rattle.edge_types.specs.declared.answer.Reply.TheVariants.{Failed, Got}
 use Rattle.edge_types.specs.declared.outcome.PageFault.TheVariants.{IncludeFailed}
@@ -134,8 +135,8 @@ module _ (r : Request) (b : State) (L : ℕ) (u : List ℕ) where
   held_is (Some number) None h = absurd h
   held_is (Some number) (Some w) h = h.1 ∙ sym h.2
 
-  legs_are : (tree : Elements) (status : ℕ) (content_type : List ℕ) → IsPage (log_of b) u tree status content_type → reply_legs r (log_of b) L u (reply_of (log_of b) u) ≡ (page_run r (log_of b) L u tree).legs
-  legs_are tree status content_type page = rw (page.reply, page.is_template, page.is_tree) refl
+  legs_are : (tree : Elements) (head : Head) → IsPage (log_of b) u tree head → reply_legs r (log_of b) L u (reply_of (log_of b) u) ≡ (page_run r (log_of b) L u tree).legs
+  legs_are tree head page = rw (page.reply, page.is_template, page.is_tree) refl
 
   pub failed_is : (last : Option ℕ) → IsFailedPage r b L u last → option_and_then (answer_at b.slots) last ≡ failed_answer r (log_of b) L u
   failed_is last h =
@@ -143,20 +144,20 @@ module _ (r : Request) (b : State) (L : ℕ) (u : List ℕ) where
       let single : IsSingle h.tree = templates_are_single h.page.body h.tree h.page.is_tree in
       let legs : last_url (page_run r (log_of b) L u h.tree).legs ≡ last_url (tried_in r at.before.frames) = fails_at_the_last_leg r (log_of b) L u h.tree single at.count at.before at.failed at.there at.fails at.is_failed in
       held_is last (last_url (tried_in r at.before.frames)) at.is_last
-      ∙ ap (option_and_then (answer_of (log_of b))) (sym (ap last_url (legs_are h.tree h.status h.content_type h.page) ∙ legs))
+      ∙ ap (option_and_then (answer_of (log_of b))) (sym (ap last_url (legs_are h.tree h.head h.page) ∙ legs))
 
 -- ---- outcomes
 
 pub plain_stands : (reply : Reply) → plain_outcome reply ≡ Fault IncludeFailed → ⊥
 plain_stands Failed e = cc
-plain_stands (Got status content_type control body) e = cc
+plain_stands (Got head control body) e = cc
 
 -- a page that ends by a failure failed at the leg that its machine remembers
-pub failed_page : (r : Request) (b : State) (L : ℕ) (u : List ℕ) (tree : Elements) (status : ℕ) (content_type : List ℕ) → IsPage (log_of b) u tree status content_type → (m : code_machine.Machine) → FailsAt r b (start L u tree) m
-    → (last : Option ℕ) → last ≡ m.last → text_outcome status content_type (text_so_far m.failed m.out) ≡ Fault IncludeFailed → IsFailedPage r b L u last
-failed_page r b L u tree status content_type page m fails last same e =
-    record { tree = tree; status = status; content_type = content_type; page = page; failed_at = subst (FailedAt r b (start L u tree)) (sym same) (fails (has_failed m.failed e)) }
+pub failed_page : (r : Request) (b : State) (L : ℕ) (u : List ℕ) (tree : Elements) (head : Head) → IsPage (log_of b) u tree head → (m : code_machine.Machine) → FailsAt r b (start L u tree) m
+    → (last : Option ℕ) → last ≡ m.last → text_outcome head (text_so_far m.failed m.out) ≡ Fault IncludeFailed → IsFailedPage r b L u last
+failed_page r b L u tree head page m fails last same e =
+    record { tree = tree; head = head; page = page; failed_at = subst (FailedAt r b (start L u tree)) (sym same) (fails (has_failed m.failed e)) }
   where
-    has_failed : (failed : Bool) → text_outcome status content_type (text_so_far failed m.out) ≡ Fault IncludeFailed → failed ≡ true
+    has_failed : (failed : Bool) → text_outcome head (text_so_far failed m.out) ≡ Fault IncludeFailed → failed ≡ true
     has_failed true is = refl
     has_failed false is = absurd (cc)

@@ -40,7 +40,7 @@ module _ (r : Request) (L : ℕ) (u : List ℕ) where
     both : (p : Progress) (level : ℕ) (w : List ℕ) → IsWaiting r L u b p level w → (state r (log_of b) L u ≡ Waiting w) × (waits_at r (log_of b) L u ≡ Some (Asks level w))
     both p level w h =
         let x = h.running in
-        machine_waits r (log_of b) L u x.tree x.status x.content_type x.page.control x.page.body x.page.logged x.page.reply x.page.is_template x.page.is_tree x.stands.count (shown_machine b p.machine) x.stands.there level w h.waits
+        machine_waits r (log_of b) L u x.tree x.head x.page.control x.page.body x.page.logged x.page.reply x.page.is_template x.page.is_tree x.stands.count (shown_machine b p.machine) x.stands.there level w h.waits
 
     pub waiting_state : (p : Progress) (level : ℕ) (w : List ℕ) → IsWaiting r L u b p level w → state r (log_of b) L u ≡ Waiting w
     waiting_state p level w h = (both p level w h).0

@@ -1,5 +1,6 @@
 -- Which leg a page remembers: the one that was tried last, by the slot of the answer that it asked for.
 use Rattle.std.specs.Prelude.{◌≡◌, ℕ, true, List, Option, Some, None, ⊤}
+use Rattle.edge_types.specs.declared.head.Head.{Head}
 use Rattle.edge_types.specs.declared.outcome.PageFault.TheVariants.{IncludeFailed}
 use Rattle.edge_types.specs.declared.request.Request.{Request}
 use Rattle.edge_types.specs.Answered.{Answered}
@@ -61,9 +62,8 @@ module _ (r : Request) (b : State) where
     -- the page is a template whose machine failed at this leg
     pub record IsFailedPage (last : Option ℕ) : Type 0 where
       pub tree : Elements
-      pub status : ℕ
-      pub content_type : List ℕ
-      pub page : IsPage (log_of b) u tree status content_type
+      pub head : Head
+      pub page : IsPage (log_of b) u tree head
       pub failed_at : FailedAt (start L u tree) last
 
     -- a page whose outcome is that it failed

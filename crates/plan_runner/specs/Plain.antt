@@ -6,4 +6,4 @@ use Rattle.edge_types.specs.Outcome.{Shown, Page, Fault}
 
 abbrev pub plain_outcome : Reply → Shown
 plain_outcome Failed = Fault PageFetch
-plain_outcome (Got status content_type control body) = Page status content_type body
+plain_outcome (Got head control body) = Page head body

@@ -1,5 +1,6 @@
 -- How far a page is, over the answers that are logged.
 use Rattle.std.specs.Prelude.{◌≡◌, ◌⊎◌, ℕ, ◌+◌, min, false, List, Some, None}
+use Rattle.edge_types.specs.declared.head.Head.{Head}
 use Rattle.edge_types.specs.declared.request.Request.{Request}
 use Rattle.edge_types.specs.declared.outcome.PageFault.TheVariants.{PageFetch, BadTemplate, IncludeFailed, TooManyLegs}
 use Rattle.edge_types.specs.Answered.{Answered}
@@ -23,7 +24,7 @@ use Rattle.plan_runner.specs.Shown.{shown_frames, shown_machine, ArePlaced}
 
 -- the step that meets one leg too many is counted on top of those that were made
 abbrev pub last_step : Shown → ℕ
-last_step (Page status content_type body) = 0
+last_step (Page head body) = 0
 last_step (Fault PageFetch) = 0
 last_step (Fault (BadTemplate place)) = 0
 last_step (Fault IncludeFailed) = 0
@@ -32,17 +33,15 @@ last_step (Fault TooManyLegs) = 1
 -- the page's own answer is logged, and a template
 pub record IsTemplate (log : List Answered) (u : List ℕ) : Type 0 where
   pub tree : Elements
-  pub status : ℕ
-  pub content_type : List ℕ
-  pub page : IsPage log u tree status content_type
+  pub head : Head
+  pub page : IsPage log u tree head
 
 module _ (r : Request) (L : ℕ) (u : List ℕ) (b : State) where
   -- the page is a template, and its machine is where one is that was started afresh over the logged answers
   pub record IsRunning (p : Progress) : Type 0 where
     pub tree : Elements
-    pub status : ℕ
-    pub content_type : List ℕ
-    pub page : IsPage (log_of b) u tree status content_type
+    pub head : Head
+    pub page : IsPage (log_of b) u tree head
     pub stands : StandsAt r b (start L u tree) p
     pub placed : ArePlaced b p.machine.frames
     pub ready : Ready p.machine.failed (shown_frames b p.machine.frames)

@@ -3,6 +3,7 @@ ghost use Rattle.std.specs.Prelude.{◌≡◌, ℕ, List, IfOk};
 ghost use Rattle.std.specs.Arc.{arc_value};
 ghost use Rattle.answer_board.specs.Board.{log_of};
 ghost use Rattle.edge_types.specs.Outcome.{shown};
+ghost use Rattle.edge_types.specs.declared.head.Head.{Head};
 ghost use Rattle.esi_meaning.specs.Meaning.{text_outcome};
 ghost use Rattle.plan_machine.specs.Laws.{IsPage};
 ghost use Rattle.plan_machine.specs.Rests.{text_so_far};
@@ -121,30 +122,21 @@ fn begin(
 fn plain(alloc: Global, answer: &Arc<Answer>, most: usize) -> Result<Outcome, NoMemory>
     ensures { IfOk result (λ o. shown o ≡ plain_outcome (arc_value answer.now).reply) }
 {
-    let Reply::Got {
-        status,
-        content_type,
-        ..
-    } = answer.reply()
-    else {
+    let Reply::Got { head, .. } = answer.reply() else {
         return Ok(Outcome::Fault(PageFault::PageFetch));
     };
     let mut body = PageBody::new(alloc);
     body.push(answer.share_body()?)?;
     check_len(&body, most)?;
-    let content_type = content_type.copy(alloc)?;
-    Ok(Outcome::Page {
-        status: *status,
-        content_type,
-        body,
-    })
+    let head = head.copy(alloc)?;
+    Ok(Outcome::Page { head, body })
 }
 
 // The outcome of a page whose machine has come to its end.
 fn ended(setting: &Setting<'_>, url: &PageUrl, progress: &mut Progress) -> Result<Outcome, NoMemory>
     requires template { IsTemplate (log_of setting.now.board.now) url.now }
-    ensures shown { IfOk result (λ o. (tree : Elements) (status : ℕ) (content_type : List ℕ) → IsPage (log_of setting.now.board.now) url.now tree status content_type
-        → shown o ≡ text_outcome status content_type (text_so_far progress.old.machine.failed progress.old.machine.out)) }
+    ensures shown { IfOk result (λ o. (tree : Elements) (head : Head) → IsPage (log_of setting.now.board.now) url.now tree head
+        → shown o ≡ text_outcome head (text_so_far progress.old.machine.failed progress.old.machine.out)) }
     ensures steps { progress.new.steps ≡ progress.old.steps }
     ensures last { progress.new.machine.last ≡ progress.old.machine.last }
 {
@@ -156,19 +148,10 @@ fn ended(setting: &Setting<'_>, url: &PageUrl, progress: &mut Progress) -> Resul
     let Some(own) = setting.board.get(url) else {
         unreachable!()
     };
-    let Reply::Got {
-        status,
-        content_type,
-        ..
-    } = own.answer().reply()
-    else {
+    let Reply::Got { head, .. } = own.answer().reply() else {
         unreachable!()
     };
-    let content_type = content_type.copy(setting.alloc)?;
+    let head = head.copy(setting.alloc)?;
     let body = mem::replace(&mut progress.machine.out, PageBody::new(setting.alloc));
-    Ok(Outcome::Page {
-        status: *status,
-        content_type,
-        body,
-    })
+    Ok(Outcome::Page { head, body })
 }

@@ -31,8 +31,8 @@ fn push_page(
     table.insert(Arc::new(alloc, answer).ok()?).ok()?;
     let request = Request::empty();
     match &esi_meaning::plain_page(alloc, url, &request, table, 4).ok()? {
-        Outcome::Page { status, body, .. } => {
-            line.display(status);
+        Outcome::Page { head, body } => {
+            line.display(&head.status);
             line.push(" ");
             push_pieces(line, body);
         }

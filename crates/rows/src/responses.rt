@@ -3,7 +3,7 @@
 use crate::row::{Line, number, pair};
 use crate::values::fault_of;
 use bytes::Bytes;
-use edge_types::{Octets, Outcome, PageBody, SharedBytes, around};
+use edge_types::{Head, Octets, Outcome, PageBody, SharedBytes, around};
 use futures::FutureExt;
 use futures::future::poll_fn;
 use http::Response;
@@ -31,8 +31,7 @@ fn outcome(alloc: Global, row: &[u8]) -> Option<Outcome> {
     let mut body = PageBody::new(alloc);
     push_pieces(alloc, &mut body, pieces)?;
     Some(Outcome::Page {
-        status,
-        content_type,
+        head: Head::of(status, content_type),
         body,
     })
 }
@@ -117,8 +116,7 @@ fn shared_page(alloc: Global, row: &[u8]) -> Option<Outcome> {
         body.push(piece.share().ok()?).ok()?;
     }
     Some(Outcome::Page {
-        status: 200,
-        content_type: Octets::empty(alloc),
+        head: Head::of(200, Octets::empty(alloc)),
         body,
     })
 }

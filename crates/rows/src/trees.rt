@@ -3,7 +3,7 @@
 use crate::language::push_parts;
 use crate::row::{Line, number};
 use edge_types::SharedBytes;
-use esi_tree::{Branch, Include, Node, TreeFault};
+use esi_tree::{Branch, Include, Node, OnError, TreeFault};
 use std::alloc::Global;
 
 /// The nodes of a template, a bar after each: text as it is and, inside a `vars`, after a `~`; an include as `{src}`,
@@ -92,5 +92,8 @@ fn push_include(line: &mut Line, include: &Include) {
         line.push(",");
         push_parts(line, alt.as_slice());
     }
-    line.push(if include.continues { "}?" } else { "}" });
+    line.push(match include.on_error {
+        OnError::Fails => "}",
+        OnError::Continues => "}?",
+    });
 }

@@ -10,7 +10,7 @@ use Rattle.answer_sources.specs.declared.given.Given.{Given}
 -- the request for it went in a circle, so it was refused (RFC 5842, section 7.2)
 unfoldable pub says_circle : Reply → Bool
 says_circle Failed = false
-says_circle (Got status content_type control body) = status == 508
+says_circle (Got head control body) = head.status == 508
 
 -- an answer for whoever asks for a URL, whoever led its flight
 pub record IsForAll (url : List ℕ) (answer : Answered) : Type 0 where

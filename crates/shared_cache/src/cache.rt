@@ -56,7 +56,7 @@ fn says_circle(reply: &Reply) -> bool
 {
     match reply {
         Reply::Failed => false,
-        Reply::Got { status, .. } => *status == LOOP_DETECTED,
+        Reply::Got { head, .. } => head.status == LOOP_DETECTED,
     }
 }
 

@@ -1,5 +1,5 @@
 -- Likely mistakes in a tag that aren't faults.
-use Rattle.std.specs.Prelude.{ℕ, Bool, true, false, not, ◌&&◌, ◌==◌, List, [], ◌∷◌, length, codes, bytes_eq, Option, Some, None, if◌then◌else◌}
+use Rattle.std.specs.Prelude.{ℕ, Bool, true, false, not, ◌&&◌, ◌==◌, List, [], ◌∷◌, length, codes, bytes_eq, Option, Some, None, is_none, if◌then◌else◌}
 use Rattle.std.specs.Str.{byte}
 use Rattle.std.specs.List.{list_any}
 use Rattle.esi_scanner.specs.declared.attribute.Attribute.{Attribute}
@@ -11,6 +11,7 @@ use Rattle.esi_scanner.specs.declared.element_name.ElementName.TheVariants as el
 use Rattle.esi_scanner.specs.declared.tag.Tag.{Tag}
 use Rattle.esi_scanner.specs.Bytes.{begins_with}
 use Rattle.esi_scanner.specs.Tag.{value_of}
+use Rattle.esi_tree.specs.Attributes.{on_error_for}
 use Rattle.template_check.specs.declared.warning.Warning.{Warning}
 use Rattle.template_check.specs.declared.warning.Warning.TheVariants as warning
 
@@ -27,9 +28,9 @@ abbrev passes : (List ℕ → Bool) → Option (List ℕ) → Bool
 passes test None = false
 passes test (Some value) = test value
 
--- an `onerror` other than the only value that has a meaning
+-- an `onerror` that has no meaning
 abbrev pub is_idle_onerror : List Attribute → Bool
-is_idle_onerror attributes = passes (λ value. not (bytes_eq value (codes "continue"))) (value_of known.OnError attributes)
+is_idle_onerror attributes = passes (λ value. is_none (on_error_for value)) (value_of known.OnError attributes)
 
 -- a name that the language doesn't define
 abbrev unknown_name : AttributeName → Bool

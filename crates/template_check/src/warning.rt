@@ -6,13 +6,14 @@ ghost use Rattle.template_check.specs.Messages.{warning_words};
 ghost use Rattle.template_check.specs.Warnings as spec;
 
 use esi_scanner::{Attribute, AttributeName, Attributes, ElementName, KnownAttribute, Tag};
+use esi_tree::OnError;
 use esi_vars::Variable;
 use std::fmt;
 
 /// A likely mistake in a template that isn't a fault.
 #[derive(Clone, Copy, Debug, Drop, PartialEq, Eq)]
 pub enum Warning {
-    /// An `onerror` of an include that isn't `continue`: it counts as absent.
+    /// An `onerror` of an include that has no meaning: it counts as absent.
     OnError,
     /// An attribute that the language doesn't name: it has no meaning.
     UnknownAttribute,
@@ -82,7 +83,7 @@ fn is_idle_onerror(attributes: &Attributes) -> bool
     ensures { result ≡ spec.is_idle_onerror attributes.now }
 {
     match attributes.value(KnownAttribute::OnError) {
-        Some(value) => value != b"continue".as_slice(),
+        Some(value) => OnError::of(value).is_none(),
         None => false,
     }
 }

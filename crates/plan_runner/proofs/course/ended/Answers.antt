@@ -16,6 +16,6 @@ returns-clause-shown c =
     let b = c.args.setting.now.board.now in
     let a = c.in-Some.own.now in
     let reply = sym (c.reply.ensures.value ∙ ap (λ (x : Answered). x.reply) (c.deref.ensures ∙ c.answer.ensures)) ∙ c.in-Got.is in
-    λ tree status content_type page.
-    end_shown a _ status _ _ content_type _ _ _ _ _ _ _ reply (own_got b c.filled.ensures.sound c.args.url.now a (rw c.in-Some.is at c.get.ensures) tree status content_type page)
-    c.in_ok-content_type.ensures c.replace-body.ensures.value c.if-progress.false
+    λ tree head page.
+    end_shown a _ _ head _ _ _ _ _ _ _ reply (own_got b c.filled.ensures.sound c.args.url.now a (rw c.in-Some.is at c.get.ensures) tree head page)
+    c.in_ok-head.ensures c.replace-body.ensures.value c.if-progress.false

@@ -15,8 +15,7 @@ returns-in-Waits c =
     record {
       running = record {
         tree = h.tree;
-        status = h.status;
-        content_type = h.content_type;
+        head = h.head;
         page = h.page;
         stands = c.in_ok-level.ensures.stands _ h.stands;
         placed = c.in_ok-level.ensures.placed;
@@ -29,7 +28,7 @@ returns-in-Waits c =
 pub returns-in-TooMany : goal.returns-in-TooMany
 returns-in-TooMany c =
     let h = c.requires.running in (
-      too_many c.args.setting.now.request.now c.args.levels c.args.url.now c.args.setting.now.board.now c.advance.new.progress h.tree h.status h.content_type h.page (c.in_ok-level.ensures.stands _ h.stands)
+      too_many c.args.setting.now.request.now c.args.levels c.args.url.now c.args.setting.now.board.now c.advance.new.progress h.tree h.head h.page (c.in_ok-level.ensures.stands _ h.stands)
           (rw c.in-TooMany.is at c.in_ok-level.ensures.told) _ c.saturating_add-progress.ensures,
       λ e. absurd (cc),
     )
@@ -39,9 +38,9 @@ returns-in_ok-outcome-in-End c =
     let h = c.requires.running in
     let r = c.args.setting.now.request.now in
     let b = c.args.setting.now.board.now in
-    let shown_is = c.in_ok-outcome-in-End.ensures.shown h.tree h.status h.content_type h.page in (
-      at_end r c.args.levels c.args.url.now b c.advance.new.progress h.tree h.status h.content_type h.page (c.in_ok-level.ensures.stands _ h.stands)
+    let shown_is = c.in_ok-outcome-in-End.ensures.shown h.tree h.head h.page in (
+      at_end r c.args.levels c.args.url.now b c.advance.new.progress h.tree h.head h.page (c.in_ok-level.ensures.stands _ h.stands)
           (rw c.in-End.is at c.in_ok-level.ensures.told) _ shown_is _ c.in_ok-outcome-in-End.ensures.steps,
-      λ e. failed_page r b c.args.levels c.args.url.now h.tree h.status h.content_type h.page c.advance.new.progress.machine
+      λ e. failed_page r b c.args.levels c.args.url.now h.tree h.head h.page c.advance.new.progress.machine
           (c.in_ok-level.ensures.fails (start c.args.levels c.args.url.now h.tree) h.stands (λ failed. let going = h.going in absurd (cc))) _ c.in_ok-outcome-in-End.ensures.last (sym shown_is ∙ e),
     )
