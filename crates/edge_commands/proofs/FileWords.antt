@@ -4,7 +4,7 @@ use Rattle.clap.specs.Words.{Row, Text, all_of, fault_of, first_of, subcommand_o
 use Rattle.clap.specs.declared.error.kind.ErrorKind.TheVariants.{MissingRequiredArgument}
 use Rattle.clap.proofs.OnLiterals.{clap_on_literals}
 use Rattle.edge_setup.specs.Check.{files_of}
-use Rattle.edge_setup.specs.Words.{is_set}
+use Rattle.edge_setup.specs.Rules.{is_set}
 use Rattle.edge_setup.specs.declared.check.Checking.{Checking}
 use Rattle.edge_commands.specs.CommandLine.{program, AsksCheck}
 use Rattle.edge_commands.specs.Laws.{IsPlain, AskForCheck, FilesAreAsked, FilesAreWanted}

@@ -12,7 +12,8 @@ use Rattle.edge_case.specs.Order.{events_of}
 use Rattle.edge_setup.specs.Case.{case_command}
 use Rattle.edge_setup.specs.Check.{check_command, SaysChecking}
 use Rattle.edge_setup.specs.Command.{serve_command}
-use Rattle.edge_setup.specs.Words.{IsFirstWrong, SaysSetup, is_set}
+use Rattle.edge_setup.specs.Rules.{is_set}
+use Rattle.edge_setup.specs.Words.{IsFirstWrong, SaysSetup}
 use Rattle.edge_setup.specs.declared.check.Checking.{Checking}
 use Rattle.edge_setup.specs.declared.setup.Setup.{Setup}
 use Rattle.edge_commands.specs.declared.command.Asked.{Asked}

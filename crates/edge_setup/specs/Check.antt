@@ -3,8 +3,7 @@ use Rattle.std.specs.Prelude.{◌≡◌, List, [], map, true, codes, Option, Som
 use Rattle.clap.specs.Words.{App, Row, Rule, Text, all_of, first_of, new_app, new_rule, with_rule}
 use Rattle.clap.specs.declared.builder.action.ArgAction.TheVariants.{Append}
 use Rattle.edge_setup.specs.declared.check.Checking.{Checking}
-use Rattle.edge_setup.specs.Rules.{named_flag}
-use Rattle.edge_setup.specs.Words.{is_set}
+use Rattle.edge_setup.specs.Rules.{is_set, named_flag}
 
 -- words without an option, one or more
 abbrev pub named_files : Text → Rule

@@ -3,12 +3,14 @@ use Rattle.std.specs.Prelude.{Bool, true, false, ◌||◌, List, [], ◌∷◌, 
 use Rattle.std.specs.Borrow.{Bor}
 use Rattle.std.specs.List.{flat_map}
 use Rattle.std.specs.Option.{option_map_or}
-use Rattle.clap.specs.Words.{Row, Text, all_of, first_of}
+use Rattle.clap.specs.Words.{Row, Text, first_of}
 use Rattle.clap.specs.declared.builder.action.ArgAction.{ArgAction}
 use Rattle.clap.specs.declared.builder.action.ArgAction.TheVariants.{Set, SetTrue}
 use Rattle.clap.specs.declared.builder.arg.Arg.{Arg}
 use Rattle.config_file.specs.Lines.{is_of_line, is_origin}
 use Rattle.config_file.specs.Writing.{line_text, row_text}
+use Rattle.edge_setup.specs.Options.{all_words_said}
+use Rattle.edge_setup.specs.declared.word.Word.TheVariants as word
 
 abbrev sets_true : ArgAction → Bool
 sets_true SetTrue = true
@@ -43,4 +45,4 @@ origins_text (Some words) = codes "\n[origins]\n" ++ rows_text words
 
 -- the options in the order of the command, and then the origins
 abbrev pub held_text : List Arg → List Row → Text
-held_text options rows = flat_map (line_of rows) options ++ origins_text (all_of (codes "origin") rows)
+held_text options rows = flat_map (line_of rows) options ++ origins_text (all_words_said word.Origin rows)

@@ -1,5 +1,6 @@
 -- Options, by `clap`'s definitions.
-use Rattle.std.specs.Prelude.{true, [], ◌∷◌, Some}
+use Rattle.std.specs.Prelude.{Bool, true, false, bytes_eq, [], ◌∷◌, codes, Option, Some}
+use Rattle.std.specs.Option.{option_map_or}
 use Rattle.clap.specs.Words.{Rule, Text, new_rule}
 use Rattle.clap.specs.declared.builder.action.ArgAction.TheVariants.{Append, SetTrue}
 
@@ -22,3 +23,7 @@ repeated option = record option { action = Some Append }
 -- an option `--NAME` without a word
 abbrev pub named_flag : Text → Rule
 named_flag name = record (new_rule name) { long = Some name; action = Some SetTrue }
+
+-- whether it is set, by its word
+abbrev pub is_set : Option Text → Bool
+is_set word = option_map_or (λ w. bytes_eq w (codes "true")) word false

@@ -2,14 +2,14 @@
 use Rattle.std.specs.Prelude.{◌≡◌, ◌⊎◌, ℕ, ◌<◌, Bool, true, false, ◌&&◌, ◌||◌, bytes_eq, nat_le, List, [], ◌∷◌, map, take, length, get_or, codes, Option, Some, None, option_map, is_some, ◌==◌, IsSome, MatchOption, if◌then◌else◌}
 use Rattle.std.specs.Str.{byte}
 use Rattle.std.specs.List.{list_all, list_any, slice_split}
-use Rattle.std.specs.Option.{option_map_or}
 use Rattle.std.specs.Net.Grammar.{IsSocketText}
 use Rattle.std.specs.declared.net.socket_addr.SocketAddr.{SocketAddr}
-use Rattle.clap.specs.Words.{Row, Text, all_of, first_of}
+use Rattle.clap.specs.Words.{Row, Text}
 use Rattle.access_log.specs.declared.format.LogFormat.{LogFormat}
 use Rattle.access_log.specs.declared.format.LogFormat.TheVariants as format
 use Rattle.edge_types.specs.Halves.{around}
 use Rattle.edge_setup.specs.Numbers.{all_said, numbers, place_of, row_of, said_of}
+use Rattle.edge_setup.specs.Options.{all_words_said, is_flag_set, word_said}
 use Rattle.edge_setup.specs.Said.{SaysNumbers}
 use Rattle.surrogate_headers.specs.Token.{is_token}
 use Rattle.edge_setup.specs.OriginWord.{is_authority, is_name, IsFaultOf, IsPlace}
@@ -19,20 +19,16 @@ use Rattle.edge_setup.specs.declared.origin.OriginFault.TheVariants as origin_fa
 use Rattle.edge_setup.specs.declared.origin.Place.{Place}
 use Rattle.edge_setup.specs.declared.setup.Addresses.{Addresses}
 use Rattle.edge_setup.specs.declared.setup.Origin.{Origin}
+use Rattle.edge_setup.specs.declared.flag.Flag.TheVariants as flag
 use Rattle.edge_setup.specs.declared.number.Number.{Number}
 use Rattle.edge_setup.specs.declared.setup.Flags.{Flags}
 use Rattle.edge_setup.specs.declared.setup.Setup.{Setup}
+use Rattle.edge_setup.specs.declared.word.Word.TheVariants as word
 use Rattle.edge_setup.specs.declared.words.Tokens.{Tokens}
 use Rattle.edge_setup.specs.declared.setup.Named.{Named}
 use Rattle.edge_setup.specs.declared.setup.Named.TheVariants as named
 use Rattle.edge_setup.specs.declared.setup.SetupFault.{SetupFault}
 use Rattle.edge_setup.specs.declared.setup.SetupFault.TheVariants as fault
-
--- ---- flags
-
--- whether a flag is set
-abbrev pub is_set : Option Text → Bool
-is_set word = option_map_or (λ w. bytes_eq w (codes "true")) word false
 
 -- ---- the log
 
@@ -47,7 +43,7 @@ log_of is_asked (Some word) =
 
 -- the log that the options ask for
 abbrev pub log_said : List Row → Option (Option LogFormat)
-log_said rows = log_of (is_set (first_of (codes "log") rows)) (first_of (codes "log-format") rows)
+log_said rows = log_of (is_flag_set flag.Log rows) (word_said word.LogFormat rows)
 
 -- ---- names
 
@@ -72,7 +68,7 @@ hosts_of has_admin (Some word) = if has_admin && are_hosts word then Some (Some 
 
 -- the names that the options give
 abbrev pub hosts_said : List Row → Option (Option Text)
-hosts_said rows = hosts_of (is_some (first_of (codes "admin") rows)) (first_of (codes "admin-host") rows)
+hosts_said rows = hosts_of (is_some (word_said word.Admin rows)) (word_said word.AdminHost rows)
 
 -- ---- addresses
 
@@ -143,49 +139,49 @@ IsOriginFault (Some words) f = ((f ≡ origin_fault.Twice) × NameTwice words) �
 
 -- where the server listens, and where it answers its operator
 pub record SaysAddresses (rows : List Row) (addresses : Addresses) : Type 0 where
-  pub listen_is : IsAddress (first_of (codes "listen") rows) addresses.listen
-  pub admin_is : IsAdmin (first_of (codes "admin") rows) addresses.admin
+  pub listen_is : IsAddress (word_said word.Listen rows) addresses.listen
+  pub admin_is : IsAdmin (word_said word.Admin rows) addresses.admin
 
 -- what is asked for by flags, and how requests are reported
 pub record SaysFlags (rows : List Row) (flags : Flags) : Type 0 where
-  pub stops_are : is_set (first_of (codes "stop-with-input") rows) ≡ flags.stops_with_input
-  pub head_is : is_set (first_of (codes "head") rows) ≡ flags.answers_head
-  pub close_is : is_set (first_of (codes "abort-on-close") rows) ≡ flags.aborts_on_close
+  pub stops_are : is_flag_set flag.StopWithInput rows ≡ flags.stops_with_input
+  pub head_is : is_flag_set flag.Head rows ≡ flags.answers_head
+  pub close_is : is_flag_set flag.AbortOnClose rows ≡ flags.aborts_on_close
   pub log_is : log_said rows ≡ Some flags.log
 
 -- the names of the edge, of the field by which a proxy names clients, and of the operator's hosts
 pub record SaysTokens (rows : List Row) (tokens : Tokens) : Type 0 where
-  pub name_is : token_of (first_of (codes "name") rows) ≡ Some (option_map (λ name. name.now) tokens.name)
-  pub forwarded_is : token_of (first_of (codes "forwarded") rows) ≡ Some (option_map (λ field. field.now) tokens.forwarded)
+  pub name_is : token_of (word_said word.Name rows) ≡ Some (option_map (λ name. name.now) tokens.name)
+  pub forwarded_is : token_of (word_said word.Forwarded rows) ≡ Some (option_map (λ field. field.now) tokens.forwarded)
   pub hosts_are : hosts_said rows ≡ Some (option_map (λ hosts. hosts.now) tokens.hosts)
 
 -- what the options ask for
 pub record SaysSetup (rows : List Row) (setup : Setup) : Type 0 where
   pub addresses_are : SaysAddresses rows setup.addresses
-  pub origins_are : SayOrigins (all_of (codes "origin") rows) setup.origins.items
+  pub origins_are : SayOrigins (all_words_said word.Origin rows) setup.origins.items
   pub numbers_are : SaysNumbers rows setup.numbers
   pub flags_are : SaysFlags rows setup.flags
-  pub name_is : token_of (first_of (codes "name") rows) ≡ Some (option_map (λ name. name.items) setup.name)
-  pub forwarded_is : token_of (first_of (codes "forwarded") rows) ≡ Some (option_map (λ field. field.items) setup.forwarded)
+  pub name_is : token_of (word_said word.Name rows) ≡ Some (option_map (λ name. name.items) setup.name)
+  pub forwarded_is : token_of (word_said word.Forwarded rows) ≡ Some (option_map (λ field. field.items) setup.forwarded)
   pub hosts_are : hosts_said rows ≡ Some (option_map (λ hosts. hosts.items) setup.admin_hosts)
 
 -- the value of an option is invalid
 abbrev pub IsWrong : List Row → Named → Type 0
-IsWrong rows named.Listen = (address : SocketAddr) → IsAddress (first_of (codes "listen") rows) address → ⊥
-IsWrong rows named.Admin = IsNoAdmin (first_of (codes "admin") rows)
-IsWrong rows (named.Origin fault) = SayNoOrigins (all_of (codes "origin") rows) × IsOriginFault (all_of (codes "origin") rows) fault
+IsWrong rows named.Listen = (address : SocketAddr) → IsAddress (word_said word.Listen rows) address → ⊥
+IsWrong rows named.Admin = IsNoAdmin (word_said word.Admin rows)
+IsWrong rows (named.Origin fault) = SayNoOrigins (all_words_said word.Origin rows) × IsOriginFault (all_words_said word.Origin rows) fault
 IsWrong rows (named.Number number) = said_of (row_of number) rows ≡ None
 IsWrong rows named.LogFormat = log_said rows ≡ None
-IsWrong rows named.Name = token_of (first_of (codes "name") rows) ≡ None
-IsWrong rows named.Forwarded = token_of (first_of (codes "forwarded") rows) ≡ None
+IsWrong rows named.Name = token_of (word_said word.Name rows) ≡ None
+IsWrong rows named.Forwarded = token_of (word_said word.Forwarded rows) ≡ None
 IsWrong rows named.AdminHost = hosts_said rows ≡ None
 
 -- the values of these options are valid
 abbrev pub HasListen : List Row → Type 0
-HasListen rows = (address : SocketAddr) × IsAddress (first_of (codes "listen") rows) address
+HasListen rows = (address : SocketAddr) × IsAddress (word_said word.Listen rows) address
 
 abbrev pub HasAdmin : List Row → Type 0
-HasAdmin rows = (admin : Option SocketAddr) × IsAdmin (first_of (codes "admin") rows) admin
+HasAdmin rows = (admin : Option SocketAddr) × IsAdmin (word_said word.Admin rows) admin
 
 abbrev pub HasAddresses : List Row → Type 0
 HasAddresses rows = HasListen rows × HasAdmin rows
@@ -200,10 +196,10 @@ abbrev pub HasFlags : List Row → Type 0
 HasFlags rows = IsSome (log_said rows)
 
 abbrev pub HasName : List Row → Type 0
-HasName rows = IsSome (token_of (first_of (codes "name") rows))
+HasName rows = IsSome (token_of (word_said word.Name rows))
 
 abbrev pub HasForwarded : List Row → Type 0
-HasForwarded rows = IsSome (token_of (first_of (codes "forwarded") rows))
+HasForwarded rows = IsSome (token_of (word_said word.Forwarded rows))
 
 abbrev pub HasHosts : List Row → Type 0
 HasHosts rows = IsSome (hosts_said rows)

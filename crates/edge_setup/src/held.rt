@@ -1,11 +1,12 @@
 //! The options of `serve` in a configuration file.
 
-ghost use Rattle.std.specs.Prelude.{◌≡◌, ◌∷◌, ◌++◌, [], codes, map, option_map, string_bytes, IfOk, OnOk};
+ghost use Rattle.std.specs.Prelude.{◌≡◌, ◌∷◌, ◌++◌, [], map, option_map, string_bytes, IfOk, OnOk};
 ghost use Rattle.std.specs.List.{flat_map};
-ghost use Rattle.clap.specs.Words.{all_of, found_of, rows_of};
+ghost use Rattle.clap.specs.Words.{found_of, rows_of};
 ghost use Rattle.clap.specs.declared.builder.command.Command.TheViews.{out-Command as fields_of};
 ghost use Rattle.edge_setup.specs.Held as spec;
 
+use crate::word::Word;
 use crate::words::word_of;
 use clap::{Arg, ArgAction, ArgMatches, Command};
 use config_file::{OptionNames, is_of_line, is_origin, push_option, push_origin};
@@ -67,7 +68,7 @@ pub fn held_text(
 {
     let mut text = String::new(alloc);
     push_options(&mut text, command.get_arguments(), matches)?;
-    push_table(&mut text, origin_words(matches))?;
+    push_table(&mut text, Word::Origin.all_said(matches))?;
     Ok(text)
 }
 
@@ -101,13 +102,6 @@ fn push_held(
         Some(word) => push_option(text, name, is_flag(option), word),
         None => Ok(()),
     }
-}
-
-// The words that name origins.
-fn origin_words<'b, 'a>(matches: &'b ArgMatches<'a>) -> Option<&'b [&'a str]>
-    ensures { option_map (λ words. map (λ word. word.now) words.now) result ≡ all_of (codes "origin") (rows_of (found_of matches.now)) }
-{
-    matches.get_raw("origin")
 }
 
 // Adds the table of origins, where there are some.

@@ -6,6 +6,7 @@
 mod case;
 mod check;
 mod command;
+mod flag;
 mod held;
 mod number;
 mod numbers;
@@ -13,6 +14,7 @@ mod options;
 mod origin;
 mod origins;
 mod setup;
+mod word;
 mod words;
 
 pub use case::case_command;

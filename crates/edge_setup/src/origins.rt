@@ -1,10 +1,13 @@
 //! The origins that the words of `serve` name.
-ghost use Rattle.std.specs.Prelude.{◌≡◌, map, codes, not, [], ◌∷◌, ◌++◌, Some, IfOk, IsTrue};
-ghost use Rattle.clap.specs.Words.{all_of, found_of, rows_of};
+ghost use Rattle.std.specs.Prelude.{◌≡◌, map, not, [], ◌∷◌, ◌++◌, Some, IfOk, IsTrue};
+ghost use Rattle.clap.specs.Words.{found_of, rows_of};
+ghost use Rattle.edge_setup.specs.Options.{all_words_said};
 ghost use Rattle.edge_setup.specs.Origins as spec;
+ghost use Rattle.edge_setup.specs.declared.word.Word.TheVariants as word;
 
 use crate::origin::{OriginFault, origin_of};
 use crate::setup::Origin;
+use crate::word::Word;
 use clap::ArgMatches;
 use std::alloc::{AllocError, Global};
 
@@ -13,9 +16,9 @@ pub(crate) fn origins_of(
     alloc: Global,
     matches: &ArgMatches<'_>,
 ) -> Result<Result<Vec<Origin>, OriginFault>, AllocError>
-    ensures { IfOk result (spec.AreFound (all_of (codes "origin") (rows_of (found_of matches.now)))) }
+    ensures { IfOk result (spec.AreFound (all_words_said word.Origin (rows_of (found_of matches.now)))) }
 {
-    match matches.get_raw("origin") {
+    match Word::Origin.all_said(matches) {
         Some(words) => origins_in(alloc, words),
         None => Ok(Ok(Vec::new(alloc))),
     }

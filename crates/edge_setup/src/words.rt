@@ -2,12 +2,15 @@
 ghost use Rattle.std.specs.Prelude.{◌≡◌, option_map, IfOk, MatchOption, MatchResult};
 ghost use Rattle.std.specs.declared.net.socket_addr.SocketAddr.{SocketAddr};
 ghost use Rattle.clap.specs.Words.{first_of, found_of, rows_of};
-ghost use Rattle.edge_setup.specs.Words.{are_hosts, hosts_of, hosts_said, is_comma, is_set, log_of, log_said, token_of, IsAddress, IsAdmin, IsNoAdmin, HasAddresses, HasFlags, HasNumbers, IsFirstWrong, IsRefusedBy, SaysAddresses, SaysFlags, SaysSetup, SaysTokens};
+ghost use Rattle.edge_setup.specs.Rules.{is_set};
+ghost use Rattle.edge_setup.specs.Words.{are_hosts, hosts_of, hosts_said, is_comma, log_of, log_said, token_of, IsAddress, IsAdmin, IsNoAdmin, HasAddresses, HasFlags, HasNumbers, IsFirstWrong, IsRefusedBy, SaysAddresses, SaysFlags, SaysSetup, SaysTokens};
 
+use crate::flag::Flag;
 use crate::numbers::Numbers;
 use crate::origin::is_name;
 use crate::origins::origins_of;
 use crate::setup::{Addresses, Flags, Named, Setup, SetupFault};
+use crate::word::Word;
 use access_log::LogFormat;
 use clap::ArgMatches;
 use std::alloc::{AllocError, Global};
@@ -79,8 +82,8 @@ fn hosts_of(has_admin: bool, word: Option<&str>) -> Option<Option<&str>>
 fn hosts_said<'a>(matches: &ArgMatches<'a>) -> Option<Option<&'a str>>
     ensures { option_map (λ hosts. option_map (λ h. h.now) hosts) result ≡ hosts_said (rows_of (found_of matches.now)) }
 {
-    let has_admin = word_of(matches, "admin").is_some();
-    hosts_of(has_admin, word_of(matches, "admin-host"))
+    let has_admin = Word::Admin.said(matches).is_some();
+    hosts_of(has_admin, Word::AdminHost.said(matches))
 }
 
 // The address that a word writes.
@@ -140,8 +143,8 @@ fn log_of(is_asked: bool, word: Option<&str>) -> Option<Option<LogFormat>>
 fn log_said(matches: &ArgMatches<'_>) -> Option<Option<LogFormat>>
     ensures { result ≡ log_said (rows_of (found_of matches.now)) }
 {
-    let is_asked = is_set(word_of(matches, "log"));
-    log_of(is_asked, word_of(matches, "log-format"))
+    let is_asked = Flag::Log.is_set(matches);
+    log_of(is_asked, Word::LogFormat.said(matches))
 }
 
 // Where the server listens.
@@ -150,8 +153,8 @@ fn addresses_of(matches: &ArgMatches<'_>) -> Result<Addresses, Named>
         MatchResult result (SaysAddresses rows) (IsFirstWrong rows) }
 {
     Ok(Addresses {
-        listen: address_of(word_of(matches, "listen")).ok_or(Named::Listen)?,
-        admin: admin_of(word_of(matches, "admin")).ok_or(Named::Admin)?,
+        listen: address_of(Word::Listen.said(matches)).ok_or(Named::Listen)?,
+        admin: admin_of(Word::Admin.said(matches)).ok_or(Named::Admin)?,
     })
 }
 
@@ -161,9 +164,9 @@ fn flags_of(matches: &ArgMatches<'_>) -> Result<Flags, Named>
         MatchResult result (SaysFlags rows) (λ option. HasAddresses rows → HasNumbers rows → IsFirstWrong rows option) }
 {
     Ok(Flags {
-        stops_with_input: is_set(word_of(matches, "stop-with-input")),
-        answers_head: is_set(word_of(matches, "head")),
-        aborts_on_close: is_set(word_of(matches, "abort-on-close")),
+        stops_with_input: Flag::StopWithInput.is_set(matches),
+        answers_head: Flag::Head.is_set(matches),
+        aborts_on_close: Flag::AbortOnClose.is_set(matches),
         log: log_said(matches).ok_or(Named::LogFormat)?,
     })
 }
@@ -182,8 +185,8 @@ fn tokens_of<'a>(matches: &ArgMatches<'a>) -> Result<Tokens<'a>, Named>
         MatchResult result (SaysTokens rows) (λ option. HasAddresses rows → HasNumbers rows → HasFlags rows → IsFirstWrong rows option) }
 {
     Ok(Tokens {
-        name: token_of(word_of(matches, "name")).ok_or(Named::Name)?,
-        forwarded: token_of(word_of(matches, "forwarded")).ok_or(Named::Forwarded)?,
+        name: token_of(Word::Name.said(matches)).ok_or(Named::Name)?,
+        forwarded: token_of(Word::Forwarded.said(matches)).ok_or(Named::Forwarded)?,
         hosts: hosts_said(matches).ok_or(Named::AdminHost)?,
     })
 }

@@ -1,15 +1,18 @@
-use Rattle.std.proofs.Common.{◌∙◌, ap, ap₂}
-use Rattle.std.proofs.lemmas.Result.{IfOk-weaker}
+use Rattle.std.proofs.Common.{◌∙◌, fold, sym, ap, ap₂, arith}
+use Rattle.std.proofs.lemmas.List.{take_all}
 use Rattle.clap.specs.Words.{app_of, with_rule}
+use Rattle.edge_setup.specs.Options.{flag_options, with_flag}
+use Rattle.edge_setup.proofs.NumberLemmas.{fold_next}
 use Rattle.edge_setup.proofs.command.with_flags.Goals as goal
+
+pub loop-flag-preserved : goal.loop-flag-preserved
+loop-flag-preserved c = (
+  c.in_ok-command.ensures.app ∙ ap₂ with_rule c.loop-flag.invariant.0 c.arg.ensures.rule
+      ∙ sym (fold_next with_flag (app_of c.args.command) flag_options c.loop-flag.flag-index _ c.loop-flag-test.true),
+  c.in_ok-command.ensures.local ∙ c.loop-flag.invariant.1,
+)
 
 pub returns-clause-app : goal.returns-clause-app
 returns-clause-app c =
-    let one = c.in_ok-command.ensures.app ∙ ap (with_rule (app_of c.args.command)) c.flag-head.ensures.rule in
-    let two = c.in_ok-command-2.ensures.app ∙ ap₂ with_rule one c.flag-abort.ensures.rule in
-    let three = c.in_ok-command-3.ensures.app ∙ ap₂ with_rule two c.flag-stop.ensures.rule in
-    IfOk-weaker c.with_option-4.result _ _ (λ more is. is ∙ ap₂ with_rule three c.flag-log.ensures.rule) c.with_option-4.ensures.app
-
-pub returns-clause-local : goal.returns-clause-local
-returns-clause-local c =
-    IfOk-weaker c.with_option-4.result _ _ (λ more is. is ∙ c.in_ok-command-3.ensures.local ∙ c.in_ok-command-2.ensures.local ∙ c.in_ok-command.ensures.local) c.with_option-4.ensures.local
+    let from = c.loop-flag-test.false in
+    c.loop-flag.invariant.0 ∙ ap (fold with_flag (app_of c.args.command)) (take_all c.loop-flag.flag-index flag_options (omega (arith, from)))
