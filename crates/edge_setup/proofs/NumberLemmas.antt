@@ -4,9 +4,8 @@ use Rattle.std.proofs.lemmas.Bool.{leb-true, le-leb}
 use Rattle.clap.specs.Words.{Row, Text, first_of}
 use Rattle.decimals.specs.Decimal.{decimal_of}
 use Rattle.decimals.proofs.Decimals.{decimal_sound}
-use Rattle.edge_setup.specs.Numbers.{Numeric, all_fit, all_said, at_least, fits, numbers, or_default, place_of, row_of, said_by, said_of}
+use Rattle.edge_setup.specs.Numbers.{Numeric, all_fit, all_said, at_least, fits, or_default, row_of, said_by, said_of}
 use Rattle.edge_setup.specs.declared.number.Number.{Number}
-use Rattle.edge_setup.specs.declared.number.Number.TheVariants.{Workers, Fetches, Ahead, Levels, Capacity, PageBytes, Timeout, PageTimeout, OriginKeepAlive, OriginFetches, OriginQueue, OriginRest, UrlRest, Accept, ClientTimeout, KeepAlive, Threads, Connections}
 
 -- ---- the options in turn
 
@@ -72,7 +71,7 @@ and_right : (a b : Bool) → (a && b) ≡ true → b ≡ true
 and_right true b e = e
 and_right false b e = absurd (cc)
 
-fits_at : (options : List Number) (values : List (Option ℕ)) (i : ℕ) (o : Number) → all_fit options values ≡ true → slice_get options i ≡ Some o → fits (row_of o) (option_and_then (λ value. value) (slice_get values i)) ≡ true
+pub fits_at : (options : List Number) (values : List (Option ℕ)) (i : ℕ) (o : Number) → all_fit options values ≡ true → slice_get options i ≡ Some o → fits (row_of o) (option_and_then (λ value. value) (slice_get values i)) ≡ true
 fits_at [] values i o fit there = absurd (cc)
 fits_at (x ∷ xs) [] i o fit there = absurd (cc)
 fits_at (x ∷ xs) (v ∷ vs) zero o fit there =
@@ -81,7 +80,7 @@ fits_at (x ∷ xs) (v ∷ vs) zero o fit there =
 fits_at (x ∷ xs) (v ∷ vs) (suc i) o fit there = fits_at xs vs i o (and_right (fits (row_of x) v) (all_fit xs vs) fit) there
 
 -- the number of a row with a default is within its limits
-of_value : (row : Numeric) (value : Option ℕ) → IsSome row.default → fits row value ≡ true → (row.least ≤ unwrap_or value 0) × (unwrap_or value 0 ≤ row.most)
+pub of_value : (row : Numeric) (value : Option ℕ) → IsSome row.default → fits row value ≡ true → (row.least ≤ unwrap_or value 0) × (unwrap_or value 0 ≤ row.most)
 of_value row None some fit = absurd (by row.default some fit)
   where
     by : (default : Option Text) → IsSome default → is_none default ≡ true → ⊥
@@ -89,33 +88,6 @@ of_value row None some fit = absurd (by row.default some fit)
     by (Some word) some none = cc
 of_value row (Some n) some fit = (leb-true _ _ (and_left (nat_le row.least n) (nat_le n row.most) fit), leb-true _ _ (and_right (nat_le row.least n) (nat_le n row.most) fit))
 
-pub place_there : (n : Number) → slice_get numbers (place_of n) ≡ Some n
-place_there Workers = refl
-place_there Fetches = refl
-place_there Ahead = refl
-place_there Levels = refl
-place_there Capacity = refl
-place_there PageBytes = refl
-place_there Timeout = refl
-place_there PageTimeout = refl
-place_there OriginKeepAlive = refl
-place_there OriginFetches = refl
-place_there OriginQueue = refl
-place_there OriginRest = refl
-place_there UrlRest = refl
-place_there Accept = refl
-place_there ClientTimeout = refl
-place_there KeepAlive = refl
-place_there Threads = refl
-place_there Connections = refl
-
-pub number_within : (values : List (Option ℕ)) (o : Number) → all_fit numbers values ≡ true → IsSome (row_of o).default
-    → ((row_of o).least ≤ unwrap_or (option_and_then (λ value. value) (slice_get values (place_of o))) 0) × (unwrap_or (option_and_then (λ value. value) (slice_get values (place_of o))) 0 ≤ (row_of o).most)
-number_within values o fit some = of_value (row_of o) _ some (fits_at numbers values (place_of o) o fit (place_there o))
-
-if_few : (row : Numeric) (value : Option ℕ) → fits row value ≡ true → IfSome value (λ n. n ≤ row.most)
+pub if_few : (row : Numeric) (value : Option ℕ) → fits row value ≡ true → IfSome value (λ n. n ≤ row.most)
 if_few row None fit = tt
 if_few row (Some n) fit = leb-true _ _ (and_right (nat_le row.least n) (nat_le n row.most) fit)
-
-pub value_few : (values : List (Option ℕ)) (o : Number) → all_fit numbers values ≡ true → IfSome (option_and_then (λ value. value) (slice_get values (place_of o))) (λ n. n ≤ (row_of o).most)
-value_few values o fit = if_few (row_of o) _ (fits_at numbers values (place_of o) o fit (place_there o))

@@ -5,9 +5,13 @@ use Rattle.edge_setup.specs.Numbers.{all_said, numbers, place_of}
 use Rattle.edge_setup.specs.declared.number.Number.{Number}
 use Rattle.edge_setup.specs.declared.numbers.Numbers.{Numbers}
 
+-- what was said of the option at a place
+abbrev pub value_at : Numbers → ℕ → Option ℕ
+value_at said place = option_and_then (λ value. value) (slice_get said.values.items place)
+
 -- what was said of an option
 abbrev pub value_of : Numbers → Number → Option ℕ
-value_of said option = option_and_then (λ value. value) (slice_get said.values.items (place_of option))
+value_of said option = value_at said (place_of option)
 
 -- the number of an option that has a default
 abbrev pub number_of : Numbers → Number → ℕ

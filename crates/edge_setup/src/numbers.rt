@@ -1,7 +1,7 @@
 //! The numbers that the options say.
 ghost use Rattle.std.specs.Prelude.{◌≡◌, ◌≤◌, ◌∷◌, ◌++◌, [], map, IfSome, IsSome, MatchResult, OnOk, Some, true};
 ghost use Rattle.clap.specs.Words.{found_of, rows_of};
-ghost use Rattle.edge_setup.specs.Numbers.{all_said, numbers, row_of, all_fit};
+ghost use Rattle.edge_setup.specs.Numbers.{all_said, fits, numbers, row_of, all_fit};
 
 use crate::number::Number;
 use crate::setup::{Named, SetupFault};
@@ -17,7 +17,7 @@ pub struct Numbers {
 }
 
 impl Numbers {
-    ghost use Rattle.edge_setup.specs.Said.{number_of, value_of, SaysNumbers};
+    ghost use Rattle.edge_setup.specs.Said.{number_of, value_at, value_of, SaysNumbers};
     ghost use Rattle.edge_setup.specs.Words.{IsRefusedNumber};
 
     /// What the matches say, or the first option whose word is no number within its limits.
@@ -47,15 +47,17 @@ impl Numbers {
     /// What an option says: none only where it has no default.
     pub fn said(&self, number: Number) -> Option<u64>
         ensures value { result ≡ value_of self.now number }
+        ensures fit { fits (row_of number) result ≡ true }
         ensures few { IfSome result (λ n. n ≤ (row_of number).most) }
     {
-        self.value(number)
+        self.at(number.place())
     }
 
-    fn value(&self, number: Number) -> Option<u64>
-        ensures { result ≡ value_of self.now number }
+    // What the option at a place says.
+    fn at(&self, place: usize) -> Option<u64>
+        ensures { result ≡ value_at self.now place }
     {
-        match self.values.get(number.place()) {
+        match self.values.get(place) {
             Some(value) => *value,
             None => None,
         }
