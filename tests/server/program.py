@@ -3,6 +3,7 @@ import ctypes
 import re
 import tempfile
 
+from documented import numbers, options
 from harness import PLAIN, TEMPLATE, Edge, Origin, before, ended, exchange, get, same
 
 
@@ -52,14 +53,9 @@ def usage_is_told():
     rows += [here + words for words in (
         here, ["more"], ["--origin"], ["--origin", "a.test"], ["--origin", "a.test=b.test"], ["--origin", "a.test="],
         ["--origin", "a.test=127.0.0.1:80", "--origin", "a.test=127.0.0.1:81"], ["--origin", "*=127.0.0.1:80", "--origin", "*=127.0.0.1:80"],
-        ["--workers", "0"], ["--workers", "17"], ["--workers", "four"], ["--workers", "2", "--workers", "2"],
-        ["--ahead", "257"], ["--ahead=-1"], ["--levels", "0"], ["--levels", "9"], ["--capacity", "0"], ["--capacity", "1025"], ["--page-bytes", "4294967296"],
-        ["--accept", "18446744073709551616"], ["--accept", "+1"], ["--accept", ""], ["--timeout", "1s"], ["--timeout", "86400001"],
-        ["--page-timeout", "x"], ["--page-timeout", "86400001"], ["--origin-keep-alive", "1025"], ["--origin-keep-alive=-1"],
-        ["--origin-fetches", "65536"], ["--origin-queue", "65537"], ["--origin-rest", "5s"], ["--origin-rest", "86401"], ["--url-rest", "5s"], ["--url-rest", "86401"],
+        ["--workers", "2", "--workers", "2"], ["--accept", "+1"], ["--accept", ""], ["--timeout", "1s"], ["--client-timeout", "-"],
         ["--name", ""], ["--name", "a b"], ["--name", "a/b"], ["--name", "n" * 65], ["--name", "a", "--name", "b"],
-        ["--client-timeout", "-"], ["--client-timeout", "86400001"], ["--keep-alive", "5s"], ["--keep-alive", "86401"],
-        ["--threads", "0"], ["--threads", "65"], ["--connections", "0"], ["--connections", "65537"], ["--head", "x"], ["--head=yes"], ["--abort-on-close", "x"], ["--abort-on-close", "--abort-on-close"], ["--stop-with-input", "x"], ["--log", "x"], ["--log=yes"], ["--log", "--log"], ["--log-format"], ["--log-format", "JSON"], ["--log-format="],
+        ["--head", "x"], ["--head=yes"], ["--abort-on-close", "x"], ["--abort-on-close", "--abort-on-close"], ["--stop-with-input", "x"], ["--log", "x"], ["--log=yes"], ["--log", "--log"], ["--log-format"], ["--log-format", "JSON"], ["--log-format="],
         ["--admin", "127.0.0.1"], ["--admin", "localhost:1"], ["--admin="],
         ["--admin-host", "edge.internal"], ["--admin", "127.0.0.1:0", "--admin-host="], ["--admin", "127.0.0.1:0", "--admin-host", "a,"],
         ["--admin", "127.0.0.1:0", "--admin-host", "a b"], ["--admin", "127.0.0.1:0", "--admin-host", "edge.internal:9081"],
@@ -69,6 +65,29 @@ def usage_is_told():
     for words in rows:
         status, printed, said = ended(*words)
         same(" ".join(words), (2, b"", True), (status, printed, said != b""))
+
+
+def numbers_beyond_their_limits_are_told():
+    """A word that is no number, one below the smallest number and one above the largest: status 2, and both limits."""
+    for option in numbers():
+        for word in ("four", str(int(option.least) - 1), str(int(option.most) + 1)):
+            status, printed, said = ended("--listen", "127.0.0.1:0", "--%s=%s" % (option.name, word))
+            wanted = "error: --%s takes (a number|milliseconds,|seconds,) from %s to %s\n" % (option.name, option.least, option.most)
+            same("--%s %s" % (option.name, word), (2, b"", True), (status, printed, re.fullmatch(wanted, said.decode()) is not None))
+
+
+def help_says_what_the_document_says():
+    """The options of docs/OPTIONS.md in their order, each with a value if it takes one, its limits and its default."""
+    status, printed, said = ended("--help")
+    same("exit status", (0, b""), (status, said))
+    lines = re.findall(r"^ +--([\w-]+)( <\S+>)? {2,}(\S.*)$", printed.decode(), re.M)
+    told = [(name, bool(value), *limits_in(text), *re.findall(r"\[default: (\d+)\]$", text)) for name, value, text in lines if name != "help"]
+    same("options", [(it.name, it.has_value, *it.limits(), *it.defaults()) for it in options()], told)
+
+
+def limits_in(text):
+    """The smallest and the largest number, where a text of help has them."""
+    return next(iter(re.findall(r"from (\d+) to (\d+)", text)), ())
 
 
 def what_an_origin_is_instead_is_told():
@@ -117,10 +136,11 @@ def connections_that_no_files_are_left_for_are_told():
 
 def limits_are_taken():
     """The largest and the smallest of each number, an address of IPv6, and a thousand origins."""
-    most = ["--workers", "16", "--ahead", "256", "--levels", "8", "--capacity", "1024", "--page-bytes", "4294967295", "--timeout", "86400000", "--page-timeout", "86400000", "--origin-keep-alive", "1024", "--origin-fetches", "65535", "--origin-queue", "65536", "--origin-rest", "86400", "--url-rest", "86400", "--name", "n" * 64, "--client-timeout", "86400000", "--keep-alive", "86400", "--threads", "64", "--connections", "65536", "--head", "--abort-on-close"]
-    least = ["--workers", "1", "--ahead", "0", "--levels", "1", "--capacity", "1", "--page-bytes", "0", "--timeout", "0", "--page-timeout", "0", "--origin-keep-alive", "0", "--origin-fetches", "0", "--origin-queue", "0", "--origin-rest", "0", "--url-rest", "0", "--name", "~", "--client-timeout", "0", "--keep-alive", "0", "--threads", "1", "--connections", "1"]
+    most = [word for it in numbers() for word in ("--" + it.name, it.most)] + ["--name", "n" * 64, "--head", "--abort-on-close"]
+    # A server that accepts nobody answers nobody.
+    least = [word for it in numbers() if it.name != "accept" for word in ("--" + it.name, it.least)] + ["--name", "~"]
     many = [word for at in range(1000) for word in ("--origin", "%d.test=127.0.0.1:80" % at)]
-    for words in (most, least, many, ["--accept", "18446744073709551615"], ["--origin", "a.test=[::1]:80", "--origin", "b.test=127.0.0.1:80"]):
+    for words in (most, least, many, ["--origin", "a.test=[::1]:80", "--origin", "b.test=127.0.0.1:80"]):
         with Origin(PLAIN) as origin, before(origin, *words) as edge:
             same(" ".join(words), b"[12345678]", get(edge, "/p", host="c.test", fields="Connection: close\r\n").body)
 
@@ -164,6 +184,8 @@ TESTS = (
     the_edge_ends_after_its_connections,
     requests_are_told,
     usage_is_told,
+    numbers_beyond_their_limits_are_told,
+    help_says_what_the_document_says,
     what_an_origin_is_instead_is_told,
     the_name_of_a_host_is_looked_up,
     connections_that_no_files_are_left_for_are_told,

@@ -1,4 +1,4 @@
 pub mod Ending
-pub mod Server
+pub mod ServerOptions
 pub mod OpenFiles
 pub mod Program

@@ -1,14 +1,14 @@
 -- How many descriptors a server may need, and for how many connections a limit leaves room.
 use Rattle.std.specs.Prelude.{◌≡◌, ◌≤◌, ◌<◌, ◌+◌, ◌*◌, ◌==◌, ℕ, min, max, if◌then◌else◌}
 use Rattle.edge_main.specs.declared.open_files.Numbers.{Numbers}
-use Rattle.edge_main.specs.declared.server.Server.{Server}
+use Rattle.edge_main.specs.declared.server_options.ServerOptions.{ServerOptions}
 
--- these are the numbers of the server
-pub record AreOf (server : Server) (numbers : Numbers) : Type 0 where
-  pub connections_are : numbers.connections ≡ server.at_once.connections
-  pub threads_are : numbers.threads ≡ server.at_once.threads
-  pub workers_are : numbers.workers ≡ server.pages.workers
-  pub fetches_are : numbers.fetches ≡ server.pages.fetches
+-- these are the numbers that are asked for
+pub record AreOf (options : ServerOptions) (numbers : Numbers) : Type 0 where
+  pub connections_are : numbers.connections ≡ options.at_once.connections
+  pub threads_are : numbers.threads ≡ options.at_once.threads
+  pub workers_are : numbers.workers ≡ options.pages.workers
+  pub fetches_are : numbers.fetches ≡ options.pages.fetches
 
 -- how many pages hold a thread at once, among so many connections: no more than there may be threads that serve, and as many
 -- that go on with clients who were waited for

@@ -17,21 +17,21 @@ use Rattle.edge_commands.specs.declared.status.Status.TheVariants.{Page, PageFau
 use Rattle.plan_runner.specs.declared.events.Event.{Event}
 use Rattle.edge_setup.specs.declared.check.Checking.{Checking}
 use Rattle.edge_setup.specs.declared.setup.Setup.{Setup}
-use Rattle.edge_main.specs.declared.server.Server.{Server}
+use Rattle.edge_main.specs.declared.server_options.ServerOptions.{ServerOptions}
 use Rattle.edge_main.specs.declared.program.Done.{Done}
 use Rattle.edge_main.specs.declared.program.Done.TheVariants.{Ran, Explains, Serves, Checks}
 use Rattle.edge_commands.specs.CommandLine.{AsksCase, AsksCheck, AsksServe, AsksWhy}
-use Rattle.edge_main.specs.Server.{IsServerOf}
+use Rattle.edge_main.specs.ServerOptions.{AreAskedBy}
 
 -- the words ask for a case with this many levels, whatever its events and its slots ahead are
 abbrev pub AsksLevels : List Text → ℕ → Type 0
 AsksLevels words levels = (order : List Event) × (ahead : ℕ) × AsksCase words order ahead levels
 
--- nothing was written, and the words ask for this server
-pub record AsksToServe (words : List Text) (before after : Option (List ℕ)) (server : Server) : Type 0 where
+-- nothing was written, and the words ask this of a server
+pub record AsksToServe (words : List Text) (before after : Option (List ℕ)) (options : ServerOptions) : Type 0 where
   pub setup : Setup
   pub asks : AsksServe words setup
-  pub serves : IsServerOf setup server
+  pub options_are : AreAskedBy setup options
   pub untouched : after ≡ before
 
 -- nothing was written, and the words ask to check these files
@@ -83,5 +83,5 @@ explained_by (Err fault) = Ran (status_of (Err fault))
 abbrev pub Does : List Text → Option (List ℕ) → Option (List ℕ) → Option (List ℕ) → Done → Type 0
 Does words input before after (Ran status) = Ends words input before after status × IsUnasked words status
 Does words input before after (Explains ran) = AsksWhyOf words input before after ran.text.items (option_map arc_value ran.failed_leg)
-Does words input before after (Serves server) = AsksToServe words before after server
+Does words input before after (Serves options) = AsksToServe words before after options
 Does words input before after (Checks checking) = AsksToCheck words before after checking

@@ -10,7 +10,7 @@ mod open_files;
 mod operator;
 mod options;
 mod program;
-mod server;
+mod server_options;
 mod serving;
 
 use clap::error::ErrorKind;
@@ -28,7 +28,7 @@ fn main(rt: HostRuntime) -> ExitCode {
             Ok(words) => match run(&rt, &words) {
                 Done::Ran(status) => status,
                 Done::Explains(ran) => explain(&rt, &ran),
-                Done::Serves(mut server) => status_of_serving(serve(&rt, &mut server)),
+                Done::Serves(mut options) => status_of_serving(serve(&rt, &mut options)),
                 Done::Checks(checking) => check(&rt, &checking),
             },
             Err(status) => status,

@@ -2,7 +2,7 @@
 ghost use Rattle.std.specs.Prelude.{◌≡◌, ◌≤◌, ◌<◌, max};
 ghost use Rattle.edge_main.specs.OpenFiles as spec;
 
-use crate::server::Server;
+use crate::server_options::ServerOptions;
 use libc::RLIMIT_NOFILE;
 use libc::types::rlimit;
 
@@ -23,15 +23,15 @@ pub(crate) struct Numbers {
 }
 
 impl Numbers {
-    /// The numbers of a server.
-    pub(crate) fn of(server: &Server) -> Numbers
-        ensures { spec.AreOf server.now result }
+    /// The numbers that are asked for.
+    pub(crate) fn of(options: &ServerOptions) -> Numbers
+        ensures { spec.AreOf options.now result }
     {
         Numbers {
-            connections: server.at_once.connections,
-            threads: server.at_once.threads,
-            workers: server.pages.workers,
-            fetches: server.pages.fetches,
+            connections: options.at_once.connections,
+            threads: options.at_once.threads,
+            workers: options.pages.workers,
+            fetches: options.pages.fetches,
         }
     }
 

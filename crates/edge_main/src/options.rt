@@ -1,10 +1,10 @@
-//! The server that the options of `serve` ask for.
+//! What the options of `serve` ask of a server.
 ghost use Rattle.std.specs.Prelude.{◌≡◌, MatchOption};
 ghost use Rattle.edge_setup.specs.Said.{number_of, value_of};
 ghost use Rattle.edge_setup.specs.declared.number.Number.TheVariants as number;
-ghost use Rattle.edge_main.specs.Server.{ahead_for, AreBounds, AreClientsOf, AreFetchesOf, ArePagesOf, IsServerOf, IsUnbounded, bytes_of, crowd_of, fetch_millis, idle_of, limit_of, nanos_of, queue_for};
+ghost use Rattle.edge_main.specs.ServerOptions.{ahead_for, AreAskedBy, AreBounds, AreClientsOf, AreFetchesOf, ArePagesOf, IsUnbounded, bytes_of, crowd_of, fetch_millis, idle_of, limit_of, nanos_of, queue_for};
 
-use crate::server::{Fetches, Server};
+use crate::server_options::{Fetches, ServerOptions};
 use edge_connections::{Capacity, Limits};
 use edge_setup::{Number, Numbers, Setup};
 use fetch_workers::Assembling;
@@ -145,9 +145,9 @@ fn clients_of(numbers: &Numbers) -> Limits
     }
 }
 
-/// The server of a setup.
-pub(crate) fn server_of(setup: Setup) -> Server
-    ensures { IsServerOf setup result }
+/// What a setup asks of its server.
+pub(crate) fn options_of(setup: Setup) -> ServerOptions
+    ensures { AreAskedBy setup result }
 {
     let Setup {
         addresses,
@@ -158,7 +158,7 @@ pub(crate) fn server_of(setup: Setup) -> Server
         forwarded,
         admin_hosts,
     } = setup;
-    Server {
+    ServerOptions {
         addresses,
         origins,
         fetches: fetches_of(&numbers),

@@ -3,8 +3,8 @@ ghost use Rattle.std.specs.Prelude.{◌≡◌, map, string_bytes, IfOk, IfErr, O
 ghost use Rattle.edge_commands.specs.CommandLine.{IsRefused};
 ghost use Rattle.edge_main.specs.Program.{Does, explained_by};
 
-use crate::options::server_of;
-use crate::server::Server;
+use crate::options::options_of;
+use crate::server_options::ServerOptions;
 use edge_case::{CaseEnd, CaseFault, Ran, Running, run_case, run_case_and_keep};
 use edge_commands::{Asked, Refusal, Status, asked};
 use edge_setup::Checking;
@@ -18,15 +18,15 @@ pub(crate) enum Done<'a> {
     Ran(Status),
     /// A case was run whose page has a fault; what is known of it is here to say why.
     Explains(Ran),
-    /// This server is to run.
-    Serves(Server),
+    /// A server is to run with these options.
+    Serves(ServerOptions),
     /// These templates are to be checked.
     Checks(Checking<'a>),
 }
 
 /// Judges the words of the command line as a whole, then runs the case that they ask for, with the
 /// events, the slots ahead and the levels that they name. Its text is handed on if they ask why
-/// its page has a fault. If they ask to serve or to check instead, the server or the files are handed on
+/// its page has a fault. If they ask to serve or to check instead, the options or the files are handed on
 /// to the caller.
 ///
 /// If they don't ask for a case, nothing is read or written.
@@ -61,7 +61,7 @@ pub(crate) fn run_words<'a, R: Read, W: Write>(
                 Ok(Done::Ran(Status::of(ended)))
             }
         }
-        Asked::Serve(setup) => Ok(Done::Serves(server_of(setup))),
+        Asked::Serve(setup) => Ok(Done::Serves(options_of(setup))),
         Asked::Check(checking) => Ok(Done::Checks(checking)),
     }
 }

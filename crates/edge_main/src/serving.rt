@@ -2,7 +2,7 @@
 
 use crate::open_files::{Numbers, open_files_limit};
 use crate::operator::{Operator, Stop, bound};
-use crate::server::{Fetches, Server};
+use crate::server_options::{Fetches, ServerOptions};
 use edge_commands::Status;
 use edge_connections::{ServeEnd, ServerRuntime, Sockets};
 use edge_reports::{AccessLog, Connections, EndOfInput, Kept, Measures, MonotonicSeconds, Reports};
@@ -24,22 +24,22 @@ use std::sync::Arc;
 use std::time::Clock;
 use std::{io, mem, str, thread};
 
-/// Runs the server, until its number of connections have been accepted, or it is stopped, and they have ended. Its origins and
-/// names are taken out of it.
-pub(crate) fn serve<R>(rt: &R, server: &mut Server) -> Result<ServeEnd, Status>
+/// Runs a server with these options, until its number of connections have been accepted, or it is stopped, and they have
+/// ended. Its origins and names are taken out of them.
+pub(crate) fn serve<R>(rt: &R, options: &mut ServerOptions) -> Result<ServeEnd, Status>
 where
     R: ServerRuntime + Files<File = File> + Print + Eprint + Send + Sync,
     R: Net<Stream = TcpStream, Listener = TcpListener>,
 {
-    server.at_once.connections = room_of(rt, Numbers::of(server));
-    let origins = mem::replace(&mut server.origins, Vec::new(rt.alloc()));
-    let source = source_of(rt, origins, server.fetches)?;
-    let source = named(rt, source, server.name.as_ref())?;
+    options.at_once.connections = room_of(rt, Numbers::of(options));
+    let origins = mem::replace(&mut options.origins, Vec::new(rt.alloc()));
+    let source = source_of(rt, origins, options.fetches)?;
+    let source = named(rt, source, options.name.as_ref())?;
     let notes = source.notes()?;
-    let cache = cache_of(rt, source, server)?;
-    let service = service_of(rt, owner_of(&cache)?, server)?;
-    let reports = reports_of(rt, notes, cache, server)?;
-    opened(rt, &service, &reports, server)
+    let cache = cache_of(rt, source, options)?;
+    let service = service_of(rt, owner_of(&cache)?, options)?;
+    let reports = reports_of(rt, notes, cache, options)?;
+    opened(rt, &service, &reports, options)
 }
 
 // Listens for clients, and for the operator if there is one, and serves what the service answers.
@@ -47,20 +47,20 @@ fn opened<R>(
     rt: &R,
     service: &EdgeService<Kept, R>,
     reports: &Arc<Reports>,
-    server: &mut Server,
+    options: &mut ServerOptions,
 ) -> Result<ServeEnd, Status>
 where
     R: ServerRuntime + Files<File = File> + Print + Eprint + Send + Sync,
     R: Net<Stream = TcpStream, Listener = TcpListener>,
 {
-    let names = server.admin_hosts.take();
-    let operator = match server.addresses.admin {
+    let names = options.admin_hosts.take();
+    let operator = match options.addresses.admin {
         Some(address) => Some(Operator::at(rt, address, names)?),
         None => None,
     };
-    let (sockets, address) = listening(rt, server, operator.as_ref())?;
+    let (sockets, address) = listening(rt, options, operator.as_ref())?;
     println!(rt; "listening on {address}")?;
-    served(rt, operator.as_ref(), &sockets, service, reports, server)
+    served(rt, operator.as_ref(), &sockets, service, reports, options)
 }
 
 // Serves until the server has ended.
@@ -70,7 +70,7 @@ fn served<R>(
     sockets: &Sockets<Stop>,
     service: &EdgeService<Kept, R>,
     reports: &Arc<Reports>,
-    server: &Server,
+    options: &ServerOptions,
 ) -> Result<ServeEnd, Status>
 where
     R: ServerRuntime + Files<File = File> + Print + Eprint + Send + Sync,
@@ -79,9 +79,9 @@ where
     let end = match operator {
         Some(operator) => {
             println!(rt; "answering the operator on {}", operator.address)?;
-            serve_beside(rt, operator, sockets, service, reports, server)?
+            serve_beside(rt, operator, sockets, service, reports, options)?
         }
-        None => serve_all(rt, sockets, service, &**reports, server),
+        None => serve_all(rt, sockets, service, &**reports, options),
     };
     reports.log.finish(rt);
     Ok(end)
@@ -92,17 +92,17 @@ fn reports_of<R>(
     rt: &R,
     notes: Arc<FetchNotes>,
     cache: Arc<Kept>,
-    server: &Server,
+    options: &ServerOptions,
 ) -> Result<Arc<Reports>, NoMemory>
 where
     R: AllocGlobal + Clock + Files<File = File>,
 {
     let reports = Reports {
-        log: AccessLog::new(rt.alloc(), server.flags.log),
+        log: AccessLog::new(rt.alloc(), options.flags.log),
         connections: Connections::new(),
         fetches: notes,
         cache,
-        measures: measures_of(rt, server.addresses.admin.is_some())?,
+        measures: measures_of(rt, options.addresses.admin.is_some())?,
     };
     Ok(Arc::new(rt.alloc(), reports)?)
 }
@@ -124,14 +124,14 @@ fn serve_all<R, J>(
     sockets: &Sockets<Stop>,
     service: &EdgeService<Kept, R>,
     reports: &J,
-    server: &Server,
+    options: &ServerOptions,
 ) -> ServeEnd
 where
     R: ServerRuntime + Eprint + Send + Sync,
     R: Net<Stream = TcpStream, Listener = TcpListener>,
     J: Journal<R> + Sync,
 {
-    serve_accepts(rt, sockets, service, reports, server.at_once, server.accept)
+    serve_accepts(rt, sockets, service, reports, options.at_once, options.accept)
 }
 
 // The same, while a thread of its own answers the operator. Refused if that can't be started.
@@ -141,7 +141,7 @@ fn serve_beside<R, D>(
     sockets: &Sockets<Stop>,
     service: &EdgeService<Kept, R>,
     reports: &Arc<D>,
-    server: &Server,
+    options: &ServerOptions,
 ) -> Result<ServeEnd, Status>
 where
     R: ServerRuntime + Eprint + Send + Sync,
@@ -153,7 +153,7 @@ where
         if answers.is_err() {
             return Err(Status::NoMemory);
         }
-        let end = serve_all(rt, sockets, service, &**reports, server);
+        let end = serve_all(rt, sockets, service, &**reports, options);
         operator.listener.close();
         Ok(end)
     })
@@ -180,16 +180,16 @@ fn room_of(rt: &impl Eprint, numbers: Numbers) -> u32 {
 // What accepts connections until they are to stop, and where it listens.
 fn listening<R>(
     rt: &R,
-    server: &Server,
+    options: &ServerOptions,
     operator: Option<&Operator>,
 ) -> Result<(Sockets<Stop>, SocketAddr), Status>
 where
     R: AllocGlobal + Files<File = File> + Net<Stream = TcpStream, Listener = TcpListener>,
 {
-    let input = EndOfInput::of(rt, server.flags.stops_with_input)?;
+    let input = EndOfInput::of(rt, options.flags.stops_with_input)?;
     let stop = Stop::of(input, operator)?;
-    let (listener, address) = bound(rt, server.addresses.listen)?;
-    let sockets = Sockets::new(rt, listener, server.clients, stop)?;
+    let (listener, address) = bound(rt, options.addresses.listen)?;
+    let sockets = Sockets::new(rt, listener, options.clients, stop)?;
     Ok((sockets, address))
 }
 
@@ -260,16 +260,16 @@ fn named(
 }
 
 // What is stored, over this source, of which URLs that failed rest.
-fn cache_of<R>(rt: &R, source: HyperSource, server: &Server) -> Result<Arc<Kept>, Status>
+fn cache_of<R>(rt: &R, source: HyperSource, options: &ServerOptions) -> Result<Arc<Kept>, Status>
 where
     R: RandomSource + AllocGlobal,
 {
     let alloc = rt.alloc();
-    let failures = SharedFailures::new(alloc, server.fetches.url_rest)?;
+    let failures = SharedFailures::new(alloc, options.fetches.url_rest)?;
     let spared = SparingSource::new(source, MonotonicSeconds, failures);
     let hashing = UrlHashing::secret(rt)?;
-    let kept = Cache::hashed(alloc, spared, MonotonicSeconds, server.capacity, hashing)?;
-    let kept = kept.bounded(server.fetches.crowd);
+    let kept = Cache::hashed(alloc, spared, MonotonicSeconds, options.capacity, hashing)?;
+    let kept = kept.bounded(options.fetches.crowd);
     match Arc::new(alloc, kept) {
         Ok(shared) => Ok(shared),
         Err(_) => Err(Status::NoMemory),
@@ -288,7 +288,7 @@ fn owner_of(cache: &Arc<Kept>) -> Result<Arc<Kept>, Status> {
 fn service_of<R>(
     rt: &R,
     cache: Arc<Kept>,
-    server: &mut Server,
+    options: &mut ServerOptions,
 ) -> Result<EdgeService<Kept, R>, Status>
 where
     R: RandomSource + AllocGlobal + Clone + Drop,
@@ -296,22 +296,22 @@ where
     let Ok(own) = rt.clone() else {
         return Err(Status::NoMemory);
     };
-    let service = EdgeService::new(own, rt.alloc(), cache, server.pages)?;
-    let mut service = service.limited_to(server.page);
-    if let Some(name) = server.name.take() {
+    let service = EdgeService::new(own, rt.alloc(), cache, options.pages)?;
+    let mut service = service.limited_to(options.page);
+    if let Some(name) = options.name.take() {
         service = service.named(name);
     }
-    if let Some(field) = &server.forwarded {
+    if let Some(field) = &options.forwarded {
         // The setup has a name of a field, so only memory may be missing.
         let Ok(told) = service.forwarded_by(field.as_slice()) else {
             return Err(Status::NoMemory);
         };
         service = told;
     }
-    if server.flags.answers_head {
+    if options.flags.answers_head {
         service = service.answering_head();
     }
-    if server.flags.aborts_on_close {
+    if options.flags.aborts_on_close {
         service = service.aborting_on_close();
     }
     Ok(service)

@@ -17,4 +17,4 @@ pub returns-in-Serve-clause-ran : goal.returns-in-Serve-clause-ran
 returns-in-Serve-clause-ran g c =
     let words = map string_bytes c.args.words.now in
     let asks : Asks words (Serve c.in-Serve.setup) = rw c.in-Serve.is at c.in_ok-order.ensures.judged in
-    record { setup = c.in-Serve.setup; asks = asks; serves = c.server_of.ensures; untouched = search rules }
+    record { setup = c.in-Serve.setup; asks = asks; options_are = c.options_of.ensures; untouched = search rules }

@@ -1,4 +1,4 @@
-//! The server that is to run, as its parts take it.
+//! What is asked of a server, as its parts take it.
 ghost use Rattle.std.specs.Prelude.{◌≤◌};
 
 use edge_connections::{Capacity, Limits};
@@ -22,9 +22,9 @@ pub(crate) struct Fetches {
     pub url_rest: u32,
 }
 
-/// A server that is to run.
+/// What is asked of a server that is to run.
 #[derive(Drop)]
-pub(crate) struct Server {
+pub(crate) struct ServerOptions {
     /// Where it listens, for clients and for its operator.
     pub addresses: Addresses,
     /// Which origins it asks.

@@ -1,4 +1,4 @@
--- The server that the options of `serve` ask for.
+-- What the options of `serve` ask of a server.
 use Rattle.std.specs.Prelude.{◌≡◌, ◌*◌, ◌==◌, min, ℕ, Option, Some, None, option_map, unwrap_or, MatchOption, if◌then◌else◌}
 use Rattle.std.specs.Duration.{as_nanos}
 use Rattle.std.specs.declared.time.Duration.{Duration}
@@ -9,8 +9,8 @@ use Rattle.edge_setup.specs.declared.numbers.Numbers.{Numbers}
 use Rattle.edge_setup.specs.declared.setup.Setup.{Setup}
 use Rattle.fetch_workers.specs.declared.assembler.Assembling.{Assembling}
 use Rattle.hyper_source.specs.declared.gate.Bounds.{Bounds}
-use Rattle.edge_main.specs.declared.server.Fetches.{Fetches}
-use Rattle.edge_main.specs.declared.server.Server.{Server}
+use Rattle.edge_main.specs.declared.server_options.Fetches.{Fetches}
+use Rattle.edge_main.specs.declared.server_options.ServerOptions.{ServerOptions}
 
 -- how many nanoseconds a limit has, if there is one
 abbrev pub nanos_of : Option Duration → Option ℕ
@@ -85,18 +85,18 @@ pub record AreClientsOf (numbers : Numbers) (clients : Limits) : Type 0 where
   pub idle_is : nanos_of clients.idle ≡ idle_of (number_of numbers number.KeepAlive)
 
 -- each part is what its option asks for
-pub record IsServerOf (setup : Setup) (server : Server) : Type 0 where
-  pub addresses_are : server.addresses ≡ setup.addresses
-  pub origins_are : server.origins ≡ setup.origins
-  pub fetches_are : AreFetchesOf setup.numbers server.fetches
-  pub name_is : server.name ≡ setup.name
-  pub clients_are : AreClientsOf setup.numbers server.clients
-  pub pages_are : ArePagesOf setup.numbers server.pages
-  pub page_is : nanos_of server.page ≡ limit_of (number_of setup.numbers number.PageTimeout)
-  pub capacity_is : server.capacity ≡ number_of setup.numbers number.Capacity
-  pub threads_are : server.at_once.threads ≡ number_of setup.numbers number.Threads
-  pub connections_are : server.at_once.connections ≡ number_of setup.numbers number.Connections
-  pub accepts_are : server.accept ≡ unwrap_or (value_of setup.numbers number.Accept) 18_446_744_073_709_551_615
-  pub flags_are : server.flags ≡ setup.flags
-  pub forwarded_is : server.forwarded ≡ setup.forwarded
-  pub hosts_are : server.admin_hosts ≡ setup.admin_hosts
+pub record AreAskedBy (setup : Setup) (options : ServerOptions) : Type 0 where
+  pub addresses_are : options.addresses ≡ setup.addresses
+  pub origins_are : options.origins ≡ setup.origins
+  pub fetches_are : AreFetchesOf setup.numbers options.fetches
+  pub name_is : options.name ≡ setup.name
+  pub clients_are : AreClientsOf setup.numbers options.clients
+  pub pages_are : ArePagesOf setup.numbers options.pages
+  pub page_is : nanos_of options.page ≡ limit_of (number_of setup.numbers number.PageTimeout)
+  pub capacity_is : options.capacity ≡ number_of setup.numbers number.Capacity
+  pub threads_are : options.at_once.threads ≡ number_of setup.numbers number.Threads
+  pub connections_are : options.at_once.connections ≡ number_of setup.numbers number.Connections
+  pub accepts_are : options.accept ≡ unwrap_or (value_of setup.numbers number.Accept) 18_446_744_073_709_551_615
+  pub flags_are : options.flags ≡ setup.flags
+  pub forwarded_is : options.forwarded ≡ setup.forwarded
+  pub hosts_are : options.admin_hosts ≡ setup.admin_hosts
