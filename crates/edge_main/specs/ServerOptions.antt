@@ -98,5 +98,6 @@ pub record AreAskedBy (setup : Setup) (options : ServerOptions) : Type 0 where
   pub connections_are : options.at_once.connections ≡ number_of setup.numbers number.Connections
   pub accepts_are : options.accept ≡ unwrap_or (value_of setup.numbers number.Accept) 18_446_744_073_709_551_615
   pub flags_are : options.flags ≡ setup.flags
+  pub log_is : options.log ≡ setup.log
   pub forwarded_is : options.forwarded ≡ setup.forwarded
   pub hosts_are : options.admin_hosts ≡ setup.admin_hosts

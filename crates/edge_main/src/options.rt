@@ -154,6 +154,7 @@ pub(crate) fn options_of(setup: Setup) -> ServerOptions
         origins,
         numbers,
         flags,
+        log,
         name,
         forwarded,
         admin_hosts,
@@ -173,6 +174,7 @@ pub(crate) fn options_of(setup: Setup) -> ServerOptions
         },
         accept: numbers.said(Number::Accept).unwrap_or(u64::MAX),
         flags,
+        log,
         forwarded,
         admin_hosts,
     }

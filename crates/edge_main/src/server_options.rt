@@ -1,6 +1,7 @@
 //! What is asked of a server, as its parts take it.
 ghost use Rattle.std.specs.Prelude.{◌≤◌};
 
+use access_log::LogFormat;
 use edge_connections::{Capacity, Limits};
 use edge_setup::{Addresses, Flags, Origin};
 use fetch_workers::Assembling;
@@ -47,6 +48,8 @@ pub(crate) struct ServerOptions {
     pub accept: u64,
     /// What is asked for by flags.
     pub flags: Flags,
+    /// How requests are reported on standard error, where they are.
+    pub log: Option<LogFormat>,
     /// The name of the field by which a trusted proxy names the client to log, where there is one.
     pub forwarded: Option<Vec<u8>>,
     /// The names of hosts by which its operator may ask, with commas between, where there are some.

@@ -6,7 +6,7 @@ use crate::server_options::{Fetches, ServerOptions};
 use edge_commands::Status;
 use edge_connections::{ServeEnd, ServerRuntime, Sockets};
 use edge_reports::{AccessLog, Connections, EndOfInput, Kept, Measures, MonotonicSeconds, Reports};
-use edge_setup::{Origin, Place};
+use edge_setup::{Flag, Origin, Place};
 use edge_types::NoMemory;
 use failed_answers::{SharedFailures, SparingSource};
 use fragment_cache::UrlHashing;
@@ -98,7 +98,7 @@ where
     R: AllocGlobal + Clock + Files<File = File>,
 {
     let reports = Reports {
-        log: AccessLog::new(rt.alloc(), options.flags.log),
+        log: AccessLog::new(rt.alloc(), options.log),
         connections: Connections::new(),
         fetches: notes,
         cache,
@@ -131,7 +131,14 @@ where
     R: Net<Stream = TcpStream, Listener = TcpListener>,
     J: Journal<R> + Sync,
 {
-    serve_accepts(rt, sockets, service, reports, options.at_once, options.accept)
+    serve_accepts(
+        rt,
+        sockets,
+        service,
+        reports,
+        options.at_once,
+        options.accept,
+    )
 }
 
 // The same, while a thread of its own answers the operator. Refused if that can't be started.
@@ -186,7 +193,7 @@ fn listening<R>(
 where
     R: AllocGlobal + Files<File = File> + Net<Stream = TcpStream, Listener = TcpListener>,
 {
-    let input = EndOfInput::of(rt, options.flags.stops_with_input)?;
+    let input = EndOfInput::of(rt, options.flags.has(Flag::StopWithInput))?;
     let stop = Stop::of(input, operator)?;
     let (listener, address) = bound(rt, options.addresses.listen)?;
     let sockets = Sockets::new(rt, listener, options.clients, stop)?;
@@ -308,10 +315,10 @@ where
         };
         service = told;
     }
-    if options.flags.answers_head {
+    if options.flags.has(Flag::Head) {
         service = service.answering_head();
     }
-    if options.flags.aborts_on_close {
+    if options.flags.has(Flag::AbortOnClose) {
         service = service.aborting_on_close();
     }
     Ok(service)

@@ -1,7 +1,7 @@
 pub mod Rules
 pub mod Numbers
-pub mod Said
 pub mod Options
+pub mod Said
 pub mod Command
 pub mod Case
 pub mod OriginWord

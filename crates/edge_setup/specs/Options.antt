@@ -1,5 +1,5 @@
 -- The options of `serve` that take a word, and those without a value; `Numbers` has those that take a number.
-use Rattle.std.specs.Prelude.{Bool, List, [], ◌∷◌, codes, Option}
+use Rattle.std.specs.Prelude.{ℕ, Bool, List, [], ◌∷◌, map, codes, Option}
 use Rattle.clap.specs.Words.{App, Row, Rule, Text, all_of, first_of, with_rule}
 use Rattle.edge_setup.specs.Rules.{is_set, named_flag, named_option, repeated, wanted}
 use Rattle.edge_setup.specs.declared.flag.Flag.{Flag}
@@ -73,6 +73,14 @@ flag_name flag.PrintConfig = codes "print-config"
 abbrev pub flag_options : List Flag
 flag_options = flag.Head ∷ flag.AbortOnClose ∷ flag.StopWithInput ∷ flag.Log ∷ flag.PrintConfig ∷ []
 
+-- the place of each in this order
+abbrev pub flag_place : Flag → ℕ
+flag_place flag.Head = 0
+flag_place flag.AbortOnClose = 1
+flag_place flag.StopWithInput = 2
+flag_place flag.Log = 3
+flag_place flag.PrintConfig = 4
+
 -- a command with one more of them
 abbrev pub with_flag : App → Flag → App
 with_flag command option = with_rule command (named_flag (flag_name option))
@@ -80,3 +88,7 @@ with_flag command option = with_rule command (named_flag (flag_name option))
 -- whether it is set
 abbrev pub is_flag_set : Flag → List Row → Bool
 is_flag_set option rows = is_set (first_of (flag_name option) rows)
+
+-- whether each of them is set
+abbrev pub all_flags_said : List Row → List Bool
+all_flags_said rows = map (λ option. is_flag_set option rows) flag_options

@@ -10,7 +10,7 @@ use Rattle.access_log.specs.declared.format.LogFormat.TheVariants as format
 use Rattle.edge_types.specs.Halves.{around}
 use Rattle.edge_setup.specs.Numbers.{all_said, numbers, place_of, row_of, said_of}
 use Rattle.edge_setup.specs.Options.{all_words_said, is_flag_set, word_said}
-use Rattle.edge_setup.specs.Said.{SaysNumbers}
+use Rattle.edge_setup.specs.Said.{SaysFlags, SaysNumbers}
 use Rattle.surrogate_headers.specs.Token.{is_token}
 use Rattle.edge_setup.specs.OriginWord.{is_authority, is_name, IsFaultOf, IsPlace}
 use Rattle.edge_setup.specs.OriginWord.{refusal_of as origin_refusal}
@@ -21,7 +21,6 @@ use Rattle.edge_setup.specs.declared.setup.Addresses.{Addresses}
 use Rattle.edge_setup.specs.declared.setup.Origin.{Origin}
 use Rattle.edge_setup.specs.declared.flag.Flag.TheVariants as flag
 use Rattle.edge_setup.specs.declared.number.Number.{Number}
-use Rattle.edge_setup.specs.declared.setup.Flags.{Flags}
 use Rattle.edge_setup.specs.declared.setup.Setup.{Setup}
 use Rattle.edge_setup.specs.declared.word.Word.TheVariants as word
 use Rattle.edge_setup.specs.declared.words.Tokens.{Tokens}
@@ -142,13 +141,6 @@ pub record SaysAddresses (rows : List Row) (addresses : Addresses) : Type 0 wher
   pub listen_is : IsAddress (word_said word.Listen rows) addresses.listen
   pub admin_is : IsAdmin (word_said word.Admin rows) addresses.admin
 
--- what is asked for by flags, and how requests are reported
-pub record SaysFlags (rows : List Row) (flags : Flags) : Type 0 where
-  pub stops_are : is_flag_set flag.StopWithInput rows ≡ flags.stops_with_input
-  pub head_is : is_flag_set flag.Head rows ≡ flags.answers_head
-  pub close_is : is_flag_set flag.AbortOnClose rows ≡ flags.aborts_on_close
-  pub log_is : log_said rows ≡ Some flags.log
-
 -- the names of the edge, of the field by which a proxy names clients, and of the operator's hosts
 pub record SaysTokens (rows : List Row) (tokens : Tokens) : Type 0 where
   pub name_is : token_of (word_said word.Name rows) ≡ Some (option_map (λ name. name.now) tokens.name)
@@ -161,6 +153,7 @@ pub record SaysSetup (rows : List Row) (setup : Setup) : Type 0 where
   pub origins_are : SayOrigins (all_words_said word.Origin rows) setup.origins.items
   pub numbers_are : SaysNumbers rows setup.numbers
   pub flags_are : SaysFlags rows setup.flags
+  pub log_is : log_said rows ≡ Some setup.log
   pub name_is : token_of (word_said word.Name rows) ≡ Some (option_map (λ name. name.items) setup.name)
   pub forwarded_is : token_of (word_said word.Forwarded rows) ≡ Some (option_map (λ field. field.items) setup.forwarded)
   pub hosts_are : hosts_said rows ≡ Some (option_map (λ hosts. hosts.items) setup.admin_hosts)
@@ -192,8 +185,8 @@ HaveValues rows options = (values : List (Option ℕ)) × (all_said rows options
 abbrev pub HasNumbers : List Row → Type 0
 HasNumbers rows = HaveValues rows numbers
 
-abbrev pub HasFlags : List Row → Type 0
-HasFlags rows = IsSome (log_said rows)
+abbrev pub HasLog : List Row → Type 0
+HasLog rows = IsSome (log_said rows)
 
 abbrev pub HasName : List Row → Type 0
 HasName rows = IsSome (token_of (word_said word.Name rows))
@@ -213,10 +206,10 @@ AreValidBefore rows named.Listen = Unit {0}
 AreValidBefore rows named.Admin = HasListen rows
 AreValidBefore rows (named.Number number) = HasAddresses rows × HaveValues rows (take (place_of number) numbers)
 AreValidBefore rows named.LogFormat = HasAddresses rows × HasNumbers rows
-AreValidBefore rows named.Name = HasAddresses rows × HasNumbers rows × HasFlags rows
-AreValidBefore rows named.Forwarded = HasAddresses rows × HasNumbers rows × HasFlags rows × HasName rows
-AreValidBefore rows named.AdminHost = HasAddresses rows × HasNumbers rows × HasFlags rows × HasName rows × HasForwarded rows
-AreValidBefore rows (named.Origin fault) = HasAddresses rows × HasNumbers rows × HasFlags rows × HasTokens rows
+AreValidBefore rows named.Name = HasAddresses rows × HasNumbers rows × HasLog rows
+AreValidBefore rows named.Forwarded = HasAddresses rows × HasNumbers rows × HasLog rows × HasName rows
+AreValidBefore rows named.AdminHost = HasAddresses rows × HasNumbers rows × HasLog rows × HasName rows × HasForwarded rows
+AreValidBefore rows (named.Origin fault) = HasAddresses rows × HasNumbers rows × HasLog rows × HasTokens rows
 
 -- this is the first option, in the order of reading, whose value is invalid
 pub record IsFirstWrong (rows : List Row) (option : Named) : Type 0 where

@@ -1,7 +1,7 @@
 //! The options of `serve` without a value. This is the one table of them.
 ghost use Rattle.std.specs.Prelude.{◌≡◌, false};
 ghost use Rattle.clap.specs.Words.{found_of, rows_of, rule_of};
-ghost use Rattle.edge_setup.specs.Options.{flag_name, is_flag_set};
+ghost use Rattle.edge_setup.specs.Options.{flag_name, flag_place, is_flag_set};
 ghost use Rattle.edge_setup.specs.Rules.{named_flag};
 
 use crate::options::flag;
@@ -11,7 +11,7 @@ use std::alloc::Global;
 
 /// An option without a value.
 #[derive(Clone, Copy)]
-pub(crate) enum Flag {
+pub enum Flag {
     /// HEAD is answered like GET, without the body.
     Head,
     /// A client that has ended its input has left.
@@ -68,6 +68,13 @@ impl Flag {
         Flag::Log,
         Flag::PrintConfig,
     ];
+
+    // Its place in `ALL`.
+    pub(crate) fn place(self) -> usize
+        ensures { result ≡ flag_place self }
+    {
+        self as usize
+    }
 
     // Its row.
     fn row(self) -> FlagRow

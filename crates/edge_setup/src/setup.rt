@@ -4,6 +4,7 @@ ghost use Rattle.std.specs.Prelude.{◌≡◌};
 ghost use Rattle.edge_setup.specs.Words.{refusal_of};
 ghost use Rattle.edge_setup.specs.declared.setup.SetupFault.TheVariants as fault;
 
+use crate::flags::Flags;
 use crate::number::Number;
 use crate::numbers::Numbers;
 use crate::origin::{OriginFault, Place};
@@ -29,19 +30,6 @@ pub struct Addresses {
     pub admin: Option<SocketAddr>,
 }
 
-/// What is asked for by flags, and how requests are reported.
-#[derive(Clone, Copy)]
-pub struct Flags {
-    /// Whether the server stops once standard input has ended.
-    pub stops_with_input: bool,
-    /// Whether HEAD is answered like GET, without the body.
-    pub answers_head: bool,
-    /// Whether a client that has ended its input has left.
-    pub aborts_on_close: bool,
-    /// How each request is reported on standard error, where it is.
-    pub log: Option<LogFormat>,
-}
-
 /// What the words of `serve` ask for.
 #[derive(Drop)]
 pub struct Setup {
@@ -53,6 +41,8 @@ pub struct Setup {
     pub numbers: Numbers,
     /// What is asked for by flags.
     pub flags: Flags,
+    /// How each request is reported on standard error, where it is.
+    pub log: Option<LogFormat>,
     /// The edge's name among others, a token of at most 64 bytes, where it has one.
     pub name: Option<Vec<u8>>,
     /// The name of the field by which a trusted proxy names the client, a token of at most 64 bytes, where there is one.

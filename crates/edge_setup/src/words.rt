@@ -3,13 +3,14 @@ ghost use Rattle.std.specs.Prelude.{◌≡◌, option_map, IfOk, MatchOption, Ma
 ghost use Rattle.std.specs.declared.net.socket_addr.SocketAddr.{SocketAddr};
 ghost use Rattle.clap.specs.Words.{first_of, found_of, rows_of};
 ghost use Rattle.edge_setup.specs.Rules.{is_set};
-ghost use Rattle.edge_setup.specs.Words.{are_hosts, hosts_of, hosts_said, is_comma, log_of, log_said, token_of, IsAddress, IsAdmin, IsNoAdmin, HasAddresses, HasFlags, HasNumbers, IsFirstWrong, IsRefusedBy, SaysAddresses, SaysFlags, SaysSetup, SaysTokens};
+ghost use Rattle.edge_setup.specs.Words.{are_hosts, hosts_of, hosts_said, is_comma, log_of, log_said, token_of, IsAddress, IsAdmin, IsNoAdmin, HasAddresses, HasLog, HasNumbers, IsFirstWrong, IsRefusedBy, SaysAddresses, SaysSetup, SaysTokens};
 
 use crate::flag::Flag;
+use crate::flags::Flags;
 use crate::numbers::Numbers;
 use crate::origin::is_name;
 use crate::origins::origins_of;
-use crate::setup::{Addresses, Flags, Named, Setup, SetupFault};
+use crate::setup::{Addresses, Named, Setup, SetupFault};
 use crate::word::Word;
 use access_log::LogFormat;
 use clap::ArgMatches;
@@ -158,17 +159,12 @@ fn addresses_of(matches: &ArgMatches<'_>) -> Result<Addresses, Named>
     })
 }
 
-// What is asked for by flags.
-fn flags_of(matches: &ArgMatches<'_>) -> Result<Flags, Named>
+// How requests are reported.
+fn reported_of(matches: &ArgMatches<'_>) -> Result<Option<LogFormat>, Named>
     ensures { let rows = rows_of (found_of matches.now) in
-        MatchResult result (SaysFlags rows) (λ option. HasAddresses rows → HasNumbers rows → IsFirstWrong rows option) }
+        MatchResult result (λ log. log_said rows ≡ Some log) (λ option. HasAddresses rows → HasNumbers rows → IsFirstWrong rows option) }
 {
-    Ok(Flags {
-        stops_with_input: Flag::StopWithInput.is_set(matches),
-        answers_head: Flag::Head.is_set(matches),
-        aborts_on_close: Flag::AbortOnClose.is_set(matches),
-        log: log_said(matches).ok_or(Named::LogFormat)?,
-    })
+    log_said(matches).ok_or(Named::LogFormat)
 }
 
 /// What the options name: the edge, the field by which a proxy names clients, and the hosts by which the operator may ask.
@@ -182,7 +178,7 @@ pub(crate) struct Tokens<'a> {
 // What the options name.
 fn tokens_of<'a>(matches: &ArgMatches<'a>) -> Result<Tokens<'a>, Named>
     ensures { let rows = rows_of (found_of matches.now) in
-        MatchResult result (SaysTokens rows) (λ option. HasAddresses rows → HasNumbers rows → HasFlags rows → IsFirstWrong rows option) }
+        MatchResult result (SaysTokens rows) (λ option. HasAddresses rows → HasNumbers rows → HasLog rows → IsFirstWrong rows option) }
 {
     Ok(Tokens {
         name: token_of(Word::Name.said(matches)).ok_or(Named::Name)?,
@@ -200,7 +196,7 @@ pub fn setup_of(alloc: Global, matches: &ArgMatches<'_>) -> Result<Setup, SetupF
 {
     let addresses = addresses_of(matches)?;
     let numbers = Numbers::of(alloc, matches)?;
-    let flags = flags_of(matches)?;
+    let log = reported_of(matches)?;
     let tokens = tokens_of(matches)?;
     let origins = match origins_of(alloc, matches)? {
         Ok(origins) => origins,
@@ -210,7 +206,8 @@ pub fn setup_of(alloc: Global, matches: &ArgMatches<'_>) -> Result<Setup, SetupF
         addresses,
         origins,
         numbers,
-        flags,
+        flags: Flags::of(alloc, matches)?,
+        log,
         name: copy_of(alloc, tokens.name)?,
         forwarded: copy_of(alloc, tokens.forwarded)?,
         admin_hosts: copy_of(alloc, tokens.hosts)?,
