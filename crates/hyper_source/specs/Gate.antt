@@ -10,7 +10,7 @@ use Rattle.origin_health.specs.declared.standing.FetchEnd.{FetchEnd}
 use Rattle.origin_queue.specs.Queue as queue
 use Rattle.origin_queue.specs.Queued.{stands}
 use Rattle.origin_queue.specs.declared.queue.Place.{Place}
-use Rattle.origin_queue.specs.declared.queue.Turn.TheVariants as turn
+use Rattle.origin_queue.specs.declared.queue.Ruling.TheVariants as ruling
 use Rattle.hyper_source.specs.declared.gate.Chance.{Chance}
 use Rattle.hyper_source.specs.declared.gate.Chance.TheVariants.{Granted, Waits, Lost}
 use Rattle.hyper_source.specs.declared.gate.Gate.{Gate}
@@ -44,11 +44,11 @@ LooksWaiting place (Lost lost) = lost ≡ Fault faults.AtRest
 -- From old, a fetch that is asked for is told this, and leaves new.
 abbrev pub Asks : Gate → ℕ → Chance → Gate → Type 0
 -- it goes where nobody waits, a permit is free and the address doesn't rest
-Asks old now (Granted permit) new = queue.Asks old.queue turn.Goes new.queue × health.Asks old.health now (leave.Granted permit) new.health
+Asks old now (Granted permit) new = queue.Asks old.queue ruling.Goes new.queue × health.Asks old.health now (leave.Granted permit) new.health
 -- it waits behind all others, where the address doesn't rest
-Asks old now (Waits place) new = queue.Asks old.queue (turn.Waits place) new.queue × IsFalse (health.rests_at old.health now) × (new.health ≡ old.health)
+Asks old now (Waits place) new = queue.Asks old.queue (ruling.Waits place) new.queue × IsFalse (health.rests_at old.health now) × (new.health ≡ old.health)
 -- it isn't made where the address lets none through, or as many wait as may
-Asks old now (Lost (Fault fault)) new = (Withholds old.health now fault ⊎ ((fault ≡ faults.TooMany) × queue.Asks old.queue turn.Full new.queue)) × (new.health ≡ old.health)
+Asks old now (Lost (Fault fault)) new = (Withholds old.health now fault ⊎ ((fault ≡ faults.TooMany) × queue.Asks old.queue ruling.Full new.queue)) × (new.health ≡ old.health)
 Asks old now (Lost NoMemory) new = new.health ≡ old.health
 
 -- From old, a fetch at a place is told this, and leaves new.

@@ -12,7 +12,7 @@ use crate::gathered::Lost;
 use answer_sources::Bell;
 use fetch_outcomes::FetchFault;
 use origin_health::{FetchEnd, Leave, OriginHealth, Permit};
-use origin_queue::{OriginQueue, Place, QueueBounds, Turn};
+use origin_queue::{OriginQueue, Place, QueueBounds, Ruling};
 use std::alloc::{AllocError, Global};
 use std::collections::BTreeMap;
 use std::mem;
@@ -122,9 +122,9 @@ impl Gate {
             return Chance::Lost(Lost::Fault(FetchFault::AtRest));
         }
         match self.queue.ask() {
-            Ok(Turn::Goes) => self.goes(now),
-            Ok(Turn::Waits(place)) => self.waits(place, caller),
-            Ok(Turn::Full) => Chance::Lost(Lost::Fault(FetchFault::TooMany)),
+            Ok(Ruling::Goes) => self.goes(now),
+            Ok(Ruling::Waits(place)) => self.waits(place, caller),
+            Ok(Ruling::Full) => Chance::Lost(Lost::Fault(FetchFault::TooMany)),
             Err(AllocError) => Chance::Lost(Lost::NoMemory),
         }
     }

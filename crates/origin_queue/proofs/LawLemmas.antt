@@ -3,7 +3,7 @@ use Rattle.std.proofs.Common.{◌≡◌, inl, inr, ℕ, ◌+◌, ◌-◌, ◌^�
 use Rattle.std.proofs.lemmas.Bool.{and_parts, and_cases, or_cases, or_parts, ltb-true, ltb-false, leb-true, leb-false}
 use Rattle.origin_queue.specs.declared.queue.QueueBounds.{QueueBounds}
 use Rattle.origin_queue.specs.declared.queue.Place.{Place}
-use Rattle.origin_queue.specs.declared.queue.Turn.TheVariants.{Goes, Waits, Full}
+use Rattle.origin_queue.specs.declared.queue.Ruling.TheVariants.{Goes, Waits, Full}
 use Rattle.origin_queue.specs.Queued.{Queued, stands, without}
 use Rattle.origin_queue.specs.Queue.{may_go, Asks, Frees, LeavesAs}
 use Rattle.origin_queue.specs.Law.{Event, Asked, Freed, Took, Left, Dismissed, History, Step, Run, given, but_called, and_called, waiting, called, kept_for, out, IsFirst, Follows, Keeps, QueueLaw, NeverMoreWait, NeverMoreOut, NoCallIsLost, IsCalledBy, WasCalled, NobodyOvertakes}

@@ -2,15 +2,15 @@
 use Rattle.std.specs.Prelude.{◌≡◌, ◌≢◌, ℕ, ◌+◌, ◌-◌, ◌^◌, ◌<◌, ◌≤◌, ◌⊎◌, Bool, IsTrue, IsFalse, ⊤, List, [], ◌∷◌, ◌++◌, length, Option, Some, None, if◌then◌else◌}
 use Rattle.origin_queue.specs.declared.queue.QueueBounds.{QueueBounds}
 use Rattle.origin_queue.specs.declared.queue.Place.{Place}
-use Rattle.origin_queue.specs.declared.queue.Turn.{Turn}
-use Rattle.origin_queue.specs.declared.queue.Turn.TheVariants.{Goes, Waits, Full}
+use Rattle.origin_queue.specs.declared.queue.Ruling.{Ruling}
+use Rattle.origin_queue.specs.declared.queue.Ruling.TheVariants.{Goes, Waits, Full}
 use Rattle.origin_queue.specs.Queued.{Queued, stands, without}
 use Rattle.origin_queue.specs.Queue.{dismissed, fresh, uncalled, Asks, Frees, Leaves}
 
 -- a call: somebody asked, and was told this; a permit was handed back, and this place was called; who has a place
 -- took his permit, if he was called; who has a place left, and this other one was called; all who wait were dismissed
 pub data Event : Type 0 where
-  Asked : (turn : Turn) → Event
+  Asked : (ruling : Ruling) → Event
   Freed : (next : Option Place) → Event
   Took : (place : Place) (was_called : Bool) → Event
   Left : (place : Place) (next : Option Place) → Event
@@ -21,7 +21,7 @@ History = List Event
 
 -- the call leads from old to new
 abbrev pub Step : Queued → Event → Queued → Type 0
-Step old (Asked turn) new = Asks old turn new
+Step old (Asked ruling) new = Asks old ruling new
 Step old (Freed next) new = Frees old next new
 Step old (Took place was_called) new = (was_called ≡ stands place.number old.called) × (new ≡ uncalled place.number old)
 Step old (Left place next) new = Leaves old place.number next new
@@ -66,7 +66,7 @@ waiting (Dismissed ∷ earlier) = []
 -- who was called, and neither took his permit since nor has left
 abbrev pub called : History → List ℕ
 called [] = []
-called (Asked turn ∷ earlier) = called earlier
+called (Asked ruling ∷ earlier) = called earlier
 called (Freed next ∷ earlier) = and_called next (called earlier)
 called (Took place was_called ∷ earlier) = without place.number (called earlier)
 called (Left place next ∷ earlier) = and_called next (without place.number (called earlier))
@@ -138,7 +138,7 @@ IsCalledBy number (Some place) = place.number ≡ number
 -- this place was called
 abbrev pub WasCalled : ℕ → History → Type 0
 WasCalled number [] = ⊥
-WasCalled number (Asked turn ∷ earlier) = WasCalled number earlier
+WasCalled number (Asked ruling ∷ earlier) = WasCalled number earlier
 WasCalled number (Freed next ∷ earlier) = IsCalledBy number next ⊎ WasCalled number earlier
 WasCalled number (Took place was_called ∷ earlier) = WasCalled number earlier
 WasCalled number (Left place next ∷ earlier) = IsCalledBy number next ⊎ WasCalled number earlier

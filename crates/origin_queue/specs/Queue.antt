@@ -2,8 +2,8 @@
 use Rattle.std.specs.Prelude.{◌≡◌, ℕ, ◌+◌, ◌-◌, ◌^◌, Bool, true, false, ◌&&◌, ◌||◌, nat_lt, nat_le, IsTrue, IsFalse, [], ◌∷◌, ◌++◌, length, Option, Some, None}
 use Rattle.origin_queue.specs.declared.queue.QueueBounds.{QueueBounds}
 use Rattle.origin_queue.specs.declared.queue.Place.{Place}
-use Rattle.origin_queue.specs.declared.queue.Turn.{Turn}
-use Rattle.origin_queue.specs.declared.queue.Turn.TheVariants.{Goes, Waits, Full}
+use Rattle.origin_queue.specs.declared.queue.Ruling.{Ruling}
+use Rattle.origin_queue.specs.declared.queue.Ruling.TheVariants.{Goes, Waits, Full}
 use Rattle.origin_queue.specs.Queued as places
 use Rattle.origin_queue.specs.Queued.{Queued}
 
@@ -24,7 +24,7 @@ abbrev pub Joins : Queued → Place → Queued → Type 0
 Joins old place new = (place.number ≡ old.given) × (new ≡ record old { given = old.given + 1; waiting = old.waiting ++ old.given ∷ [] })
 
 -- From old, who asks is told this, and leaves new.
-abbrev pub Asks : Queued → Turn → Queued → Type 0
+abbrev pub Asks : Queued → Ruling → Queued → Type 0
 Asks old Goes new = IsTrue (may_go old) × (new ≡ record old { out = old.out + 1 })
 Asks old (Waits place) new = IsFalse (may_go old) × IsFalse (is_full old) × Joins old place new
 Asks old Full new = IsFalse (may_go old) × IsTrue (is_full old) × (new ≡ old)

@@ -4,4 +4,4 @@
 pub mod laws;
 mod queue;
 
-pub use queue::{OriginQueue, Place, QueueBounds, Turn};
+pub use queue::{OriginQueue, Place, QueueBounds, Ruling};

@@ -34,7 +34,7 @@ impl Place {
 
 /// What whoever asks for a permit is told.
 #[derive(Clone, Copy, Debug, PartialEq, Eq)]
-pub enum Turn {
+pub enum Ruling {
     /// He has it, and goes.
     Goes,
     /// He waits at this place until he is called.
@@ -96,19 +96,19 @@ impl OriginQueue {
     }
 
     /// Asks for a permit. The only refusal is running out of memory, which changes nothing.
-    pub fn ask(&mut self) -> Result<Turn, AllocError>
-        ensures ok { IfOk result (λ turn. spec.Asks self.old turn self.new) }
+    pub fn ask(&mut self) -> Result<Ruling, AllocError>
+        ensures ok { IfOk result (λ ruling. spec.Asks self.old ruling self.new) }
         ensures err { OnErr result (self.new ≡ self.old) }
     {
         if self.may_go() {
             self.out += 1;
-            return Ok(Turn::Goes);
+            return Ok(Ruling::Goes);
         }
         if self.is_full() {
-            return Ok(Turn::Full);
+            return Ok(Ruling::Full);
         }
         let place = self.join()?;
-        Ok(Turn::Waits(place))
+        Ok(Ruling::Waits(place))
     }
 
     /// A permit is handed back: who waits first is called. Takes no memory.
