@@ -2,17 +2,17 @@
 -- version 0.0.4).
 use Rattle.std.specs.Prelude.{ℕ, List, [], ◌++◌, codes, decimal, Option, Some, None}
 use Rattle.std.specs.List.{flat_map}
-use Rattle.edge_metrics.specs.declared.cache_counts.CacheCounts.{CacheCounts}
 use Rattle.edge_metrics.specs.declared.durations.Durations.{Durations}
 use Rattle.edge_metrics.specs.declared.connection_counts.ConnectionCounts.{ConnectionCounts}
 use Rattle.edge_metrics.specs.declared.measured.Measured.{Measured}
-use Rattle.edge_metrics.specs.declared.origin_counts.OriginCounts.{OriginCounts}
 use Rattle.edge_metrics.specs.declared.statuses.Statuses.{Statuses}
 use Rattle.edge_metrics.specs.Labels.{escaped}
 use Rattle.fetch_outcomes.specs.declared.fetch_fault.FetchFault.{FetchFault}
 use Rattle.fetch_outcomes.specs.declared.fetch_fault.FetchFault.TheVariants as fault
 use Rattle.fetch_outcomes.specs.declared.fetch_tally.FetchTally.{FetchTally}
+use Rattle.fetch_outcomes.specs.declared.origin_tally.OriginTally.{OriginTally}
 use Rattle.fetch_outcomes.specs.Names.{name_of}
+use Rattle.fragment_cache.specs.declared.tally.CacheTally.{CacheTally}
 
 -- the line that says what a metric means, and the one that says of which kind it is
 abbrev pub help_line : List ℕ → List ℕ → List ℕ
@@ -136,20 +136,20 @@ unfoldable pub lookups_head : List ℕ
 lookups_head = head (codes "esi_edge_cache_lookups_total") (codes "Answers asked for, by how they came.") (codes "counter")
 
 -- for which no fetch was made, and for which one was
-unfoldable pub unfetched : CacheCounts → List ℕ
+unfoldable pub unfetched : CacheTally → List ℕ
 unfetched counts =
     sample (codes "esi_edge_cache_lookups_total{by=\"hit\"}") counts.hits
     ++ sample (codes "esi_edge_cache_lookups_total{by=\"join\"}") counts.joins
 
-unfoldable pub fetched : CacheCounts → List ℕ
+unfoldable pub fetched : CacheTally → List ℕ
 fetched counts =
     sample (codes "esi_edge_cache_lookups_total{by=\"lead\"}") counts.leads
     ++ sample (codes "esi_edge_cache_lookups_total{by=\"bypass\"}") counts.bypasses
 
-unfoldable pub lookups : CacheCounts → List ℕ
+unfoldable pub lookups : CacheTally → List ℕ
 lookups counts = lookups_head ++ unfetched counts ++ fetched counts
 
-unfoldable pub cache : CacheCounts → List ℕ
+unfoldable pub cache : CacheTally → List ℕ
 cache counts = kept_answers counts.entries ++ kept_bytes counts.bytes ++ lookups counts ++ bridges counts.bridges
 
 -- ---- fetches
@@ -184,13 +184,13 @@ refused authority counts =
     ++ failed authority fault.Coded counts.coded
     ++ failed authority fault.Status counts.status
 
-unfoldable pub from_origin : OriginCounts → List ℕ
+unfoldable pub from_origin : OriginTally → List ℕ
 from_origin origin =
     unsent origin.authority.items origin.fetches
     ++ unfinished origin.authority.items origin.fetches
     ++ refused origin.authority.items origin.fetches
 
-unfoldable pub fetches_by_origin : List OriginCounts → List ℕ
+unfoldable pub fetches_by_origin : List OriginTally → List ℕ
 fetches_by_origin origins = fetches_head ++ flat_map from_origin origins
 
 unfoldable pub without_origin_head : List ℕ
@@ -207,10 +207,10 @@ strays_head = head (codes "esi_edge_strays_total") (codes "Times that an origin 
 unfoldable pub of_origin : List ℕ → List ℕ → ℕ → List ℕ
 of_origin start authority count = start ++ escaped authority ++ sample (codes "\"}") count
 
-abbrev pub strays_from : OriginCounts → List ℕ
+abbrev pub strays_from : OriginTally → List ℕ
 strays_from origin = of_origin (codes "esi_edge_strays_total{origin=\"") origin.authority.items origin.strays
 
-unfoldable pub strays_by_origin : List OriginCounts → List ℕ
+unfoldable pub strays_by_origin : List OriginTally → List ℕ
 strays_by_origin origins = strays_head ++ flat_map strays_from origins
 
 -- ---- the process
@@ -232,7 +232,7 @@ resident (Some bytes) = resident_bytes bytes
 
 -- ---- all of it
 
-abbrev pub text : Measured → List OriginCounts → List ℕ
+abbrev pub text : Measured → List OriginTally → List ℕ
 text measured origins =
     requests measured.requests.statuses ++ sent measured.requests.bytes ++ durations measured.requests.durations
     ++ connections measured.connections ++ cache measured.cache

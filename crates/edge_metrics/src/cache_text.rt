@@ -3,18 +3,18 @@
 ghost use Rattle.std.specs.Prelude.{◌≡◌, ◌++◌, OnOk};
 ghost use Rattle.edge_metrics.specs.Text as spec;
 
-use crate::cache_counts::CacheCounts;
 use crate::lines::{push_head, push_sample};
+use fragment_cache::CacheTally;
 use std::alloc::AllocError;
 
 #[tactic(auto, unfolding(crate::specs::Text::cache))]
-pub(crate) fn push_cache(text: &mut Vec<u8>, counts: &CacheCounts) -> Result<(), AllocError>
-    ensures { OnOk result (text.new.items ≡ text.old.items ++ spec.cache counts.now) }
+pub(crate) fn push_cache(text: &mut Vec<u8>, tally: &CacheTally) -> Result<(), AllocError>
+    ensures { OnOk result (text.new.items ≡ text.old.items ++ spec.cache tally.now) }
 {
-    push_kept_answers(text, counts.entries)?;
-    push_kept_bytes(text, counts.bytes)?;
-    push_lookups(text, counts)?;
-    push_bridges(text, counts.bridges)
+    push_kept_answers(text, tally.entries)?;
+    push_kept_bytes(text, tally.bytes)?;
+    push_lookups(text, tally)?;
+    push_bridges(text, tally.bridges)
 }
 
 #[tactic(auto, unfolding(crate::specs::Text::kept_answers))]
@@ -71,12 +71,12 @@ fn push_bridges_head(text: &mut Vec<u8>) -> Result<(), AllocError>
 }
 
 #[tactic(auto, unfolding(crate::specs::Text::lookups))]
-fn push_lookups(text: &mut Vec<u8>, counts: &CacheCounts) -> Result<(), AllocError>
-    ensures { OnOk result (text.new.items ≡ text.old.items ++ spec.lookups counts.now) }
+fn push_lookups(text: &mut Vec<u8>, tally: &CacheTally) -> Result<(), AllocError>
+    ensures { OnOk result (text.new.items ≡ text.old.items ++ spec.lookups tally.now) }
 {
     push_lookups_head(text)?;
-    push_unfetched(text, counts)?;
-    push_fetched(text, counts)
+    push_unfetched(text, tally)?;
+    push_fetched(text, tally)
 }
 
 #[tactic(auto, unfolding(crate::specs::Text::lookups_head))]
@@ -93,34 +93,34 @@ fn push_lookups_head(text: &mut Vec<u8>) -> Result<(), AllocError>
 
 // Those for which no fetch was made.
 #[tactic(auto, unfolding(crate::specs::Text::unfetched))]
-fn push_unfetched(text: &mut Vec<u8>, counts: &CacheCounts) -> Result<(), AllocError>
-    ensures { OnOk result (text.new.items ≡ text.old.items ++ spec.unfetched counts.now) }
+fn push_unfetched(text: &mut Vec<u8>, tally: &CacheTally) -> Result<(), AllocError>
+    ensures { OnOk result (text.new.items ≡ text.old.items ++ spec.unfetched tally.now) }
 {
     push_sample(
         text,
         b"esi_edge_cache_lookups_total{by=\"hit\"}",
-        counts.hits,
+        tally.hits,
     )?;
     push_sample(
         text,
         b"esi_edge_cache_lookups_total{by=\"join\"}",
-        counts.joins,
+        tally.joins,
     )
 }
 
 // Those for which one was made.
 #[tactic(auto, unfolding(crate::specs::Text::fetched))]
-fn push_fetched(text: &mut Vec<u8>, counts: &CacheCounts) -> Result<(), AllocError>
-    ensures { OnOk result (text.new.items ≡ text.old.items ++ spec.fetched counts.now) }
+fn push_fetched(text: &mut Vec<u8>, tally: &CacheTally) -> Result<(), AllocError>
+    ensures { OnOk result (text.new.items ≡ text.old.items ++ spec.fetched tally.now) }
 {
     push_sample(
         text,
         b"esi_edge_cache_lookups_total{by=\"lead\"}",
-        counts.leads,
+        tally.leads,
     )?;
     push_sample(
         text,
         b"esi_edge_cache_lookups_total{by=\"bypass\"}",
-        counts.bypasses,
+        tally.bypasses,
     )
 }

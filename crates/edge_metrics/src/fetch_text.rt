@@ -6,12 +6,11 @@ ghost use Rattle.edge_metrics.specs.Text as spec;
 
 use crate::escape::push_escaped;
 use crate::lines::{push_head, push_sample};
-use crate::origin_counts::OriginCounts;
-use fetch_outcomes::{FetchFault, FetchTally};
+use fetch_outcomes::{FetchFault, FetchTally, OriginTally};
 use std::alloc::AllocError;
 
 #[tactic(auto, unfolding(crate::specs::Text::fetches_by_origin))]
-pub(crate) fn push_fetches(text: &mut Vec<u8>, origins: &[OriginCounts]) -> Result<(), AllocError>
+pub(crate) fn push_fetches(text: &mut Vec<u8>, origins: &[OriginTally]) -> Result<(), AllocError>
     ensures { OnOk result (text.new.items ≡ text.old.items ++ spec.fetches_by_origin origins.now) }
 {
     push_fetches_head(text)?;
@@ -30,7 +29,7 @@ fn push_fetches_head(text: &mut Vec<u8>) -> Result<(), AllocError>
     )
 }
 
-fn push_origins(text: &mut Vec<u8>, origins: &[OriginCounts]) -> Result<(), AllocError>
+fn push_origins(text: &mut Vec<u8>, origins: &[OriginTally]) -> Result<(), AllocError>
     ensures { OnOk result (text.new.items ≡ text.old.items ++ flat_map spec.from_origin origins.now) }
 {
     for origin in origins {
@@ -40,7 +39,7 @@ fn push_origins(text: &mut Vec<u8>, origins: &[OriginCounts]) -> Result<(), Allo
 }
 
 #[tactic(auto, unfolding(crate::specs::Text::from_origin))]
-fn push_origin(text: &mut Vec<u8>, origin: &OriginCounts) -> Result<(), AllocError>
+fn push_origin(text: &mut Vec<u8>, origin: &OriginTally) -> Result<(), AllocError>
     ensures { OnOk result (text.new.items ≡ text.old.items ++ spec.from_origin origin.now) }
 {
     let authority = origin.authority.as_slice();
@@ -133,7 +132,7 @@ fn push_without_origin_head(text: &mut Vec<u8>) -> Result<(), AllocError>
 }
 
 #[tactic(auto, unfolding(crate::specs::Text::strays_by_origin))]
-pub(crate) fn push_strays(text: &mut Vec<u8>, origins: &[OriginCounts]) -> Result<(), AllocError>
+pub(crate) fn push_strays(text: &mut Vec<u8>, origins: &[OriginTally]) -> Result<(), AllocError>
     ensures { OnOk result (text.new.items ≡ text.old.items ++ spec.strays_by_origin origins.now) }
 {
     push_strays_head(text)?;
@@ -152,7 +151,7 @@ fn push_strays_head(text: &mut Vec<u8>) -> Result<(), AllocError>
     )
 }
 
-fn push_strays_of_each(text: &mut Vec<u8>, origins: &[OriginCounts]) -> Result<(), AllocError>
+fn push_strays_of_each(text: &mut Vec<u8>, origins: &[OriginTally]) -> Result<(), AllocError>
     ensures { OnOk result (text.new.items ≡ text.old.items ++ flat_map spec.strays_from origins.now) }
 {
     for origin in origins {
@@ -161,7 +160,7 @@ fn push_strays_of_each(text: &mut Vec<u8>, origins: &[OriginCounts]) -> Result<(
     Ok(())
 }
 
-fn push_strays_of(text: &mut Vec<u8>, origin: &OriginCounts) -> Result<(), AllocError>
+fn push_strays_of(text: &mut Vec<u8>, origin: &OriginTally) -> Result<(), AllocError>
     ensures { OnOk result (text.new.items ≡ text.old.items ++ spec.strays_from origin.now) }
 {
     let start = b"esi_edge_strays_total{origin=\"";

@@ -2,7 +2,6 @@
 //! text in which a monitoring system reads it, and a page that shows the last minutes of it.
 #![tactic(auto)]
 
-mod cache_counts;
 mod cache_text;
 mod chart;
 mod connection_counts;
@@ -15,21 +14,18 @@ mod history;
 mod lines;
 mod measured;
 mod memory;
-mod origin_counts;
 mod page;
 mod process_text;
 mod series;
 mod statuses;
 mod text;
 
-pub use cache_counts::CacheCounts;
 pub use connection_counts::ConnectionCounts;
 pub use counts::Counts;
 pub use durations::Durations;
 pub use history::{History, Sample};
 pub use measured::Measured;
 pub use memory::resident_of;
-pub use origin_counts::OriginCounts;
 pub use page::page_of;
 pub use statuses::Statuses;
 pub use text::text_of;

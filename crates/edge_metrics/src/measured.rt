@@ -1,8 +1,8 @@
 //! What is measured of a server.
 
-use crate::cache_counts::CacheCounts;
 use crate::connection_counts::ConnectionCounts;
 use crate::counts::Counts;
+use fragment_cache::CacheTally;
 
 /// What an operator is told of a server.
 ///
@@ -14,7 +14,7 @@ pub struct Measured {
     /// What was counted of its connections.
     pub connections: ConnectionCounts,
     /// What was counted of its cache.
-    pub cache: CacheCounts,
+    pub cache: CacheTally,
     /// How many fetches there were of URLs for whose authority there is no origin.
     pub without_origin: u64,
     /// How many lines of its log were lost.

@@ -1,7 +1,8 @@
 //! The text as a whole, with ample memory, and what the system writes of a process.
 
-use crate::{CacheCounts, ConnectionCounts, Counts, Measured, OriginCounts, resident_of, text_of};
-use fetch_outcomes::FetchTally;
+use crate::{ConnectionCounts, Counts, Measured, resident_of, text_of};
+use fetch_outcomes::{FetchTally, OriginTally};
+use fragment_cache::CacheTally;
 use std::alloc::Global;
 use std::process::Abort;
 use std::str;
@@ -109,7 +110,7 @@ fn measured(resident: Option<u64>) -> Measured {
             accepted: 21,
             failed_accepts: 1,
         },
-        cache: CacheCounts {
+        cache: CacheTally {
             entries: 7,
             bytes: 4_096,
             hits: 40,
@@ -124,8 +125,8 @@ fn measured(resident: Option<u64>) -> Measured {
     }
 }
 
-fn one_origin(alloc: Global) -> Option<OriginCounts> {
-    Some(OriginCounts {
+fn one_origin(alloc: Global) -> Option<OriginTally> {
+    Some(OriginTally {
         authority: Vec::from_slice(alloc, b"www.example.com").ok()?,
         fetches: FetchTally {
             answered: 90,

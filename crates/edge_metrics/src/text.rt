@@ -9,9 +9,9 @@ use crate::durations::Durations;
 use crate::fetch_text::{push_fetches, push_strays, push_without_origin};
 use crate::lines::{push_head, push_number, push_sample};
 use crate::measured::Measured;
-use crate::origin_counts::OriginCounts;
 use crate::process_text::{push_lost_lines, push_resident};
 use crate::statuses::Statuses;
+use fetch_outcomes::OriginTally;
 use std::alloc::{AllocError, Global};
 
 /// The text of what was measured, with the fetches from these origins.
@@ -22,7 +22,7 @@ use std::alloc::{AllocError, Global};
 pub fn text_of(
     alloc: Global,
     measured: &Measured,
-    origins: &[OriginCounts],
+    origins: &[OriginTally],
 ) -> Result<Vec<u8>, AllocError>
     ensures { IfOk result (λ text. text.items ≡ spec.text measured.now origins.now) }
 {

@@ -8,14 +8,13 @@ use crate::kept::Kept;
 use crate::measures::Measures;
 use crate::requests_log::AccessLog;
 use edge_connections::ServeEnd;
-use edge_metrics::{CacheCounts, Counts, Measured, OriginCounts, text_of};
+use edge_metrics::{Counts, Measured, text_of};
 use edge_types::{NoMemory, PageUrl};
 use fetch_outcomes::FetchFault;
 use hyper_edge::{Journal, RequestRecord};
-use hyper_source::{FetchNotes, OriginTally};
+use hyper_source::FetchNotes;
 use operator_http::{Health, Operated, Purge};
-use shared_cache::CacheTally;
-use std::alloc::{AllocError, AllocGlobal, Global};
+use std::alloc::{AllocError, AllocGlobal};
 use std::io::Eprint;
 use std::sync::{Arc, Wait};
 use std::time::Clock;
@@ -96,14 +95,13 @@ impl<R: Wait + AllocGlobal> Operated<R> for Reports {
 
     fn metrics(&self, rt: &R) -> Result<Vec<u8>, AllocError> {
         let alloc = rt.alloc();
-        let Ok(tallies) = self.fetches.tallies(alloc) else {
+        let Ok(origins) = self.fetches.tallies(alloc) else {
             return Err(AllocError);
         };
-        let origins = origins_of(alloc, tallies)?;
         let measured = Measured {
             requests: self.requests(rt),
             connections: self.connections.counts(),
-            cache: counts_of(self.cache.tally(rt)),
+            cache: self.cache.tally(rt),
             without_origin: self.fetches.without_origin(),
             lost_lines: self.log.lost_lines(rt),
             resident: self.measures.as_ref().and_then(|it| it.resident()),
@@ -144,41 +142,5 @@ fn health_of(ending: Option<ServeEnd>) -> Health
         None => Health::Well,
         Some(ServeEnd::Served) => Health::Ending,
         Some(ServeEnd::AcceptsFailed) => Health::AcceptsFailed,
-    }
-}
-
-// The tallies of the fetches from each origin, as the text tells them.
-fn origins_of(alloc: Global, tallies: Vec<OriginTally>) -> Result<Vec<OriginCounts>, AllocError> {
-    let mut origins = Vec::with_capacity(alloc, tallies.len())?;
-    for tally in tallies {
-        let OriginTally {
-            authority,
-            fetches,
-            strays,
-        } = tally;
-        origins.push(OriginCounts {
-            authority,
-            fetches,
-            strays,
-        })?;
-    }
-    Ok(origins)
-}
-
-// A tally of the cache, as the text tells it.
-fn counts_of(tally: CacheTally) -> CacheCounts
-    ensures kept { (result.entries ≡ tally.entries) × (result.bytes ≡ tally.bytes) }
-    ensures found { (result.hits ≡ tally.hits) × (result.joins ≡ tally.joins) }
-    ensures fetched { (result.leads ≡ tally.leads) × (result.bypasses ≡ tally.bypasses) }
-    ensures bridges { result.bridges ≡ tally.bridges }
-{
-    CacheCounts {
-        entries: tally.entries,
-        bytes: tally.bytes,
-        hits: tally.hits,
-        joins: tally.joins,
-        leads: tally.leads,
-        bypasses: tally.bypasses,
-        bridges: tally.bridges,
     }
 }

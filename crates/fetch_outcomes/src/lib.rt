@@ -3,6 +3,8 @@
 
 mod fetch_fault;
 mod fetch_tally;
+mod origin_tally;
 
 pub use fetch_fault::FetchFault;
 pub use fetch_tally::FetchTally;
+pub use origin_tally::OriginTally;

@@ -6,4 +6,5 @@ pub mod Runs
 pub mod Shown
 pub mod Sound
 pub mod Steps
+pub mod Tally
 pub mod Times

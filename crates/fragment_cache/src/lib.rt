@@ -9,10 +9,12 @@ mod kept;
 mod kept_flights;
 pub mod laws;
 mod shard;
+mod tally;
 mod times;
 
 pub use flights::{Flight, MAX_FLIGHTS, Picked};
 pub use hashing::UrlHashing;
 pub use kept::MAX_PICKS;
 pub use shard::{Begun, MAX_CAPACITY, Shard};
+pub use tally::CacheTally;
 pub use times::{is_failing, is_to_be_stored};

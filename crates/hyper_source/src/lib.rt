@@ -38,6 +38,6 @@ pub use edge_name::{EdgeName, MAX_NAME};
 pub use gate::Bounds;
 pub use in_flight::FetchesInFlight;
 pub use latest_faults::MAX_FAULTS;
-pub use notes::{FetchNotes, OriginTally};
+pub use notes::FetchNotes;
 pub use origin::Origin;
 pub use source::HyperSource;

@@ -8,28 +8,15 @@ use crate::fetch_counts::FetchCounts;
 use crate::latest_faults::LatestFaults;
 use crate::origin::Origin;
 use edge_types::{NoMemory, PageUrl};
-use fetch_outcomes::{FetchFault, FetchTally};
+use fetch_outcomes::{FetchFault, OriginTally};
 use std::alloc::{AllocError, Global};
 use std::marker::Model;
 use std::sync::atomic::{AtomicU64, Ordering};
 use std::sync::{Mutex, Wait};
 
-/// How the fetches from one origin have ended, and what it sent unasked.
-///
-/// Our profile.
-#[derive(Drop)]
-pub struct OriginTally {
-    /// The origin's authority.
-    pub authority: Vec<u8>,
-    /// How many have ended how.
-    pub fetches: FetchTally,
-    /// How often bytes came from it that nobody had asked for, over a connection that was to be kept.
-    pub strays: u64,
-}
-
 // An origin's authority, how the fetches from it have ended, and how often bytes came from it unasked.
 #[derive(Drop)]
-struct OriginCounts {
+struct CountedOrigin {
     authority: Vec<u8>,
     counts: FetchCounts,
     strays: AtomicU64,
@@ -41,7 +28,7 @@ struct OriginCounts {
 /// Our profile.
 #[derive(Drop)]
 pub struct FetchNotes {
-    origins: Vec<OriginCounts>,
+    origins: Vec<CountedOrigin>,
     without_origin: AtomicU64,
     latest: Mutex<LatestFaults>,
 }
@@ -118,12 +105,12 @@ impl FetchNotes {
     }
 }
 
-fn counts_of(alloc: Global, origins: &[Origin]) -> Result<Vec<OriginCounts>, AllocError>
+fn counts_of(alloc: Global, origins: &[Origin]) -> Result<Vec<CountedOrigin>, AllocError>
     ensures { IfOk result (λ made. spec.counted made.items ≡ authorities_of origins.now) }
 {
     let mut made = Vec::new(alloc);
     for origin in origins {
-        made.push(OriginCounts {
+        made.push(CountedOrigin {
             authority: origin.authority.as_slice().to_vec(alloc)?,
             counts: FetchCounts::new(),
             strays: AtomicU64::new(0),
@@ -132,7 +119,7 @@ fn counts_of(alloc: Global, origins: &[Origin]) -> Result<Vec<OriginCounts>, All
     Ok(made)
 }
 
-fn tallies_of(alloc: Global, origins: &[OriginCounts]) -> Result<Vec<OriginTally>, NoMemory>
+fn tallies_of(alloc: Global, origins: &[CountedOrigin]) -> Result<Vec<OriginTally>, NoMemory>
     ensures { IfOk result (λ made. spec.told made.items ≡ spec.counted origins.now) }
 {
     let mut made = Vec::new(alloc);

@@ -8,9 +8,7 @@ pub mod laws;
 mod placing;
 mod shards;
 mod shared_shard;
-mod tally;
 mod upkeep;
 
 pub use cache::{Cache, SHARDS};
 pub use cache_flights::CacheFlights;
-pub use tally::CacheTally;

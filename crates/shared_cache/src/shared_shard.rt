@@ -8,10 +8,11 @@ ghost use Rattle.fragment_cache.specs.Shown.{begun_answer};
 ghost use Rattle.fragment_cache.specs.Sound.{IsSound, NamesUrl};
 
 use crate::cache_flights::{Joined, Led};
-use crate::tally::CacheTally;
 use answer_sources::{Bell, Found, Given, Way};
 use edge_types::{Answer, NoMemory, PageUrl};
-use fragment_cache::{Begun, Flight, MAX_CAPACITY, Picked, Shard, UrlHashing, is_failing};
+use fragment_cache::{
+    Begun, CacheTally, Flight, MAX_CAPACITY, Picked, Shard, UrlHashing, is_failing,
+};
 use std::alloc::Global;
 use std::collections::BTreeMap;
 use std::sync::atomic::{AtomicU64, Ordering};

@@ -1,8 +1,8 @@
 //! What the operator of a cache asks of it.
 
 use crate::cache::Cache;
-use crate::tally::CacheTally;
 use edge_types::{NoMemory, PageUrl};
+use fragment_cache::CacheTally;
 use std::sync::Wait;
 
 impl<S, C> Cache<S, C> {

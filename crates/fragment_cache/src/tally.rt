@@ -1,9 +1,12 @@
 //! What a cache keeps, and how it was asked.
 
-use fragment_cache::Begun;
+ghost use Rattle.std.specs.Prelude.{◌≡◌};
+ghost use Rattle.fragment_cache.specs.Tally as spec;
+
+use crate::shard::Begun;
 
 /// What a cache keeps, and by what it gave the answers that were asked for. A look-up that is refused, since as many wait for its
-/// fetch as may, is counted only where it is bridged.
+/// fetch as may, is counted only where it is bridged. No number wraps: one that is the largest stays.
 ///
 /// Our profile.
 #[derive(Clone, Copy, Debug, Drop, PartialEq, Eq)]
@@ -26,7 +29,9 @@ pub struct CacheTally {
 
 impl CacheTally {
     /// Nothing is kept, and nothing was asked for.
-    pub(crate) fn new() -> CacheTally {
+    pub fn new() -> CacheTally
+        ensures { result ≡ spec.nothing }
+    {
         CacheTally {
             entries: 0,
             bytes: 0,
@@ -39,28 +44,35 @@ impl CacheTally {
     }
 
     /// Counts an answer that is asked for.
-    pub(crate) fn note(&mut self, begun: &Begun) {
-        let count = match begun {
-            Begun::Hit(_) => &mut self.hits,
-            Begun::Join(_) => &mut self.joins,
-            Begun::Lead(_, _) => &mut self.leads,
-            Begun::Bypass => &mut self.bypasses,
-        };
-        *count = count.saturating_add(1);
+    pub fn note(&mut self, begun: &Begun)
+        ensures { self.new ≡ spec.noted begun.now self.old }
+    {
+        match begun {
+            Begun::Hit(_) => self.note_hit(),
+            Begun::Join(_) => self.joins = self.joins.saturating_add(1),
+            Begun::Lead(_, _) => self.leads = self.leads.saturating_add(1),
+            Begun::Bypass => self.bypasses = self.bypasses.saturating_add(1),
+        }
     }
 
     /// Counts an answer that was there when it was looked for.
-    pub(crate) fn note_hit(&mut self) {
+    pub fn note_hit(&mut self)
+        ensures { self.new ≡ spec.hit self.old }
+    {
         self.hits = self.hits.saturating_add(1);
     }
 
     /// Counts an answer that bridges.
-    pub(crate) fn note_bridge(&mut self) {
+    pub fn note_bridge(&mut self)
+        ensures { self.new ≡ spec.bridged self.old }
+    {
         self.bridges = self.bridges.saturating_add(1);
     }
 
     /// Both together.
-    pub(crate) fn plus(self, other: CacheTally) -> CacheTally {
+    pub fn plus(self, other: CacheTally) -> CacheTally
+        ensures { result ≡ spec.sum self other }
+    {
         CacheTally {
             entries: self.entries.saturating_add(other.entries),
             bytes: self.bytes.saturating_add(other.bytes),
