@@ -22,10 +22,10 @@ impl Deadline {
         }
     }
 
-    /// Until when a fetch that is asked for now, and may take this long, may wait for its turn: half of the time is left
-    /// for the fetch itself. Where more is asked for than an origin can answer, those who wait come to their turn as late as
-    /// they may; with all of the time none of them would be answered.
-    pub(crate) fn of_turn(clock: &impl Clock, limit: Option<Duration>) -> io::Result<Deadline> {
+    /// Until when a fetch that is asked for now, and may take this long, may wait at a gate: half of the time is left for
+    /// the fetch itself. Where more is asked for than an origin can answer, those who wait are let through as late as they
+    /// may be; with all of the time none of them would be answered.
+    pub(crate) fn of_wait(clock: &impl Clock, limit: Option<Duration>) -> io::Result<Deadline> {
         match limit {
             Some(limit) => Deadline::after(clock, Some(half_of(limit))),
             None => Ok(Deadline::never()),

@@ -4,9 +4,9 @@ ghost use Rattle.std.specs.Prelude.{◌≡◌, ◌<◌, [], length, IfSome};
 
 use crate::bounded::OriginGate;
 use crate::deadline::Deadline;
-use crate::flight::{Flight, Turn};
+use crate::errand::Errand;
+use crate::fetch::{Fetch, FetchStep};
 use crate::gathered::Lost;
-use crate::origin::Chosen;
 use crate::poller::Poller;
 use answer_sources::{Awaited, Bell};
 use edge_types::{Answer, NoMemory, PageUrl};
@@ -23,9 +23,9 @@ use std::time::{Clock, Duration, Instant};
 pub struct FetchesInFlight {
     // `None` before the first fetch.
     pub(crate) poller: Option<Poller>,
-    pub(crate) flights: Slab<Flight>,
+    pub(crate) fetches: Slab<Fetch>,
     permits: Vec<HeldPermit>,
-    // The keys of fetches that are to have a turn.
+    // The keys of fetches that are to make a step.
     pub(crate) due: VecDeque<usize>,
     // Answers that were there at once.
     pub(crate) answers: VecDeque<Arc<Answer>>,
@@ -45,24 +45,17 @@ enum News {
     Elsewhere,
 }
 
-/// A fetch that is to be made.
+/// A fetch that asks the gate of its origin.
 #[derive(Drop)]
-pub(crate) struct Wanted {
-    /// What is fetched.
-    pub(crate) url: PageUrl,
-    /// The origin that is asked.
-    pub(crate) origin: Chosen,
-    /// Until when the fetch may take, its wait included.
-    pub(crate) deadline: Deadline,
-    /// Until when it may wait for its turn.
-    pub(crate) turn: Deadline,
+pub(crate) struct Gated {
+    pub(crate) errand: Errand,
+    pub(crate) gate: OriginGate,
 }
 
 /// A fetch that waits at a place in the queue of its gate. It can't be dropped, since the gate has to be told that it
 /// leaves.
 pub(crate) struct Queued {
-    pub(crate) wanted: Wanted,
-    pub(crate) gate: OriginGate,
+    pub(crate) gated: Gated,
     pub(crate) place: Place,
 }
 
@@ -70,20 +63,15 @@ impl Queued {
     /// Whether it has waited as long as it may; so also where the clock can't be read.
     pub(crate) fn is_late(&self, now: Option<Instant>) -> bool {
         match now {
-            Some(now) => self.wanted.turn.is_over(now),
+            Some(now) => self.gated.errand.patience.is_over(now),
             None => true,
         }
     }
 
     /// Gives the place up.
-    pub(crate) fn leave<R: Wait>(self, rt: &R) -> Wanted {
-        let Queued {
-            wanted,
-            gate,
-            place,
-        } = self;
-        gate.leave(rt, place);
-        wanted
+    pub(crate) fn leave<R: Wait>(self, rt: &R) {
+        let Queued { gated, place } = self;
+        gated.gate.leave(rt, place);
     }
 }
 
@@ -111,7 +99,7 @@ impl FetchesInFlight {
     pub(crate) fn new(alloc: Global) -> FetchesInFlight {
         FetchesInFlight {
             poller: None,
-            flights: Slab::new(alloc),
+            fetches: Slab::new(alloc),
             permits: Vec::new(alloc),
             due: VecDeque::new(alloc),
             answers: VecDeque::new(alloc),
@@ -123,8 +111,8 @@ impl FetchesInFlight {
     /// Makes room for one more fetch, of which a wait may tell twice: that it is ready, and that it is late.
     pub(crate) fn reserve(&mut self) -> Result<(), NoMemory> {
         let more = self.queued.len().saturating_add(1);
-        let count = self.flights.len().saturating_add(more);
-        self.flights.reserve(more)?;
+        let count = self.fetches.len().saturating_add(more);
+        self.fetches.reserve(more)?;
         self.permits.reserve(more)?;
         self.answers.reserve(more)?;
         self.queued.reserve(1)?;
@@ -133,8 +121,8 @@ impl FetchesInFlight {
     }
 
     /// Adds a fetch, and gives its key.
-    pub(crate) fn admit(&mut self, flight: Flight) -> Result<usize, Lost> {
-        match self.flights.insert(flight) {
+    pub(crate) fn admit(&mut self, fetch: Fetch) -> Result<usize, Lost> {
+        match self.fetches.insert(fetch) {
             Ok(key) => Ok(key),
             Err(_) => Err(Lost::NoMemory),
         }
@@ -145,7 +133,7 @@ impl FetchesInFlight {
         match self.permits.push(held) {
             Ok(()) => Ok(()),
             Err(failed) => {
-                let _ = self.flights.try_remove(failed.value.key);
+                let _ = self.fetches.try_remove(failed.value.key);
                 failed.value.ended(rt, FetchEnd::Other);
                 Err(Lost::NoMemory)
             }
@@ -158,11 +146,11 @@ impl FetchesInFlight {
         rt: &R,
         key: usize,
         end: FetchEnd,
-    ) -> Option<Flight> {
+    ) -> Option<Fetch> {
         if let Some(place) = place_of(self.permits.as_slice(), key) {
             self.permits.swap_remove(place).ended(rt, end);
         }
-        self.flights.try_remove(key)
+        self.fetches.try_remove(key)
     }
 
     /// Has a fetch wait behind the others. Without room for it, it gives its place up.
@@ -170,7 +158,7 @@ impl FetchesInFlight {
         match self.queued.push_back(queued) {
             Ok(()) => Ok(()),
             Err(failed) => {
-                let _ = failed.value.leave(rt);
+                failed.value.leave(rt);
                 Err(Lost::NoMemory)
             }
         }
@@ -186,15 +174,15 @@ impl FetchesInFlight {
         self.queued.pop_front()
     }
 
-    /// Gives the fetch of a key its turn, if it is there.
-    pub(crate) fn turn(&mut self, clock: &impl Clock, alloc: Global, key: usize) -> Turn {
-        match (&self.poller, self.flights.get_mut(key)) {
-            (Some(poller), Some(flight)) => flight.turn(clock, alloc, poller, key),
-            _ => Turn::Waits,
+    /// Has the fetch of a key make a step, if it is there.
+    pub(crate) fn step(&mut self, clock: &impl Clock, alloc: Global, key: usize) -> FetchStep {
+        match (&self.poller, self.fetches.get_mut(key)) {
+            (Some(poller), Some(fetch)) => fetch.step(clock, alloc, poller, key),
+            _ => FetchStep::Waits,
         }
     }
 
-    /// Waits until fetches are to have a turn: sockets are ready, the first fetch is late, or the bell is rung; or for
+    /// Waits until fetches are to make a step: sockets are ready, the first fetch is late, or the bell is rung; or for
     /// `most`, where there is one.
     pub(crate) fn wait(
         &mut self,
@@ -207,13 +195,13 @@ impl FetchesInFlight {
         Ok(())
     }
 
-    /// Whether a look may find a fetch that is to have a turn, or that its origin calls. Without a wait, here or elsewhere,
+    /// Whether a look may find a fetch that is to make a step, or that its origin calls. Without a wait, here or elsewhere,
     /// none does but for a fetch that goes on: a look then would take a call and tell what the next wait tells.
     pub(crate) fn has_news(&self) -> bool {
         self.news != News::Nothing || self.goes_on()
     }
 
-    /// Looks which fetches are to have a turn, and doesn't wait. A wait has told all that there is.
+    /// Looks which fetches are to make a step, and doesn't wait. A wait has told all that there is.
     pub(crate) fn look(&mut self, clock: &impl Clock) -> Result<(), NoMemory> {
         match mem::replace(&mut self.news, News::Nothing) {
             News::Told => Ok(()),
@@ -221,14 +209,14 @@ impl FetchesInFlight {
         }
     }
 
-    // Lists what is to have a turn, after at most this many milliseconds, or as long as it takes if below 0.
+    // Lists what is to make a step, after at most this many milliseconds, or as long as it takes if below 0.
     fn told(&mut self, clock: &impl Clock, millis: i32) -> Result<(), NoMemory> {
         if let Some(poller) = &self.poller {
             poller.wait(millis, &mut self.due)?;
         }
         let now = Instant::now(clock).ok();
-        for (key, flight) in self.flights.iter() {
-            if flight.is_due(now) {
+        for (key, fetch) in self.fetches.iter() {
+            if fetch.is_due(now) {
                 self.due.push_back(key)?;
             }
         }
@@ -245,13 +233,13 @@ impl FetchesInFlight {
 
     /// Whether one of the fetches goes on without its socket being ready.
     pub(crate) fn goes_on(&self) -> bool {
-        self.flights.iter().any(|(_, flight)| flight.goes_on())
+        self.fetches.iter().any(|(_, fetch)| fetch.goes_on())
     }
 
     fn first_deadline(&self) -> Deadline {
         let mut first = Deadline::never();
-        for (_, flight) in self.flights.iter() {
-            first = first.or_earlier(flight.deadline);
+        for (_, fetch) in self.fetches.iter() {
+            first = first.or_earlier(fetch.deadline);
         }
         first.or_earlier(self.first_of_queued())
     }
@@ -259,7 +247,7 @@ impl FetchesInFlight {
     fn first_of_queued(&self) -> Deadline {
         let mut first = Deadline::never();
         for queued in &self.queued {
-            first = first.or_earlier(queued.wanted.turn);
+            first = first.or_earlier(queued.gated.errand.patience);
         }
         first
     }
@@ -282,14 +270,14 @@ impl FetchesInFlight {
 
     /// Whether nothing is in flight.
     pub(crate) fn is_idle(&self) -> bool {
-        self.flights.is_empty() && self.answers.is_empty() && self.queued.is_empty()
+        self.fetches.is_empty() && self.answers.is_empty() && self.queued.is_empty()
     }
 
     /// Gives all up: tells the gates, closes the sockets, and gives the poller back.
     pub(crate) fn into_poller<R: Wait + Clock>(self, rt: &R) -> Option<Poller> {
         let FetchesInFlight {
             poller,
-            flights: _,
+            fetches: _,
             mut permits,
             due: _,
             answers: _,
@@ -311,9 +299,7 @@ fn leave_each<R: Wait>(rt: &R, queued: &mut VecDeque<Queued>)
 {
     for _ in rt.forever() {
         match queued.pop_front() {
-            Some(waiting) => {
-                let _ = waiting.leave(rt);
-            }
+            Some(waiting) => waiting.leave(rt),
             None => return,
         }
     }

@@ -6,7 +6,7 @@ ghost use Rattle.std.specs.IoError.{error_kind};
 use crate::intake::{BodyCount, Intake};
 use crate::origin_socket::OriginSocket;
 use crate::origin_stream::was_interrupted;
-use crate::stream_signals::{Readiness, StreamSignals};
+use crate::stream_signals::{Need, StreamSignals};
 use futures::task::{Context, Poll};
 use std::io;
 use std::io::{ErrorKind, Write};
@@ -94,14 +94,14 @@ impl AsyncRead for PolledStream {
             Stage::Fresh | Stage::Delayed => return cx.yield_now(),
             Stage::Asked => {
                 self.stage = Stage::Answered;
-                self.signals.awaits(Readiness::Readable);
+                self.signals.awaits(Need::Input);
                 return cx.yield_now();
             }
             Stage::Answered => {}
         }
         let done = self.intake.read(self.socket.stream(), buf);
         if would_block(&done) {
-            self.signals.awaits(Readiness::Readable);
+            self.signals.awaits(Need::Input);
             return cx.yield_now();
         }
         if was_interrupted(&done) {
@@ -127,7 +127,7 @@ impl AsyncWrite for PolledStream {
         let blocks = would_block(&done);
         self.has_tried(!blocks);
         if blocks {
-            self.signals.awaits(Readiness::Writable);
+            self.signals.awaits(Need::Room);
             return cx.yield_now();
         }
         Poll::Ready(self.signals.has_written(done))

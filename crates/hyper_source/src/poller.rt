@@ -2,9 +2,9 @@
 
 ghost use Rattle.std.specs.Prelude.{◌≡◌, ◌≢◌};
 ghost use Rattle.hyper_source.specs.declared.poller.Watched.TheVariants as tells;
-ghost use Rattle.hyper_source.specs.declared.stream_signals.Readiness.TheVariants as awaits;
+ghost use Rattle.hyper_source.specs.declared.stream_signals.Need.TheVariants as awaits;
 
-use crate::stream_signals::Readiness;
+use crate::stream_signals::Need;
 use answer_sources::Bell;
 use edge_types::NoMemory;
 use futures::task::{Doorbell, Solo};
@@ -52,14 +52,14 @@ pub(crate) enum Watched {
 
 impl Watched {
     // What has to be told once that is awaited too.
-    fn with(self, readiness: Readiness) -> Watched
+    fn with(self, need: Need) -> Watched
         ensures told { result ≢ tells.Nothing }
-        ensures room { readiness ≡ awaits.Writable → result ≡ tells.InputAndRoom }
+        ensures room { need ≡ awaits.Room → result ≡ tells.InputAndRoom }
         ensures kept { self ≡ tells.InputAndRoom → result ≡ tells.InputAndRoom }
     {
-        match (self, readiness) {
-            (Watched::InputAndRoom, _) | (_, Readiness::Writable) => Watched::InputAndRoom,
-            (Watched::Nothing | Watched::Input, Readiness::Readable) => Watched::Input,
+        match (self, need) {
+            (Watched::InputAndRoom, _) | (_, Need::Room) => Watched::InputAndRoom,
+            (Watched::Nothing | Watched::Input, Need::Input) => Watched::Input,
         }
     }
 
@@ -106,9 +106,9 @@ impl Poller {
         socket: RawFd,
         key: usize,
         watched: Watched,
-        readiness: Readiness,
+        need: Need,
     ) -> Option<Watched> {
-        let wanted = watched.with(readiness);
+        let wanted = watched.with(need);
         if wanted == watched {
             return Some(wanted);
         }

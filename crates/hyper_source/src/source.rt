@@ -9,8 +9,9 @@ mod concurrent;
 use crate::answers::{Fetched, answered};
 use crate::behind::Behind;
 use crate::bounded::{OriginGate, end_of, gate_of, gates_of};
-use crate::deadline::Deadline;
 use crate::edge_name::{EdgeName, device_of, way_through};
+use crate::errand::Errand;
+use crate::exchange_end::ExchangeEnd;
 use crate::executors::IdleExecutors;
 use crate::gate::Bounds;
 use crate::gathered::Lost;
@@ -23,10 +24,13 @@ use crate::poller::IdlePollers;
 use crate::pool::{IdleSocket, Pool, Strays};
 use crate::reach::{Reach, lost_by};
 use crate::request::request_of;
-use crate::round_trip::{Response, round_trip};
+use crate::round_trip::{CountedStream, Response, round_trip};
 use answer_sources::{Given, OnBehalf, Source};
+use bytes::Bytes;
 use edge_types::{Answer, NoMemory, PageUrl};
 use fetch_outcomes::FetchFault;
+use http::Request;
+use http_body_util::Empty;
 use std::alloc::{AllocGlobal, Global};
 use std::hash::RandomState;
 use std::io;
@@ -171,53 +175,65 @@ impl HyperSource {
         origin_for(self.shared.origins.as_slice(), url.authority())
     }
 
+    // What is to be fetched for a URL, if it has an origin.
+    fn errand(
+        &self,
+        clock: &impl Clock,
+        url: &PageUrl,
+        origin: Option<Chosen>,
+    ) -> Result<Errand, Lost> {
+        let Some(origin) = origin else {
+            return Err(Lost::Fault(FetchFault::NoOrigin));
+        };
+        let Ok(url) = url.share() else {
+            return Err(Lost::NoMemory);
+        };
+        Errand::begun(clock, url, origin, self.limit)
+    }
+
+    // What an origin is asked for a URL.
+    fn request(&self, alloc: Global, url: &PageUrl) -> Result<Request<Empty<Bytes>>, Lost> {
+        request_of(
+            alloc,
+            url,
+            &self.name,
+            self.way.as_deref(),
+            self.pool.keeps(),
+        )
+    }
+
     // What a URL's origin answers, if it has one that may be asked.
     fn asked<R>(&self, rt: &R, alloc: Global, url: &PageUrl, origin: Option<Chosen>) -> Response
     where
         R: Wait + Net<Stream = TcpStream> + Clock + RandomSource + AllocGlobal + Clone + Drop,
     {
-        let Some(origin) = origin else {
-            return Err(Lost::Fault(FetchFault::NoOrigin));
-        };
-        let Ok(deadline) = Deadline::after(rt, self.limit) else {
-            return Err(Lost::Fault(FetchFault::Cut));
-        };
+        let errand = self.errand(rt, url, origin)?;
         let reach = Reach::new(alloc)?;
         let told = reach.share()?;
-        let Some(gate) = gate_of(self.gates.as_slice(), origin.address) else {
-            return reach.judged(self.fetched(rt, alloc, url, origin, deadline, told));
+        let Some(gate) = gate_of(self.gates.as_slice(), errand.origin.address) else {
+            return reach.judged(self.fetched(rt, alloc, &errand, told));
         };
-        let Ok(turn) = Deadline::of_turn(rt, self.limit) else {
-            return Err(Lost::Fault(FetchFault::Cut));
-        };
-        let permit = gate.permit(rt, turn)?;
-        let got = reach.judged(self.fetched(rt, alloc, url, origin, deadline, told));
+        let permit = gate.permit(rt, errand.patience)?;
+        let got = reach.judged(self.fetched(rt, alloc, &errand, told));
         gate.ended(rt, permit, end_of(reach.is_connected(), &got));
         got
     }
 
-    // What comes for a URL, over a connection that was kept, or a new one that may tell of the origin.
-    fn fetched<R>(
-        &self,
-        rt: &R,
-        alloc: Global,
-        url: &PageUrl,
-        origin: Chosen,
-        deadline: Deadline,
-        reach: Reach,
-    ) -> Response
+    // What comes of an errand, over a connection that was kept, or a new one that may tell of the origin.
+    fn fetched<R>(&self, rt: &R, alloc: Global, errand: &Errand, reach: Reach) -> Response
     where
         R: Wait + Net<Stream = TcpStream> + Clock + RandomSource + AllocGlobal + Clone + Drop,
     {
-        if let Some(came) = self.asked_over_idle(rt, alloc, url, origin, deadline) {
+        if let Some(came) = self.asked_over_idle(rt, alloc, errand) {
             reach.connects();
             return came;
         }
         let body = BodyCount::new(alloc)?;
-        match OriginStream::connected(rt, origin.address, deadline, body.share()?) {
-            Ok(io) => {
+        match OriginStream::connected(rt, errand.origin.address, errand.deadline, body.share()?) {
+            Ok(stream) => {
                 reach.connects();
-                self.asked_over(rt, alloc, url, origin, io.telling(reach), body)
+                let io = stream.telling(reach);
+                self.asked_over(rt, alloc, errand, CountedStream { io, body })
             }
             Err(error) => Err(lost_by(&error)),
         }
@@ -225,28 +241,21 @@ impl HyperSource {
 
     // The same over a connection that was kept: nothing if there is none, or if it ends before the first byte of
     // the response, as one that the origin closes while the request is on its way, and there is time for another.
-    fn asked_over_idle<R>(
-        &self,
-        rt: &R,
-        alloc: Global,
-        url: &PageUrl,
-        origin: Chosen,
-        deadline: Deadline,
-    ) -> Option<Response>
+    fn asked_over_idle<R>(&self, rt: &R, alloc: Global, errand: &Errand) -> Option<Response>
     where
         R: Wait + Net<Stream = TcpStream> + Clock + RandomSource + AllocGlobal + Clone + Drop,
     {
-        let idle = self.kept(rt, origin)?;
+        let idle = self.kept(rt, errand.origin)?;
         let body = BodyCount::new(alloc).ok()?;
         let counted = body.share().ok()?;
         let heard = Arc::new(alloc, AtomicBool::new(false)).ok()?;
         let told = Arc::try_clone(&heard).ok()?;
-        let io = OriginStream::over(rt, idle.socket, deadline, counted, Some(told)).ok()?;
-        let came = self.asked_over(rt, alloc, url, origin, io, body);
+        let io = OriginStream::over(rt, idle.socket, errand.deadline, counted, Some(told)).ok()?;
+        let came = self.asked_over(rt, alloc, errand, CountedStream { io, body });
         if !matches!(came, Err(Lost::Fault(_))) || heard.load(Ordering::SeqCst) {
             return Some(came);
         }
-        match deadline.left(rt) {
+        match errand.deadline.left(rt) {
             Ok(_) => None,
             Err(late) => Some(Err(lost_by(&late))),
         }
@@ -257,32 +266,31 @@ impl HyperSource {
         &self,
         rt: &R,
         alloc: Global,
-        url: &PageUrl,
-        origin: Chosen,
-        io: OriginStream<R>,
-        body: BodyCount,
+        errand: &Errand,
+        stream: CountedStream<OriginStream<R>>,
     ) -> Response
     where
         R: Wait + Net<Stream = TcpStream> + Clock + RandomSource + AllocGlobal + Clone + Drop,
     {
-        let request = request_of(
-            alloc,
-            url,
-            &self.name,
-            self.way.as_deref(),
-            self.pool.keeps(),
-        )?;
+        let request = self.request(alloc, &errand.url)?;
         let Some(mut executor) = self.shared.executors.take(rt) else {
             return Err(Lost::Fault(FetchFault::Cut));
         };
-        let (came, behind) = round_trip(rt, alloc, &mut executor, self.keys, io, body, request);
+        let ExchangeEnd { came, behind } = round_trip(
+            rt,
+            alloc,
+            &mut executor,
+            self.keys,
+            stream,
+            request,
+        );
         self.shared.executors.leave(rt, executor);
         let left = match behind {
             Behind::Open(io) => unblocked(io.into_socket()),
             Behind::Strays => Behind::Strays,
             Behind::End => Behind::End,
         };
-        self.leave(rt, origin, left);
+        self.leave(rt, errand.origin, left);
         came
     }
 

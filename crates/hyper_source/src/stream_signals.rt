@@ -8,11 +8,11 @@ use std::sync::atomic::{AtomicBool, Ordering};
 
 /// What a socket has to be ready for.
 #[derive(Clone, Copy, Debug, PartialEq, Eq)]
-pub(crate) enum Readiness {
+pub(crate) enum Need {
     /// A byte has come, or the end of the origin's output.
-    Readable,
+    Input,
     /// There is room for a byte to be sent, or the connection is made.
-    Writable,
+    Room,
 }
 
 /// What a stream tells whoever polls its fetch. One thread at a time has both.
@@ -38,8 +38,8 @@ impl StreamSignals {
     }
 
     /// Tells that a read or write would block.
-    pub(crate) fn awaits(&self, readiness: Readiness) {
-        self.flag(readiness).store(true, Ordering::SeqCst);
+    pub(crate) fn awaits(&self, need: Need) {
+        self.flag(need).store(true, Ordering::SeqCst);
     }
 
     /// Tells what a read has done, and gives it back.
@@ -70,19 +70,19 @@ impl StreamSignals {
         }
     }
 
-    fn flag(&self, readiness: Readiness) -> &AtomicBool {
-        match readiness {
-            Readiness::Readable => &self.awaits_input,
-            Readiness::Writable => &self.awaits_room,
+    fn flag(&self, need: Need) -> &AtomicBool {
+        match need {
+            Need::Input => &self.awaits_input,
+            Need::Room => &self.awaits_room,
         }
     }
 
     /// What the socket has to be ready for, if a read or write of the last poll would block.
-    pub(crate) fn awaited(&self) -> Option<Readiness> {
+    pub(crate) fn awaited(&self) -> Option<Need> {
         if self.awaits_room.load(Ordering::SeqCst) {
-            Some(Readiness::Writable)
+            Some(Need::Room)
         } else if self.awaits_input.load(Ordering::SeqCst) {
-            Some(Readiness::Readable)
+            Some(Need::Input)
         } else {
             None
         }

@@ -1,20 +1,18 @@
 //! Fetches of one page that are in flight at once.
 
-use crate::behind::Behind;
-use crate::bounded::{OriginGate, end_of, gate_of};
-use crate::deadline::Deadline;
-use crate::exchange::Exchange;
-use crate::flight::{Flight, Leg, Turn};
+use crate::bounded::{end_of, gate_of};
+use crate::errand::Errand;
+use crate::exchange_end::ExchangeEnd;
+use crate::fetch::{Attempt, Fetch, FetchStep};
 use crate::gate::{Caller, Chance};
 use crate::gathered::Lost;
-use crate::in_flight::{FetchesInFlight, HeldPermit, Queued, Wanted};
+use crate::in_flight::{FetchesInFlight, Gated, HeldPermit, Queued};
 use crate::origin::Chosen;
 use crate::origin_socket::OriginSocket;
+use crate::polled_exchange::PolledExchange;
 use crate::poller::Watched;
 use crate::pool::{IdleSocket, Strays};
 use crate::reach::{Reach, lost_by};
-use crate::request::request_of;
-use crate::round_trip::Response;
 use crate::source::HyperSource;
 use crate::stream_signals::StreamSignals;
 use answer_sources::{Awaited, Bell, ConcurrentSource, Given};
@@ -28,53 +26,38 @@ use std::time::{Clock, Duration, Instant};
 
 impl HyperSource {
     // Begins a fetch, if the URL has an origin that may be asked; gives its key. One that has to wait has none yet.
-    fn departed<R>(
+    fn begun<R>(
         &self,
         rt: &R,
         alloc: Global,
         in_flight: &mut FetchesInFlight,
-        url: PageUrl,
+        url: &PageUrl,
         origin: Option<Chosen>,
     ) -> Result<Option<usize>, Lost>
     where
         R: Wait + Net<Stream = TcpStream> + Clock + RandomSource + AllocGlobal + Clone + Drop,
     {
-        let Some(origin) = origin else {
-            return Err(Lost::Fault(FetchFault::NoOrigin));
-        };
-        let Ok(deadline) = Deadline::after(rt, self.limit) else {
-            return Err(Lost::Fault(FetchFault::Cut));
-        };
-        let Ok(turn) = Deadline::of_turn(rt, self.limit) else {
-            return Err(Lost::Fault(FetchFault::Cut));
-        };
+        let errand = self.errand(rt, url, origin)?;
         if !self.has_poller(rt, in_flight) {
             return Err(Lost::Fault(FetchFault::Cut));
         }
-        let wanted = Wanted {
-            url,
-            origin,
-            deadline,
-            turn,
-        };
-        let Some(gate) = gate_of(self.gates.as_slice(), origin.address) else {
-            let flight = self.flight(rt, alloc, wanted)?;
-            return Ok(Some(in_flight.admit(flight)?));
+        let Some(gate) = gate_of(self.gates.as_slice(), errand.origin.address) else {
+            let fetch = self.new_fetch(rt, alloc, errand)?;
+            return Ok(Some(in_flight.admit(fetch)?));
         };
         let gate = gate.share()?;
         let bell = in_flight.bell().ok_or(Lost::NoMemory)?;
         let chance = gate.ask(rt, Caller::Page(bell));
-        self.taken(rt, alloc, in_flight, wanted, gate, chance)
+        self.begun_by(rt, alloc, in_flight, Gated { errand, gate }, chance)
     }
 
-    // Begins a fetch that is let through, and gives its key; or has it wait.
-    fn taken<R>(
+    // Begins a fetch that its gate lets through, and gives its key; or has it wait.
+    fn begun_by<R>(
         &self,
         rt: &R,
         alloc: Global,
         in_flight: &mut FetchesInFlight,
-        wanted: Wanted,
-        gate: OriginGate,
+        gated: Gated,
         chance: Chance,
     ) -> Result<Option<usize>, Lost>
     where
@@ -84,17 +67,13 @@ impl HyperSource {
             Chance::Granted(permit) => permit,
             Chance::Lost(lost) => return Err(lost),
             Chance::Waits(place) => {
-                let queued = Queued {
-                    wanted,
-                    gate,
-                    place,
-                };
-                in_flight.queue(rt, queued)?;
+                in_flight.queue(rt, Queued { gated, place })?;
                 return Ok(None);
             }
         };
-        let admitted = match self.flight(rt, alloc, wanted) {
-            Ok(flight) => in_flight.admit(flight),
+        let Gated { errand, gate } = gated;
+        let admitted = match self.new_fetch(rt, alloc, errand) {
+            Ok(fetch) => in_flight.admit(fetch),
             Err(lost) => Err(lost),
         };
         let end = end_of(false, &admitted);
@@ -136,22 +115,18 @@ impl HyperSource {
     where
         R: Wait + Net<Stream = TcpStream> + Clock + RandomSource + AllocGlobal + Clone + Drop,
     {
-        let origin = queued.wanted.origin;
-        let Ok(url) = queued.wanted.url.share() else {
-            let _ = queued.leave(rt);
+        let origin = queued.gated.errand.origin;
+        let Ok(url) = queued.gated.errand.url.share() else {
+            queued.leave(rt);
             return Err(NoMemory);
         };
         let began = if queued.is_late(now) {
-            let _ = queued.leave(rt);
+            queued.leave(rt);
             Err(Lost::Fault(FetchFault::TooMany))
         } else {
-            let Queued {
-                wanted,
-                gate,
-                place,
-            } = queued;
-            let chance = gate.look(rt, place);
-            self.taken(rt, alloc, in_flight, wanted, gate, chance)
+            let Queued { gated, place } = queued;
+            let chance = gated.gate.look(rt, place);
+            self.begun_by(rt, alloc, in_flight, gated, chance)
         };
         match began {
             Ok(Some(key)) => in_flight.due.push_back(key)?,
@@ -187,65 +162,56 @@ impl HyperSource {
     }
 
     // A fetch over a connection that was kept, or a new one that may tell of the origin.
-    fn flight<R>(&self, rt: &R, alloc: Global, wanted: Wanted) -> Result<Flight, Lost>
+    fn new_fetch<R>(&self, rt: &R, alloc: Global, errand: Errand) -> Result<Fetch, Lost>
     where
         R: Wait + Net<Stream = TcpStream> + Clock + RandomSource + AllocGlobal + Clone + Drop,
     {
-        let Wanted {
-            url,
-            origin,
-            deadline,
-            turn: _,
-        } = wanted;
         let reach = Reach::new(alloc)?;
-        let leg = match self.kept_nonblocking(rt, origin) {
-            Some(idle) => self.leg(alloc, &url, idle.socket, true, None)?,
-            None => self.new_leg(rt, alloc, &url, origin.address, reach.share()?)?,
+        let attempt = match self.kept_nonblocking(rt, errand.origin) {
+            Some(idle) => self.attempt(alloc, &errand.url, idle.socket, true, None)?,
+            None => {
+                let told = reach.share()?;
+                self.new_attempt(rt, alloc, &errand.url, errand.origin.address, told)?
+            }
         };
-        Ok(Flight::new(url, origin, deadline, reach, leg))
+        Ok(Fetch::new(errand, reach, attempt))
     }
 
-    // The exchange of a fetch over a new connection, which need not be made yet.
-    fn new_leg<R: Net>(
+    // An attempt over a new connection, which need not be made yet.
+    fn new_attempt<R: Net>(
         &self,
         rt: &R,
         alloc: Global,
         url: &PageUrl,
         address: SocketAddr,
         told: Reach,
-    ) -> Result<Leg, Lost> {
+    ) -> Result<Attempt, Lost> {
         match OriginSocket::connecting(rt, address) {
-            Ok(socket) => self.leg(alloc, url, socket, false, Some(told)),
+            Ok(socket) => self.attempt(alloc, url, socket, false, Some(told)),
             Err(error) => Err(lost_by(&error)),
         }
     }
 
-    // The exchange of a fetch over a socket that doesn't block.
-    fn leg(
+    // An attempt over a socket that doesn't block.
+    fn attempt(
         &self,
         alloc: Global,
         url: &PageUrl,
         socket: OriginSocket,
         is_kept: bool,
         told: Option<Reach>,
-    ) -> Result<Leg, Lost> {
-        let request = request_of(
-            alloc,
-            url,
-            &self.name,
-            self.way.as_deref(),
-            self.pool.keeps(),
-        )?;
+    ) -> Result<Attempt, Lost> {
+        let request = self.request(alloc, url)?;
         let signals = StreamSignals::new(told);
-        Ok(Leg {
-            exchange: Exchange::begun(alloc, self.keys, socket, signals, request)?,
+        Ok(Attempt {
+            exchange: PolledExchange::begun(alloc, self.keys, socket, signals, request)?,
             is_kept,
             watched: Watched::Nothing,
         })
     }
 
-    // Gives a fetch its turn; its answer if it has ended.
-    fn turned<R>(
+    // Has a fetch make a step; its answer if it has ended.
+    fn stepped<R>(
         &self,
         rt: &R,
         alloc: Global,
@@ -255,12 +221,12 @@ impl HyperSource {
     where
         R: Wait + Net<Stream = TcpStream> + Clock + RandomSource + AllocGlobal + Clone + Drop,
     {
-        match in_flight.turn(rt, alloc, key) {
-            Turn::Waits => Ok(None),
-            Turn::Ended(came, behind) => self.landed(rt, alloc, in_flight, key, came, behind),
-            Turn::Unheard => match self.retried(rt, alloc, in_flight, key) {
+        match in_flight.step(rt, alloc, key) {
+            FetchStep::Waits => Ok(None),
+            FetchStep::Ended(end) => self.ended(rt, alloc, in_flight, key, end),
+            FetchStep::Unheard => match self.retried(rt, alloc, in_flight, key) {
                 Ok(()) => Ok(None),
-                Err(lost) => self.landed(rt, alloc, in_flight, key, Err(lost), Behind::End),
+                Err(lost) => self.ended(rt, alloc, in_flight, key, ExchangeEnd::lost(lost)),
             },
         }
     }
@@ -276,40 +242,40 @@ impl HyperSource {
     where
         R: Wait + Net<Stream = TcpStream> + Clock + RandomSource + AllocGlobal + Clone + Drop,
     {
-        let Some(flight) = in_flight.flights.get_mut(key) else {
+        let Some(fetch) = in_flight.fetches.get_mut(key) else {
             return Ok(());
         };
-        let told = flight.told()?;
-        let leg = self.new_leg(rt, alloc, &flight.url, flight.origin.address, told)?;
-        flight.retries(leg);
+        let told = fetch.told()?;
+        let attempt = self.new_attempt(rt, alloc, &fetch.url, fetch.origin.address, told)?;
+        fetch.retries(attempt);
         match in_flight.due.push_back(key) {
             Ok(()) => Ok(()),
             Err(_) => Err(Lost::NoMemory),
         }
     }
 
-    // Ends a fetch: its answer.
-    fn landed<R>(
+    // Takes out a fetch that has ended so: its answer.
+    fn ended<R>(
         &self,
         rt: &R,
         alloc: Global,
         in_flight: &mut FetchesInFlight,
         key: usize,
-        came: Response,
-        behind: Behind<OriginSocket>,
+        end: ExchangeEnd<OriginSocket>,
     ) -> Result<Option<Arc<Answer>>, NoMemory>
     where
         R: Wait + Clock,
     {
-        let is_connected = match in_flight.flights.get_mut(key) {
-            Some(flight) => flight.is_connected(),
+        let ExchangeEnd { came, behind } = end;
+        let is_connected = match in_flight.fetches.get_mut(key) {
+            Some(fetch) => fetch.is_connected(),
             None => false,
         };
-        let Some(flight) = in_flight.remove(rt, key, end_of(is_connected, &came)) else {
+        let Some(fetch) = in_flight.remove(rt, key, end_of(is_connected, &came)) else {
             return Ok(None);
         };
-        self.leave(rt, flight.origin, behind);
-        let answer = self.noted(rt, alloc, &flight.url, Some(flight.origin), came)?;
+        self.leave(rt, fetch.origin, behind);
+        let answer = self.noted(rt, alloc, &fetch.url, Some(fetch.origin), came)?;
         Ok(Some(answer))
     }
 }
@@ -324,7 +290,7 @@ where
         FetchesInFlight::new(alloc)
     }
 
-    // The fetch has its first turn at once, by which its request is mostly sent.
+    // The fetch makes its first step at once, by which its request is mostly sent.
     fn begin(
         &self,
         rt: &R,
@@ -334,8 +300,8 @@ where
     ) -> Result<(), NoMemory> {
         in_flight.reserve()?;
         let origin = self.origin_of(url);
-        let begun = match self.departed(rt, alloc, in_flight, url.share()?, origin) {
-            Ok(Some(key)) => self.turned(rt, alloc, in_flight, key)?,
+        let begun = match self.begun(rt, alloc, in_flight, url, origin) {
+            Ok(Some(key)) => self.stepped(rt, alloc, in_flight, key)?,
             Ok(None) => None,
             Err(lost) => Some(self.noted(rt, alloc, url, origin, Err(lost))?),
         };
@@ -357,7 +323,7 @@ where
                 return Ok(Some(Given::fetched(answer)));
             }
             let came = match in_flight.due.pop_front() {
-                Some(key) => self.turned(rt, alloc, in_flight, key)?,
+                Some(key) => self.stepped(rt, alloc, in_flight, key)?,
                 None if !in_flight.has_news() => return Ok(None),
                 None => {
                     in_flight.look(rt)?;

@@ -4,12 +4,13 @@ ghost use Rattle.std.specs.Prelude.{IfOk};
 ghost use Rattle.hyper_source.specs.Behind.{FollowsHead};
 
 use crate::behind::Behind;
+use crate::exchange_end::ExchangeEnd;
 use crate::gathered::{Lost, Rest};
 use crate::intake::BodyCount;
 use crate::origin_socket::OriginSocket;
 use crate::polled_stream::PolledStream;
 use crate::round_trip::Response;
-use crate::stream_signals::{Readiness, StreamSignals};
+use crate::stream_signals::{Need, StreamSignals};
 use bytes::Bytes;
 use fetch_outcomes::FetchFault;
 use futures::Future;
@@ -26,15 +27,15 @@ use std::sync::Arc;
 
 type Connection = WithoutShutdown<PolledStream, Empty<Bytes>>;
 
-// How often an exchange is polled at a stretch, before another one gets its turn.
+// How often an exchange is polled in one step, before another one makes its own.
 const BUDGET: usize = 64;
 
-/// How far an exchange has got.
+/// What a step of an exchange has come to.
 #[derive(Clone, Copy, Debug, PartialEq, Eq)]
-pub(crate) enum Progress {
+pub(crate) enum ExchangeStep {
     /// It waits for its socket.
-    Waits(Readiness),
-    /// It goes on as soon as it has its turn again.
+    Waits(Need),
+    /// It goes on with its next step, without a wait.
     GoesOn,
     /// The response has come, or never will.
     Ended,
@@ -50,7 +51,7 @@ enum Page {
 
 /// A request that is sent over a connection of its own, and what has come of its response.
 #[derive(Drop)]
-pub(crate) struct Exchange {
+pub(crate) struct PolledExchange {
     page: Page,
     // `None` once it has ended.
     connection: Option<Pollable<Connection>>,
@@ -61,7 +62,7 @@ pub(crate) struct Exchange {
     signals: Arc<StreamSignals>,
 }
 
-impl Exchange {
+impl PolledExchange {
     /// Begins an exchange over a socket that doesn't block. Nothing is sent before it is polled.
     pub(crate) fn begun(
         alloc: Global,
@@ -69,7 +70,7 @@ impl Exchange {
         socket: OriginSocket,
         signals: StreamSignals,
         request: Request<Empty<Bytes>>,
-    ) -> Result<Exchange, Lost> {
+    ) -> Result<PolledExchange, Lost> {
         let descriptor = socket.stream().as_raw_fd();
         let Ok(signals) = Arc::new(alloc, signals) else {
             return Err(Lost::NoMemory);
@@ -88,7 +89,7 @@ impl Exchange {
         let Ok(connection) = Pollable::new(alloc, connection.without_shutdown()) else {
             return Err(Lost::NoMemory);
         };
-        Ok(Exchange {
+        Ok(PolledExchange {
             page: Page::Nothing(response),
             connection: Some(connection),
             behind: Behind::End,
@@ -108,17 +109,17 @@ impl Exchange {
         self.signals.has_heard()
     }
 
-    /// Goes on until the exchange waits or has ended, or others are to have their turn.
-    pub(crate) fn go_on(&mut self, alloc: Global, task: &Solo) -> Progress {
+    /// Goes on until the exchange waits or has ended, or others are to go on.
+    pub(crate) fn step(&mut self, alloc: Global, task: &Solo) -> ExchangeStep {
         for _ in 0..BUDGET {
             self.poll_once(alloc, task);
             match (self.has_ended(), self.signals.awaited()) {
-                (true, _) => return Progress::Ended,
-                (false, Some(readiness)) => return Progress::Waits(readiness),
+                (true, _) => return ExchangeStep::Ended,
+                (false, Some(need)) => return ExchangeStep::Waits(need),
                 (false, None) => {}
             }
         }
-        Progress::GoesOn
+        ExchangeStep::GoesOn
     }
 
     // One poll. All exchanges of a thread are polled as one task, whose wakes say nothing: the sockets and the signals
@@ -177,11 +178,11 @@ impl Exchange {
         }
     }
 
-    /// What has come, and what is left of the connection behind it.
-    pub(crate) fn into_response(self) -> (Response, Behind<PolledStream>)
-        ensures { IfOk result.0 (λ page. FollowsHead page.0 result.1) }
+    /// How it has ended.
+    pub(crate) fn end(self) -> ExchangeEnd<PolledStream>
+        ensures { IfOk result.came (λ page. FollowsHead page.0 result.behind) }
     {
-        let Exchange {
+        let PolledExchange {
             page,
             connection: _,
             behind,
@@ -189,11 +190,9 @@ impl Exchange {
             body: _,
             signals: _,
         } = self;
-        let came = match page {
-            Page::Whole(came) => came,
-            Page::Nothing(_) | Page::Head(_) => Err(Lost::Fault(FetchFault::Cut)),
-        };
-        let behind = behind.after(&came);
-        (came, behind)
+        match page {
+            Page::Whole(came) => ExchangeEnd::of(came, behind),
+            Page::Nothing(_) | Page::Head(_) => ExchangeEnd::cut(),
+        }
     }
 }

@@ -1,0 +1,44 @@
+//! What is to be fetched.
+
+use crate::deadline::Deadline;
+use crate::gathered::Lost;
+use crate::origin::Chosen;
+use edge_types::PageUrl;
+use fetch_outcomes::FetchFault;
+use std::time::{Clock, Duration};
+
+/// A fetch that is to be made.
+#[derive(Drop)]
+pub(crate) struct Errand {
+    /// What is fetched.
+    pub(crate) url: PageUrl,
+    /// The origin that is asked.
+    pub(crate) origin: Chosen,
+    /// Until when the fetch may take, its wait at a gate included.
+    pub(crate) deadline: Deadline,
+    /// Until when it may wait at a gate.
+    pub(crate) patience: Deadline,
+}
+
+impl Errand {
+    /// A fetch that is asked for now, and may take this long. Refused where the clock can't be read.
+    pub(crate) fn begun(
+        clock: &impl Clock,
+        url: PageUrl,
+        origin: Chosen,
+        limit: Option<Duration>,
+    ) -> Result<Errand, Lost> {
+        let (Ok(deadline), Ok(patience)) = (
+            Deadline::after(clock, limit),
+            Deadline::of_wait(clock, limit),
+        ) else {
+            return Err(Lost::Fault(FetchFault::Cut));
+        };
+        Ok(Errand {
+            url,
+            origin,
+            deadline,
+            patience,
+        })
+    }
+}

@@ -1,0 +1,45 @@
+//! How an exchange with an origin ends.
+
+ghost use Rattle.std.specs.Prelude.{IfOk};
+ghost use Rattle.hyper_source.specs.Behind.{FollowsHead};
+
+use crate::behind::Behind;
+use crate::gathered::Lost;
+use crate::round_trip::Response;
+use fetch_outcomes::FetchFault;
+
+/// How an exchange has ended.
+#[derive(Drop)]
+pub(crate) struct ExchangeEnd<I> {
+    /// What has come.
+    pub(crate) came: Response,
+    /// What is left of the connection behind it.
+    pub(crate) behind: Behind<I>,
+}
+
+impl<I: Drop> ExchangeEnd<I> {
+    /// This has come, over a connection of which the HTTP library leaves so much.
+    pub(crate) fn of(came: Response, left: Behind<I>) -> ExchangeEnd<I>
+        ensures { IfOk result.came (λ page. FollowsHead page.0 result.behind) }
+    {
+        let behind = left.after(&came);
+        ExchangeEnd { came, behind }
+    }
+
+    /// Nothing has come, for this reason; the connection is closed.
+    pub(crate) fn lost(lost: Lost) -> ExchangeEnd<I>
+        ensures { IfOk result.came (λ page. FollowsHead page.0 result.behind) }
+    {
+        ExchangeEnd {
+            came: Err(lost),
+            behind: Behind::End,
+        }
+    }
+
+    /// The connection was cut before anything had come.
+    pub(crate) fn cut() -> ExchangeEnd<I>
+        ensures { IfOk result.came (λ page. FollowsHead page.0 result.behind) }
+    {
+        ExchangeEnd::lost(Lost::Fault(FetchFault::Cut))
+    }
+}
