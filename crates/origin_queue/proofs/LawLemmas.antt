@@ -18,15 +18,20 @@ after bounds h = with bounds (out h) (given h) (waiting h) (called h)
 
 -- ---- what holds after each history
 
-record Holds (bounds : QueueBounds) (h : History) : Type 0 where
-  within : out h ≤ bounds.permits
-  busy : (waiting h ≡ []) ⊎ (out h ≡ bounds.permits)
-  few : length (waiting h) ≤ bounds.most_waiting
+-- what holds of a queue with so many permits out and so many places given, where these wait, these are called, and those
+-- were called before
+record Sound (bounds : QueueBounds) (out given : ℕ) (waiting called : List ℕ) (Was : ℕ → Type 0) : Type 0 where
+  within : out ≤ bounds.permits
+  busy : (waiting ≡ []) ⊎ (out ≡ bounds.permits)
+  few : length waiting ≤ bounds.most_waiting
   -- whoever was called is below this number, and whoever waits is not
   mark : ℕ
-  called_below : Below mark (called h)
-  all_below : (n : ℕ) → WasCalled n h → n < mark
-  in_order : Between mark (given h) (waiting h)
+  called_below : Below mark called
+  all_below : (n : ℕ) → Was n → n < mark
+  in_order : Between mark given waiting
+
+abbrev Holds : QueueBounds → History → Type 0
+Holds bounds h = Sound bounds (out h) (given h) (waiting h) (called h) (λ n. WasCalled n h)
 
 holds_fresh : (bounds : QueueBounds) → Holds bounds []
 holds_fresh bounds = record {
@@ -104,15 +109,7 @@ full : (bounds : QueueBounds) (h : History) (new : Queued) → Holds bounds h �
 full bounds h new holds step = (
   (no_permit bounds h holds step.0, by_test (or_cases (nat_le bounds.most_waiting (length (waiting h))) (nat_le (2 ^ 64 - 1) (given h)) step.1)),
   step.2,
-  record {
-    within = holds.within;
-    busy = holds.busy;
-    few = holds.few;
-    mark = holds.mark;
-    called_below = holds.called_below;
-    all_below = holds.all_below;
-    in_order = holds.in_order;
-  },
+  holds,
 )
   where
     by_test : (nat_le bounds.most_waiting (length (waiting h)) ≡ true) ⊎ (nat_le (2 ^ 64 - 1) (given h) ≡ true) → (length (waiting h) ≡ bounds.most_waiting) ⊎ (2 ^ 64 - 1 ≤ given h)
@@ -121,45 +118,43 @@ full bounds h new holds step = (
 
 -- ---- a permit that is handed back, by a fetch or by who was called and leaves: what holds of any list of those called
 
-record Handed (bounds : QueueBounds) (h : History) (others : List ℕ) (next : Option Place) (new : Queued) : Type 0 where
-  first : IsFirst next (waiting h) (but_called next (waiting h))
-  same : new ≡ with bounds (kept_for next (out h)) (given h) (but_called next (waiting h)) (and_called next others)
-  within : kept_for next (out h) ≤ bounds.permits
-  busy : (but_called next (waiting h) ≡ []) ⊎ (kept_for next (out h) ≡ bounds.permits)
-  few : length (but_called next (waiting h)) ≤ bounds.most_waiting
-  mark : ℕ
-  called_below : Below mark (and_called next others)
-  all_below : (n : ℕ) → IsCalledBy n next ⊎ WasCalled n h → n < mark
-  in_order : Between mark (given h) (but_called next (waiting h))
+abbrev Handed : QueueBounds → History → List ℕ → Option Place → Queued → Type 0
+Handed bounds h others next new = IsFirst next (waiting h) (but_called next (waiting h))
+    × (new ≡ with bounds (kept_for next (out h)) (given h) (but_called next (waiting h)) (and_called next others))
+    × Sound bounds (kept_for next (out h)) (given h) (but_called next (waiting h)) (and_called next others) (λ n. IsCalledBy n next ⊎ WasCalled n h)
 
 hands : (bounds : QueueBounds) (h : History) (others : List ℕ) (next : Option Place) (new : Queued) (holds : Holds bounds h) → Below holds.mark others
     → Frees (with bounds (out h) (given h) (waiting h) others) next new → Handed bounds h others next new
-hands bounds h others None new holds below step = record {
-  first = step.0;
-  same = step.1;
-  within = let within = holds.within in omega arith;
-  busy = inl step.0;
-  few = holds.few;
-  mark = holds.mark;
-  called_below = below;
-  all_below = all;
-  in_order = holds.in_order;
-}
+hands bounds h others None new holds below step = (
+  step.0,
+  step.1,
+  record {
+    within = let within = holds.within in omega arith;
+    busy = inl step.0;
+    few = holds.few;
+    mark = holds.mark;
+    called_below = below;
+    all_below = all;
+    in_order = holds.in_order;
+  },
+)
   where
     all : (n : ℕ) → IsCalledBy n None ⊎ WasCalled n h → n < holds.mark
     all n (inl is) = absurd is
     all n (inr is) = holds.all_below n is
-hands bounds h others (Some place) new holds below step = record {
-  first = step.0 ∙ ap (λ (l : List ℕ). place.number ∷ l) (sym later);
-  same = step.1 ∙ ap (λ (l : List ℕ). with bounds (out h) (given h) l (others ++ place.number ∷ [])) (sym later);
-  within = holds.within;
-  busy = by_busy holds.busy;
-  few = let fewer = length_without place.number (waiting h) in let few = holds.few in omega arith;
-  mark = place.number + 1;
-  called_below = below_push (place.number + 1) place.number others (omega arith) (below_more holds.mark (place.number + 1) others (omega (arith, order.0)) below);
-  all_below = all;
-  in_order = subst (Between (place.number + 1) (given h)) (sym later) order.1;
-}
+hands bounds h others (Some place) new holds below step = (
+  step.0 ∙ ap (λ (l : List ℕ). place.number ∷ l) (sym later),
+  step.1 ∙ ap (λ (l : List ℕ). with bounds (out h) (given h) l (others ++ place.number ∷ [])) (sym later),
+  record {
+    within = holds.within;
+    busy = by_busy holds.busy;
+    few = let fewer = length_without place.number (waiting h) in let few = holds.few in omega arith;
+    mark = place.number + 1;
+    called_below = below_push (place.number + 1) place.number others (omega arith) (below_more holds.mark (place.number + 1) others (omega (arith, order.0)) below);
+    all_below = all;
+    in_order = subst (Between (place.number + 1) (given h)) (sym later) order.1;
+  },
+)
   where
     later : without place.number (waiting h) ≡ new.waiting
     later = without_first place.number holds.mark (given h) (waiting h) new.waiting step.0 holds.in_order
@@ -176,22 +171,7 @@ hands bounds h others (Some place) new holds below step = record {
     all n (inr is) = let before = holds.all_below n is in let le = order.0 in omega arith
 
 freed : (bounds : QueueBounds) (h : History) (next : Option Place) (new : Queued) → Holds bounds h → Frees (after bounds h) next new → Shows bounds h (Freed next) new
-freed bounds h next new holds step = shown (hands bounds h (called h) next new holds holds.called_below step)
-  where
-    shown : Handed bounds h (called h) next new → Shows bounds h (Freed next) new
-    shown to = (
-      to.first,
-      to.same,
-      record {
-        within = to.within;
-        busy = to.busy;
-        few = to.few;
-        mark = to.mark;
-        called_below = to.called_below;
-        all_below = to.all_below;
-        in_order = to.in_order;
-      },
-    )
+freed bounds h next new holds step = hands bounds h (called h) next new holds holds.called_below step
 
 took : (bounds : QueueBounds) (h : History) (place : Place) (was_called : Bool) (new : Queued) → Holds bounds h → Step (after bounds h) (Took place was_called) new
     → Shows bounds h (Took place was_called) new
@@ -221,18 +201,18 @@ left bounds h place next new holds step = by_called (stands place.number (called
     waited is = without_below place.number holds.mark (given h) (waiting h) (below_stands place.number holds.mark (called h) holds.called_below is) holds.in_order
 
     shown : stands place.number (called h) ≡ true → Handed bounds h (without place.number (called h)) next new → Shows bounds h (Left place next) new
-    shown is to = (
-      inl (is, subst (λ (l : List ℕ). IsFirst next (waiting h) (but_called next l)) (sym (waited is)) to.first),
-      to.same ∙ (λ i. with bounds (sym (kept true is) i) (given h) (but_called next (sym (waited is) i)) (and_called next (without place.number (called h)))),
+    shown is to = let sound = to.2 in (
+      inl (is, subst (λ (l : List ℕ). IsFirst next (waiting h) (but_called next l)) (sym (waited is)) to.0),
+      to.1 ∙ (λ i. with bounds (sym (kept true is) i) (given h) (but_called next (sym (waited is) i)) (and_called next (without place.number (called h)))),
       record {
-        within = subst (λ (n : ℕ). n ≤ bounds.permits) (sym (kept true is)) to.within;
+        within = subst (λ (n : ℕ). n ≤ bounds.permits) (sym (kept true is)) sound.within;
         busy = subst (λ (n : ℕ). (but_called next (without place.number (waiting h)) ≡ []) ⊎ (n ≡ bounds.permits)) (sym (kept true is))
-            (subst (λ (l : List ℕ). (but_called next l ≡ []) ⊎ (kept_for next (out h) ≡ bounds.permits)) (sym (waited is)) to.busy);
-        few = subst (λ (l : List ℕ). length (but_called next l) ≤ bounds.most_waiting) (sym (waited is)) to.few;
-        mark = to.mark;
-        called_below = to.called_below;
-        all_below = to.all_below;
-        in_order = subst (λ (l : List ℕ). Between to.mark (given h) (but_called next l)) (sym (waited is)) to.in_order;
+            (subst (λ (l : List ℕ). (but_called next l ≡ []) ⊎ (kept_for next (out h) ≡ bounds.permits)) (sym (waited is)) sound.busy);
+        few = subst (λ (l : List ℕ). length (but_called next l) ≤ bounds.most_waiting) (sym (waited is)) sound.few;
+        mark = sound.mark;
+        called_below = sound.called_below;
+        all_below = sound.all_below;
+        in_order = subst (λ (l : List ℕ). Between sound.mark (given h) (but_called next l)) (sym (waited is)) sound.in_order;
       },
     )
 
