@@ -78,27 +78,11 @@ impl<R> Journal<R> for NoJournal {
 /// A request that was answered and is to be reported: when its head had come, and how it was answered.
 #[derive(Drop)]
 pub(crate) struct Unreported {
-    begun: Instant,
-    record: RequestRecord,
+    pub begun: Instant,
+    pub record: RequestRecord,
 }
 
 impl Unreported {
-    /// A request of this client whose head had come at `begun`. Why a fetch failed is asked of the journal.
-    pub(crate) fn new<R, J: Journal<R>, B>(
-        rt: &R,
-        journal: &J,
-        alloc: Global,
-        begun: Instant,
-        client: Option<IpAddr>,
-        request: &Request<B>,
-        responded: &Responded,
-    ) -> Unreported {
-        Unreported {
-            begun,
-            record: record_of(rt, journal, alloc, client, request, responded),
-        }
-    }
-
     /// Reports it to a journal, now that the response has been written or the connection has ended.
     pub(crate) fn report<R: Clock, J: Journal<R>>(self, rt: &R, journal: &J) {
         let Unreported { begun, mut record } = self;
@@ -109,8 +93,9 @@ impl Unreported {
     }
 }
 
-// The record of how a request was answered, as long as it hasn't been reported.
-fn record_of<R, J: Journal<R>, B>(
+/// The record of how a request of this client was answered, but for the time that it took. Why a fetch failed is asked of
+/// the journal.
+pub(crate) fn record_of<R, J: Journal<R>, B>(
     rt: &R,
     journal: &J,
     alloc: Global,

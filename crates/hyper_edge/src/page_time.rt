@@ -70,7 +70,7 @@ fn earlier(one: Option<Instant>, other: Option<Instant>) -> Option<Instant>
 
 impl<S> WithinTime<S> {
     // When the page's time is over, as long as it waits for something.
-    fn time_of<F>(&self, in_flight: &FlightsInTime<F>) -> Option<Instant>
+    fn time_of<F>(&self, in_flight: &FetchesInTime<F>) -> Option<Instant>
         ensures idle { in_flight.now.awaited.items ≡ [] → result ≡ None }
         ensures waits { in_flight.now.awaited.items ≢ [] → result ≡ self.now.until }
     {
@@ -97,7 +97,7 @@ impl<S> WithinTime<S> {
     }
 
     // Whether the page's time was over when that was last looked at, which is now unless the look still serves.
-    fn has_ended<F>(&self, clock: &impl Clock, in_flight: &mut FlightsInTime<F>) -> bool {
+    fn has_ended<F>(&self, clock: &impl Clock, in_flight: &mut FetchesInTime<F>) -> bool {
         if !in_flight.is_in_time {
             in_flight.is_in_time = !self.is_over(clock);
         }
@@ -120,7 +120,7 @@ impl<S> WithinTime<S> {
 
 /// What a page has in flight: the source's fetches, the URLs whose answers are waited for, and those that were asked for
 /// too late.
-pub(crate) struct FlightsInTime<F> {
+pub(crate) struct FetchesInTime<F> {
     fetches: F,
     awaited: Vec<PageUrl>,
     late: Vec<PageUrl>,
@@ -129,7 +129,7 @@ pub(crate) struct FlightsInTime<F> {
     is_in_time: bool,
 }
 
-impl<F> FlightsInTime<F> {
+impl<F> FetchesInTime<F> {
     // The answer of a URL isn't waited for any longer. The latest that was asked for mostly comes first.
     fn answered(&mut self, url: &PageUrl) {
         if let Some(place) = self.awaited.iter().rposition(|awaited| awaited == url) {
@@ -169,10 +169,10 @@ impl<R: Clock, S: Source<R>> Source<R> for WithinTime<S> {
 }
 
 impl<R: Clock, S: ConcurrentSource<R>> ConcurrentSource<R> for WithinTime<S> {
-    type InFlight = FlightsInTime<S::InFlight>;
+    type InFlight = FetchesInTime<S::InFlight>;
 
-    fn nothing_in_flight(&self, rt: &R, alloc: Global) -> FlightsInTime<S::InFlight> {
-        FlightsInTime {
+    fn nothing_in_flight(&self, rt: &R, alloc: Global) -> FetchesInTime<S::InFlight> {
+        FetchesInTime {
             fetches: self.source.nothing_in_flight(rt, alloc),
             awaited: Vec::new(alloc),
             late: Vec::new(alloc),
@@ -184,7 +184,7 @@ impl<R: Clock, S: ConcurrentSource<R>> ConcurrentSource<R> for WithinTime<S> {
         &self,
         rt: &R,
         alloc: Global,
-        in_flight: &mut FlightsInTime<S::InFlight>,
+        in_flight: &mut FetchesInTime<S::InFlight>,
         url: &PageUrl,
     ) -> Result<(), NoMemory> {
         if self.has_ended(rt, in_flight) {
@@ -201,7 +201,7 @@ impl<R: Clock, S: ConcurrentSource<R>> ConcurrentSource<R> for WithinTime<S> {
         &self,
         rt: &R,
         alloc: Global,
-        in_flight: &mut FlightsInTime<S::InFlight>,
+        in_flight: &mut FetchesInTime<S::InFlight>,
     ) -> Result<Option<Given>, NoMemory> {
         if let Some(url) = in_flight.late.pop() {
             return Ok(Some(self.too_late(rt, alloc, &url)?));
@@ -221,7 +221,7 @@ impl<R: Clock, S: ConcurrentSource<R>> ConcurrentSource<R> for WithinTime<S> {
         }
     }
 
-    fn is_idle(&self, in_flight: &FlightsInTime<S::InFlight>) -> bool {
+    fn is_idle(&self, in_flight: &FetchesInTime<S::InFlight>) -> bool {
         in_flight.late.is_empty() && self.source.is_idle(&in_flight.fetches)
     }
 
@@ -229,7 +229,7 @@ impl<R: Clock, S: ConcurrentSource<R>> ConcurrentSource<R> for WithinTime<S> {
         &self,
         rt: &R,
         alloc: Global,
-        in_flight: &mut FlightsInTime<S::InFlight>,
+        in_flight: &mut FetchesInTime<S::InFlight>,
         most: Option<Duration>,
     ) -> Result<(), NoMemory> {
         in_flight.is_in_time = false;
@@ -247,7 +247,7 @@ impl<R: Clock, S: ConcurrentSource<R>> ConcurrentSource<R> for WithinTime<S> {
         &self,
         rt: &R,
         alloc: Global,
-        in_flight: &mut FlightsInTime<S::InFlight>,
+        in_flight: &mut FetchesInTime<S::InFlight>,
     ) -> Option<Awaited> {
         in_flight.is_in_time = false;
         let below = self.source.awaited(rt, alloc, &mut in_flight.fetches)?;
@@ -257,18 +257,18 @@ impl<R: Clock, S: ConcurrentSource<R>> ConcurrentSource<R> for WithinTime<S> {
         })
     }
 
-    fn bell(&self, rt: &R, in_flight: &mut FlightsInTime<S::InFlight>) -> Option<Bell> {
+    fn bell(&self, rt: &R, in_flight: &mut FetchesInTime<S::InFlight>) -> Option<Bell> {
         self.source.bell(rt, &mut in_flight.fetches)
     }
 
-    fn let_go(&self, rt: &R, alloc: Global, in_flight: &mut FlightsInTime<S::InFlight>) -> bool {
+    fn let_go(&self, rt: &R, alloc: Global, in_flight: &mut FetchesInTime<S::InFlight>) -> bool {
         in_flight.awaited.clear();
         in_flight.late.clear();
         self.source.let_go(rt, alloc, &mut in_flight.fetches)
     }
 
-    fn give_up(&self, rt: &R, alloc: Global, in_flight: FlightsInTime<S::InFlight>) {
-        let FlightsInTime {
+    fn give_up(&self, rt: &R, alloc: Global, in_flight: FetchesInTime<S::InFlight>) {
+        let FetchesInTime {
             fetches,
             awaited: _,
             late: _,

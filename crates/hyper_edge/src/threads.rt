@@ -39,9 +39,9 @@ use tokio::io::{AsyncRead, AsyncWrite};
 ///
 /// Where the acceptor keeps connections, each serves one request after another.
 ///
-/// Each request that was answered is reported to the journal by the thread that served it, once its
-/// response has been written or its connection has ended; so is a head that the HTTP library refused, as
-/// far as it tells of that.
+/// Each request that was answered is reported to the journal once its response has been written or its connection has
+/// ended, by the thread that has the connection then, unless there was no room to take note of it, or to park the connection.
+/// So is a head that the HTTP library refused, as far as it tells of that.
 ///
 /// Our profile.
 pub fn serve_accepts<'a, R, A, S, J>(

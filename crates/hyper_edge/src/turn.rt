@@ -1,6 +1,6 @@
 //! A thread's turn at a connection: it answers what the connection asks, until that has to wait.
 
-use crate::journal::{Journal, Unreported};
+use crate::journal::{Journal, Unreported, record_of};
 use crate::page_time::WithinTime;
 use crate::responding::{Responded, Told, go_on_with};
 use crate::serving::Serving;
@@ -308,16 +308,15 @@ where
         let asked = &request.asked;
         if let Some(begun) = request.begun {
             let client = serving.service.client_of(&asked.head, self.client);
-            let answer = Unreported::new(
+            let record = record_of(
                 serving.rt,
                 serving.journal,
                 serving.service.alloc(),
-                begun,
                 client,
                 &asked.head,
                 &responded,
             );
-            let _ = self.unreported.push(answer);
+            let _ = self.unreported.push(Unreported { begun, record });
         }
         let mut response = responded.response;
         if serving.keeps && !asked.is_whole {

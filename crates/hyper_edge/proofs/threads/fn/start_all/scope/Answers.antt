@@ -11,9 +11,9 @@ use denote.Struct.Tuple as tuple
 use Rattle.std.proofs.Crossing
 use Rattle.std.specs.contracts.result.Result as result
 use Rattle.hyper.specs.contracts.error.Error as error
-use Rattle.hyper_edge.proofs.page_time.FlightsInTime.TheSendSync as FlightsInTime
+use Rattle.hyper_edge.proofs.page_time.FetchesInTime.TheSendSync as FetchesInTime
 use Rattle.hyper_edge.proofs.page_time.WithinTime.TheSendSync as WithinTime
-use Rattle.hyper_edge.specs.contracts.page_time.FlightsInTime as flights_in_time
+use Rattle.hyper_edge.specs.contracts.page_time.FetchesInTime as fetches_in_time
 use Rattle.hyper_edge.specs.contracts.page_time.WithinTime as within_time
 use Rattle.hyper_edge.specs.contracts.page_time.WithinTimeSource.TheImpl as in_time
 use Rattle.edge_connections.proofs.roster.Work.TheSendSync as Work
@@ -34,7 +34,7 @@ spawn-started-requires-send-F g c κs within =
     let m : IsSync (param 5 g.row.M) = c.requires-raw.1.1.1.1.1.1.1.1.1.1.1.1.1.1.1.1.1.0 in
     let i : IsSend (param 7 g.row.S-InFlight) = c.requires-raw.1.1.1.1.1.1.1.1.1.1.1.1.0 in
     let w : IsSend (within_time.the_row (param 2 g.row.S)) = search (WithinTime.the_send, s, y, Crossing.crosses, sendable) in
-    let t : IsSend (flights_in_time.the_row (param 7 g.row.S-InFlight)) = search (FlightsInTime.the_send, i, Crossing.crosses, sendable) in
+    let t : IsSend (fetches_in_time.the_row (param 7 g.row.S-InFlight)) = search (FetchesInTime.the_send, i, Crossing.crosses, sendable) in
     let here : NamedLft = record { mir = named 5; lft = κs.1.1.1.1.1.0 } in
     let lent : NamedLft = record { mir = named 6; lft = κs.1.1.1.1.1.1.0 } in
     let opens : NamedLft = record { mir = named 7; lft = κs.1.1.1.1.1.1.1.0 } in
@@ -45,7 +45,7 @@ spawn-started-requires-send-F g c κs within =
     let C : RattleType = param 4 g.row.F in
     let M : RattleType = param 5 g.row.M in
     let F : RattleType = param 7 g.row.S-InFlight in
-    let G : RattleType = flights_in_time.the_row F in
+    let G : RattleType = fetches_in_time.the_row F in
     let O : RattleType = result.the_row unit-field.row error.the_row in
     let shared : RattleType = server.the_row lent R A S J C F G O (in_time.ghosts R S g.R.Clock in_time.no_dict g.S.Source in_time.no_dict) g.F.Future in
     let v : IsSync shared = server_sync lent R A S J C F G O (in_time.ghosts R S g.R.Clock in_time.no_dict g.S.Source in_time.no_dict) g.F.Future r ry a s y j f w t in
