@@ -88,7 +88,7 @@ impl<T: Drop> ParkingPlace<T> {
             limits: _,
             idle: _,
             clients: _,
-            turns: _,
+            numbered: _,
         } = mem::replace(&mut *lot, Lot::new(alloc));
         parked
     }
@@ -101,10 +101,9 @@ struct Lot<T> {
     // When the time of each is over that has a limit, and its key; and the same of those that are idle.
     limits: BTreeSet<(Instant, usize)>,
     idle: BTreeSet<(Instant, usize)>,
-    // Of each other one that waits for its client, the turn at which it was parked, and its key; and how many turns there
-    // were.
+    // Of each other one that waits for its client, its number and its key; and how many numbers were given.
     clients: BTreeSet<(u64, usize)>,
-    turns: u64,
+    numbered: u64,
 }
 
 /// A connection that waits.
@@ -114,8 +113,8 @@ pub struct Parked<T> {
     pub session: T,
     // When the time of its client is over.
     until: Option<Instant>,
-    // Its turn, if it waits for its client and isn't idle.
-    turn: Option<u64>,
+    // Its number, if it waits for its client and isn't idle: one that was parked later has a greater one.
+    number: Option<u64>,
 }
 
 impl<T: Drop> Lot<T> {
@@ -125,21 +124,21 @@ impl<T: Drop> Lot<T> {
             limits: BTreeSet::new(alloc),
             idle: BTreeSet::new(alloc),
             clients: BTreeSet::new(alloc),
-            turns: 0,
+            numbered: 0,
         }
     }
 
     // The key of what is taken in. It comes back where there is no room for it.
     fn park(&mut self, session: T, pause: Pause) -> Result<usize, Option<T>> {
         let until = pause.until;
-        let turn = match pause.by {
-            PausedBy::Client => Some(self.turns),
+        let number = match pause.by {
+            PausedBy::Client => Some(self.numbered),
             PausedBy::IdleClient | PausedBy::Fetches => None,
         };
         let parked = Parked {
             session,
             until,
-            turn,
+            number,
         };
         let key = match self.parked.insert(parked) {
             Ok(key) => key,
@@ -147,25 +146,25 @@ impl<T: Drop> Lot<T> {
                 let Parked {
                     session,
                     until: _,
-                    turn: _,
+                    number: _,
                 } = failed.value;
                 return Err(Some(session));
             }
         };
-        if self.list_turn(key, turn) && self.list_limit(key, pause) {
+        if self.list_client(key, number) && self.list_limit(key, pause) {
             Ok(key)
         } else {
             Err(self.take(key))
         }
     }
 
-    // Lists when what is under a key was parked. Returns false where there is no room for that.
-    fn list_turn(&mut self, key: usize, turn: Option<u64>) -> bool {
-        let Some(turn) = turn else {
+    // Lists what is under a key among those that wait for their clients. Returns false where there is no room for that.
+    fn list_client(&mut self, key: usize, number: Option<u64>) -> bool {
+        let Some(number) = number else {
             return true;
         };
-        self.turns = turn.saturating_add(1);
-        self.clients.insert((turn, key)).is_ok()
+        self.numbered = number.saturating_add(1);
+        self.clients.insert((number, key)).is_ok()
     }
 
     // Lists when the time of what is under a key is over. Returns false where there is no room for that.
@@ -186,14 +185,14 @@ impl<T: Drop> Lot<T> {
         let Parked {
             session,
             until,
-            turn,
+            number,
         } = self.parked.try_remove(key)?;
         if let Some(until) = until {
             self.limits.remove(&(until, key));
             self.idle.remove(&(until, key));
         }
-        if let Some(turn) = turn {
-            self.clients.remove(&(turn, key));
+        if let Some(number) = number {
+            self.clients.remove(&(number, key));
         }
         Some(session)
     }

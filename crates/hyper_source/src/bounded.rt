@@ -47,7 +47,7 @@ impl OriginGate {
         }
     }
 
-    /// Leave to make a fetch, for which the thread waits until its turn comes, no longer than so; or why none may be made.
+    /// Leave to make a fetch, for which the thread waits, no longer than so; or why none may be made.
     pub(crate) fn permit<R: Wait + Clock>(&self, rt: &R, until: Deadline) -> Result<Permit, Lost> {
         let mut chance = self.ask(rt, Caller::Thread);
         for _ in rt.forever() {
