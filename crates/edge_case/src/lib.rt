@@ -21,5 +21,6 @@ mod writing;
 pub use case_text::Case;
 pub use ending::{CaseEnd, CaseFault};
 pub use order::read_events;
-pub use runner::{Ran, Running, run_case, run_case_and_keep};
+pub use plan_runner::Running;
+pub use runner::{Ran, run_case, run_case_and_keep};
 pub use templates::templates_in;

@@ -3,8 +3,6 @@ ghost use Rattle.std.specs.Prelude.{◌≡◌, ◌≢◌, ◌≤◌, ◌+◌, op
 ghost use Rattle.std.specs.Arc.{arc_value};
 ghost use Rattle.std.specs.Io.KnownBytes.{Appends, Keeps};
 ghost use Rattle.edge_types.specs.Outcome.{Shown};
-ghost use Rattle.esi_meaning.specs.Meaning.{AreLevels};
-ghost use Rattle.plan_runner.specs.declared.page.TheConstants.{MAX_AHEAD};
 ghost use Rattle.plan_runner.specs.Page.{Finished};
 ghost use Rattle.edge_case.specs.Bytes.{AppendsPart, TakesAtMost, IsInput};
 ghost use Rattle.edge_case.specs.FailedLeg.{IsFailedLegAt, IsFailedLegOf, FailsAtLeg};
@@ -17,25 +15,10 @@ use crate::ending::{CaseEnd, CaseFault};
 use crate::input::read_input;
 use crate::printer::print;
 use edge_types::{Answer, NoMemory};
-use plan_runner::{Event, MAX_AHEAD, Page, run_to_end};
+use plan_runner::{Page, Running, run_to_end};
 use std::alloc::Global;
 use std::io::{Read, Write};
 use std::sync::Arc;
-
-/// How a case's page is run. What is printed depends on the levels alone.
-///
-/// Our profile.
-#[derive(Clone, Copy)]
-pub struct Running<'a> {
-    /// How many slots posts may open ahead.
-    pub ahead: u16,
-    /// The events that come first, in order; then the page runs to its end.
-    pub events: &'a [Event],
-    /// How many levels of fragments there may be.
-    pub levels: u8,
-    ghost ahead_few: { ahead ≤ MAX_AHEAD },
-    ghost levels_few: { AreLevels levels },
-}
 
 /// A case that was run.
 #[derive(Drop)]
@@ -83,12 +66,7 @@ fn print_case<W: Write>(
         request,
         table,
     } = case;
-    let Running {
-        ahead,
-        events,
-        levels,
-    } = running;
-    let (page, outcome) = run_to_end(alloc, url, request, &table, ahead, levels, events)?;
+    let (page, outcome) = run_to_end(alloc, url, request, &table, running)?;
     let failed_leg = failed_leg_of(&page)?;
     match print(alloc, writer, &outcome) {
         Ok(end) => Ok((end, failed_leg)),

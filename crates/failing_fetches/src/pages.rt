@@ -14,7 +14,7 @@ use fetch_workers::{
 use http::Response;
 use http_body::Body;
 use hyper_edge::{EdgeBody, Field, respond};
-use plan_runner::{Event, Page, PageError, State, run_events};
+use plan_runner::{Event, Page, PageError, Running, State, run_events};
 use std::alloc::AllocGlobal;
 use std::io::Print;
 use std::sync::Wait;
@@ -183,8 +183,13 @@ pub fn run_page<R: AllocGlobal + Print>(rt: &R, name: &str) -> Option<()> {
 fn run_over<R: AllocGlobal + Print>(rt: &R, name: &str, table: &Table) -> Option<()> {
     let alloc = rt.alloc();
     let (url, request) = (url(alloc, "/p")?, request(alloc)?);
+    let running = Running {
+        ahead: AHEAD,
+        events: &EVENTS,
+        levels: LEVELS,
+    };
     calls(rt, name)?;
-    let ran = run_events(alloc, url, request, table, AHEAD, LEVELS, &EVENTS);
+    let ran = run_events(alloc, url, request, table, running);
     print_ran(rt, &ran)
 }
 

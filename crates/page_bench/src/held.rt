@@ -3,7 +3,7 @@
 use crate::site::{Site, includes, page_url, table};
 use bench_tools::inputs::or_io_error;
 use edge_types::{PageUrl, Request, Table};
-use plan_runner::{Event, MAX_AHEAD, Page, run_events};
+use plan_runner::{Event, MAX_AHEAD, Page, Running, run_events};
 use std::alloc::Global;
 use std::io;
 
@@ -50,8 +50,12 @@ fn held(rt: &HostRuntime, table: &Table) -> io::Result<()> {
 
 // The page after these events.
 fn posted(alloc: Global, url: PageUrl, table: &Table, events: &[Event]) -> io::Result<Page> {
-    let request = Request::empty();
-    match run_events(alloc, url, request, table, MAX_AHEAD, 4, events) {
+    let running = Running {
+        ahead: MAX_AHEAD,
+        events,
+        levels: 4,
+    };
+    match run_events(alloc, url, Request::empty(), table, running) {
         Ok((page, _)) => Ok(page),
         Err(_) => Err(io::Error::from(io::ErrorKind::OutOfMemory)),
     }

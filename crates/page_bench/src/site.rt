@@ -6,7 +6,7 @@ ghost use Rattle.plan_runner.specs.declared.page.TheConstants.{MAX_AHEAD};
 use bench_tools::inputs::{answer, or_input_error, or_io_error, url};
 use edge_types::{Control, PageUrl, Request, SharedBytes, Table};
 use esi_meaning::plain_page;
-use plan_runner::{Event, run_to_end};
+use plan_runner::{Event, Running, run_to_end};
 use std::alloc::{AllocError, Global};
 use std::fmt::Write;
 use std::io;
@@ -109,6 +109,10 @@ pub fn ran(alloc: Global, table: &Table, ahead: u16, levels: u8, events: &[Event
     requires levels { AreLevels levels }
 {
     let url = page_url(alloc)?;
-    let request = Request::empty();
-    or_input_error(run_to_end(alloc, url, request, table, ahead, levels, events))
+    let running = Running {
+        ahead,
+        events,
+        levels,
+    };
+    or_input_error(run_to_end(alloc, url, Request::empty(), table, running))
 }

@@ -14,6 +14,15 @@ use esi_vars::Lookups;
 use plan_compiler::{Form, Leg, Prepared, Step};
 use std::alloc::Global;
 
+// A slot of a page whose answer has come in.
+#[derive(Clone, Copy)]
+pub(crate) struct FilledSlot<'a> {
+    // The page's.
+    pub(crate) request: &'a Request,
+    pub(crate) levels: u8,
+    pub(crate) number: usize,
+}
+
 // What slots are opened with: the template, and their depth.
 #[derive(Clone, Copy)]
 struct Opening<'a> {
@@ -27,36 +36,34 @@ struct Opening<'a> {
 // returns the room that is left. If memory runs out, some of them may be open.
 pub(crate) fn open_ahead(
     alloc: Global,
-    request: &Request,
-    levels: u8,
+    filled: &FilledSlot<'_>,
     board: &mut Board,
-    number: usize,
     room: u16,
     lookups: &mut Lookups,
 ) -> Result<u16, NoMemory>
     requires sound { IsBoard board.old }
-    ensures opens { (s : Slot) (answer : Answered) → slice_get board.old.slots number ≡ Some s → answer_in s.standing ≡ Some answer
-        → IfOk result (λ left. record { board = board.new; room = left } ≡ opened_by request.now levels s.depth answer (record { board = board.old; room = room })) }
+    ensures opens { (s : Slot) (answer : Answered) → slice_get board.old.slots filled.now.number ≡ Some s → answer_in s.standing ≡ Some answer
+        → IfOk result (λ left. record { board = board.new; room = left } ≡ opened_by filled.now.request.now filled.now.levels s.depth answer (record { board = board.old; room = room })) }
     ensures keeps { KeepsFilled board.old board.new }
     ensures log { log_of board.new ≡ log_of board.old }
     ensures sound { IsBoard board.new }
     ensures few { length board.new.slots ≤ length board.old.slots + room }
     ensures fewer { IfOk result (λ left. length board.new.slots + left ≤ length board.old.slots + room) }
 {
-    let depth = match board.depth(number) {
-        Some(depth) if depth < levels => depth + 1,
+    let depth = match board.depth(filled.number) {
+        Some(depth) if depth < filled.levels => depth + 1,
         Some(_) | None => return Ok(room),
     };
     if room == 0 {
         return Ok(room);
     }
-    let Some(prepared) = board.prepared(number) else {
+    let Some(prepared) = board.prepared(filled.number) else {
         return Ok(room);
     };
     let template = prepared.share()?;
     let opening = Opening {
         alloc,
-        request,
+        request: filled.request,
         template: &template,
         depth,
     };

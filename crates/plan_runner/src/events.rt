@@ -30,6 +30,21 @@ pub enum Event {
     Advance,
 }
 
+/// How a page is run over a table. Its outcome depends on the levels alone.
+///
+/// Our profile.
+#[derive(Clone, Copy)]
+pub struct Running<'a> {
+    /// How many slots posts may open ahead.
+    pub ahead: u16,
+    /// The events that come first, in order.
+    pub events: &'a [Event],
+    /// How many levels of fragments there may be.
+    pub levels: u8,
+    ghost ahead_few: { ahead ≤ MAX_AHEAD },
+    ghost levels_few: { AreLevels levels },
+}
+
 // The events, in order.
 fn run_all(hand: &mut Hand, table: &Table, events: &[Event]) -> Result<(), NoMemory>
     requires { IsHeld table.now hand.old }
@@ -73,12 +88,12 @@ fn outcome_after(hand: &mut Hand, table: &Table, events: &[Event]) -> Result<Arc
     hand.finish(table)
 }
 
-/// Runs a page over a table by these events, in order, and then lets it go on to where it waits or
+/// Runs a page over a table by its events, in order, and then lets it go on to where it waits or
 /// is done, and returns that state. A claim without an unclaimed slot does nothing, nor does a post
 /// without a ticket in hand at its place.
 ///
-/// `ahead` is how many slots posts may open ahead, at most `MAX_AHEAD`. `NoMemory` at the first
-/// event that runs out of it; `Broken` never. Tickets that are still in hand at the end are given up.
+/// `NoMemory` at the first event that runs out of it; `Broken` never. Tickets that are still in hand at
+/// the end are given up.
 ///
 /// Source: ESI Language Specification 1.0, "ESI Language"; events and limits are our profile.
 pub fn run_events(
@@ -86,31 +101,26 @@ pub fn run_events(
     url: PageUrl,
     request: Request,
     table: &Table,
-    ahead: u16,
-    levels: u8,
-    events: &[Event],
+    running: Running<'_>,
 ) -> Result<(Page, State), PageError>
-    requires ahead { ahead ≤ MAX_AHEAD }
-    requires levels { AreLevels levels }
     // Each event happens, in order and none left out, and then an advance.
-    ensures ran { IfOk result (λ (page, told). Ran table.now events.now (empty_handed (accepted url request ahead levels)) told page) }
+    ensures ran { IfOk result (λ (page, told). Ran table.now running.entry.events.now (empty_handed (accepted url request running.entry.ahead running.entry.levels)) told page) }
     ensures agrees { IfOk result (λ (page, told). Agrees (log_of page.board) table.now) }
-    ensures told { IfOk result (λ (page, told). told_state told ≡ state request (log_of page.board) levels url) }
-    ensures over_the_table { IfOk result (λ (page, told). IsTrueOver (log_of page.board) table.now request levels url (told_state told)) }
+    ensures told { IfOk result (λ (page, told). told_state told ≡ state request (log_of page.board) running.entry.levels url) }
+    ensures over_the_table { IfOk result (λ (page, told). IsTrueOver (log_of page.board) table.now request running.entry.levels url (told_state told)) }
     ensures err { IfErr result (λ e. e ≡ PageError.NoMemory) }
 {
-    let mut hand = Hand::accept(alloc, url, request, ahead, levels)?;
-    let told = told_after(&mut hand, table, events);
+    let mut hand = Hand::accept(alloc, url, request, running.ahead, running.levels)?;
+    let told = told_after(&mut hand, table, running.events);
     Ok(hand.into_page_with(told)?)
 }
 
-/// Runs a page over a table by these events, in order, and then to its end: it goes on to where it
+/// Runs a page over a table by its events, in order, and then to its end: it goes on to where it
 /// waits, what is unclaimed is claimed, and the table's answer is posted for the oldest ticket in
 /// hand, until the page is done. Whatever the events are, its outcome is that over the table. The page is
 /// returned too, since it knows more than its outcome, as which leg failed it.
 ///
-/// `ahead` is how many slots posts may open ahead, at most `MAX_AHEAD`. `NoMemory` if an allocation
-/// fails.
+/// `NoMemory` if an allocation fails.
 ///
 /// Source: ESI Language Specification 1.0, "ESI Language"; events and limits are our profile.
 pub fn run_to_end(
@@ -118,16 +128,12 @@ pub fn run_to_end(
     url: PageUrl,
     request: Request,
     table: &Table,
-    ahead: u16,
-    levels: u8,
-    events: &[Event],
+    running: Running<'_>,
 ) -> Result<(Page, Arc<Outcome>), NoMemory>
-    requires ahead { ahead ≤ MAX_AHEAD }
-    requires levels { AreLevels levels }
-    ensures outcome { IfOk result (λ (page, done). shown (arc_value done) ≡ outcome request table.now levels url) }
-    ensures page { IfOk result (λ (page, done). IsAtEnd table.now (accepted url request ahead levels) page (shown (arc_value done))) }
+    ensures outcome { IfOk result (λ (page, done). shown (arc_value done) ≡ outcome request table.now running.entry.levels url) }
+    ensures page { IfOk result (λ (page, done). IsAtEnd table.now (accepted url request running.entry.ahead running.entry.levels) page (shown (arc_value done))) }
 {
-    let mut hand = Hand::accept(alloc, url, request, ahead, levels)?;
-    let outcome = outcome_after(&mut hand, table, events);
+    let mut hand = Hand::accept(alloc, url, request, running.ahead, running.levels)?;
+    let outcome = outcome_after(&mut hand, table, running.events);
     hand.into_page_with(outcome)
 }

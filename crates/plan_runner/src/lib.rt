@@ -18,5 +18,5 @@ mod outcome;
 mod page;
 mod step;
 
-pub use events::{Event, run_events, run_to_end};
+pub use events::{Event, Running, run_events, run_to_end};
 pub use page::{MAX_AHEAD, Page, PageError, PostFault, State};

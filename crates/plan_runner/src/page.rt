@@ -26,7 +26,7 @@ ghost use Rattle.plan_runner.specs.Sound.{IsSound};
 ghost use Rattle.plan_runner.specs.Words.{refusal_words};
 
 use crate::advance::Progress;
-use crate::ahead::open_ahead;
+use crate::ahead::{FilledSlot, open_ahead};
 use crate::answers::{answer_in, filled_answer};
 use crate::course::{Came, begin_and_go_on, go_on};
 use crate::leg::Setting;
@@ -357,15 +357,13 @@ impl Page {
         if let Stage::Done(_) = self.stage {
             return Ok(());
         }
-        match open_ahead(
-            self.alloc,
-            &self.request,
-            self.levels,
-            &mut self.board,
+        let filled = FilledSlot {
+            request: &self.request,
+            levels: self.levels,
             number,
-            self.room,
-            &mut self.progress.machine.lookups,
-        ) {
+        };
+        let lookups = &mut self.progress.machine.lookups;
+        match open_ahead(self.alloc, &filled, &mut self.board, self.room, lookups) {
             Ok(room) => {
                 self.room = room;
                 Ok(())

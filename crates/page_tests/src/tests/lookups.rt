@@ -4,7 +4,7 @@ use super::{answer, url_of};
 use edge_types::{NoMemory, Octets, Outcome, Request, SharedBytes, Table};
 use esi_vars::lookups::{LONG_FIELD, MAX_LOOKUPS};
 use esi_vars::{Lookups, Reference, Variable, value_by};
-use plan_runner::run_to_end;
+use plan_runner::{Running, run_to_end};
 use std::alloc::Global;
 use std::fmt::Write;
 use std::process::Abort;
@@ -66,7 +66,12 @@ fn outcome_over(
 ) -> Result<Arc<Outcome>, NoMemory> {
     let request = request(alloc, cookies)?;
     let url = url_of(rt, alloc, "http://a.test/p")?;
-    match run_to_end(alloc, url, request, table, 16, 4, &[]) {
+    let running = Running {
+        ahead: 16,
+        events: &[],
+        levels: 4,
+    };
+    match run_to_end(alloc, url, request, table, running) {
         Ok((_, outcome)) => Ok(outcome),
         Err(NoMemory) => Err(NoMemory),
     }

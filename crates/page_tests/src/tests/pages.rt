@@ -10,7 +10,7 @@ use super::{answer, url_of};
 use edge_case::read_events;
 use edge_types::{Answer, NoMemory, Outcome, PageFault, Request, Table};
 use esi_meaning::are_levels;
-use plan_runner::{Event, MAX_AHEAD, Page, State, run_events};
+use plan_runner::{Event, MAX_AHEAD, Page, Running, State, run_events};
 use std::alloc::Global;
 use std::fmt::Write;
 use std::process::Abort;
@@ -115,7 +115,12 @@ fn told(
 ) -> Result<String, NoMemory> {
     assert!(rt; ahead <= MAX_AHEAD && are_levels(levels));
     let url = url_of(rt, alloc, "http://a.test/p")?;
-    match run_events(alloc, url, Request::empty(), table, ahead, levels, events) {
+    let running = Running {
+        ahead,
+        events,
+        levels,
+    };
+    match run_events(alloc, url, Request::empty(), table, running) {
         Ok((page, state)) => {
             assert!(rt; page.ahead() == ahead && page.levels() == levels);
             line_of(alloc, &page, &state)

@@ -6,11 +6,11 @@ returns-clause-told c =
     let a = c.args in
     let found = c.in_ok-into_page_with in
     let told = c.told_after-told in
-    told_after a.table.now a.events.now a.url a.request a.ahead a.levels c.in_ok-hand.hand told.result found.field-0.1 told.new.hand.page found.field-0.0 c.in_ok-hand.ensures found.ensures.told told.ensures.ran found.ensures.page
+    told_after a.table.now a.running.events.now a.url a.request a.running.ahead a.running.levels c.in_ok-hand.hand told.result found.field-0.1 told.new.hand.page found.field-0.0 c.in_ok-hand.ensures found.ensures.told told.ensures.ran found.ensures.page
 
 pub returns-clause-over_the_table : goal.returns-clause-over_the_table
 returns-clause-over_the_table c =
     let a = c.args in
     let found = c.in_ok-into_page_with in
     let told = c.told_after-told in
-    over_after a.table.now a.events.now a.url a.request a.ahead a.levels c.in_ok-hand.hand told.result found.field-0.1 told.new.hand.page found.field-0.0 c.in_ok-hand.ensures found.ensures.told told.ensures.ran found.ensures.page told.ensures.over_the_table
+    over_after a.table.now a.running.events.now a.url a.request a.running.ahead a.running.levels c.in_ok-hand.hand told.result found.field-0.1 told.new.hand.page found.field-0.0 c.in_ok-hand.ensures found.ensures.told told.ensures.ran found.ensures.page told.ensures.over_the_table
