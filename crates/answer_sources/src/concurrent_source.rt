@@ -11,6 +11,9 @@ use std::alloc::Global;
 use std::os::fd::RawFd;
 use std::time::{Duration, Instant};
 
+/// The answer of a fetch that has ended, if one has; `NoMemory` if an allocation failed.
+pub type Arrival = Result<Option<Given>, NoMemory>;
+
 /// What fetches in flight wait for.
 #[derive(Clone, Copy)]
 pub struct Awaited {
@@ -46,12 +49,7 @@ pub trait ConcurrentSource<R>: Source<R> {
     /// `awaited` was asked since then. A source that fetches one by one makes its next fetch for it; any other doesn't
     /// wait. What can't be fetched is a failed answer; `NoMemory` if an allocation fails, after which one fetch less may
     /// be in flight.
-    fn next(
-        &self,
-        rt: &R,
-        alloc: Global,
-        in_flight: &mut Self::InFlight,
-    ) -> Result<Option<Given>, NoMemory>
+    fn next(&self, rt: &R, alloc: Global, in_flight: &mut Self::InFlight) -> Arrival
         ensures { IfOk result (λ found. IfSome found (λ given.
             Self.gives self.now (arc_value given.answer).url (arc_value given.answer))) };
 

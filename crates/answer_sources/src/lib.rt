@@ -14,7 +14,7 @@ mod table_source;
 
 pub use bell::Bell;
 pub use clock::Clock;
-pub use concurrent_source::{Awaited, ConcurrentSource};
+pub use concurrent_source::{Arrival, Awaited, ConcurrentSource};
 pub use gate::{Gate, OpenGate};
 pub use given::{Given, Way, WayCounts};
 pub use on_behalf::OnBehalf;

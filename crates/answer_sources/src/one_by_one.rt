@@ -2,7 +2,7 @@
 
 ghost use Rattle.std.specs.Prelude.{◌≡◌};
 
-use crate::concurrent_source::ConcurrentSource;
+use crate::concurrent_source::{Arrival, ConcurrentSource};
 use crate::given::Given;
 use crate::source::{Found, Source};
 use edge_types::{Answer, NoMemory, PageUrl};
@@ -59,12 +59,7 @@ impl<'a, R, S: Source<R>> ConcurrentSource<R> for OneByOne<'a, S> {
         Ok(())
     }
 
-    fn next(
-        &self,
-        rt: &R,
-        alloc: Global,
-        in_flight: &mut VecDeque<PageUrl>,
-    ) -> Result<Option<Given>, NoMemory> {
+    fn next(&self, rt: &R, alloc: Global, in_flight: &mut VecDeque<PageUrl>) -> Arrival {
         match in_flight.pop_front() {
             Some(url) => Ok(Some(self.fetch(rt, alloc, &url)?)),
             None => Ok(None),

@@ -2,7 +2,7 @@
 
 ghost use Rattle.std.specs.Prelude.{◌≡◌};
 
-use crate::concurrent_source::ConcurrentSource;
+use crate::concurrent_source::{Arrival, ConcurrentSource};
 use crate::given::Given;
 use crate::on_behalf::OnBehalf;
 use crate::one_by_one::OneByOne;
@@ -71,12 +71,7 @@ impl<R> ConcurrentSource<R> for TableSource {
         OneByOne { source: self }.begin(rt, alloc, in_flight, url)
     }
 
-    fn next(
-        &self,
-        rt: &R,
-        alloc: Global,
-        in_flight: &mut VecDeque<PageUrl>,
-    ) -> Result<Option<Given>, NoMemory> {
+    fn next(&self, rt: &R, alloc: Global, in_flight: &mut VecDeque<PageUrl>) -> Arrival {
         OneByOne { source: self }.next(rt, alloc, in_flight)
     }
 

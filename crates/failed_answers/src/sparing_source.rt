@@ -3,7 +3,9 @@
 ghost use Rattle.std.specs.Prelude.{◌≡◌, IfOk};
 
 use crate::shared_failures::SharedFailures;
-use answer_sources::{Awaited, Bell, Clock, ConcurrentSource, Found, Given, OnBehalf, Source};
+use answer_sources::{
+    Arrival, Awaited, Bell, Clock, ConcurrentSource, Found, Given, OnBehalf, Source,
+};
 use edge_types::{Answer, NoMemory, PageUrl};
 use std::alloc::Global;
 use std::sync::{Arc, Wait};
@@ -116,12 +118,7 @@ impl<R: Wait, S: ConcurrentSource<R>, C: Clock<R>> ConcurrentSource<R> for Spari
         }
     }
 
-    fn next(
-        &self,
-        rt: &R,
-        alloc: Global,
-        in_flight: &mut SparedFetches<S::InFlight>,
-    ) -> Result<Option<Given>, NoMemory> {
+    fn next(&self, rt: &R, alloc: Global, in_flight: &mut SparedFetches<S::InFlight>) -> Arrival {
         if let Some(answer) = in_flight.here.pop() {
             return Ok(Some(Given::fetched(answer)));
         }

@@ -86,7 +86,7 @@ where
     let how = Assembling::new(AHEAD, 1, LEVELS).with_fetches(2);
     let (url, request) = (url(alloc, "/p")?, request(alloc)?);
     calls(rt, name)?;
-    let made = how.assemble(rt, alloc, &source, &OpenGate, url, request);
+    let made = how.assemble(rt, alloc, &source, url, request);
     answers(rt)?;
     print_assembled(rt, &made)?;
     print_again(rt, &source, "/x")

@@ -19,6 +19,7 @@ use Rattle.fetch_workers.specs.contracts.page_in_progress.UnderWay as under_way
 use Rattle.fetch_workers.specs.contracts.page_in_progress.Work as work
 use Rattle.fetch_workers.specs.contracts.page_in_progress.PageInProgress as page_in_progress
 use Rattle.fetch_workers.proofs.concurrent_worker.Flights.TheSendSync as Flights
+use Rattle.fetch_workers.proofs.wanted_page.WantedPage.TheSendSync as WantedPage
 use Rattle.fetch_workers.proofs.page_in_progress.Posted.TheSendSync as Posted
 
 board_send : IsSend board.the_row
@@ -49,6 +50,8 @@ ruleset under_way_crosses = (
   Flights.the_send,
   Flights.the_field_send,
   SetAside.the_send,
+  WantedPage.the_send,
+  WantedPage.the_field_send,
   PageUrl.the_send,
   Request.the_field_send,
   Crossing.crosses,
@@ -68,13 +71,7 @@ under_way_send R F r f = declared_send (under_way.the_type R F) (
           search (under_way_crosses) depth 60 fits 20000,
           (
             search (under_way_crosses) depth 60 fits 20000,
-            (
-              search (under_way_crosses) depth 60 fits 20000,
-              (
-                search (under_way_crosses) depth 60 fits 20000,
-                tt,
-              ),
-            ),
+            tt,
           ),
         ),
       ),

@@ -4,3 +4,4 @@ pub mod Faults
 pub mod Rests
 pub mod Laws
 pub mod Progress
+pub mod Made

@@ -11,14 +11,15 @@ ghost use Rattle.plan_runner.specs.Page.{Finished, accepted};
 ghost use Rattle.fetch_workers.specs.declared.log.Own.{Own};
 ghost use Rattle.fetch_workers.specs.Faults.{fault_of_page};
 ghost use Rattle.fetch_workers.specs.Given.{AllOwn};
-ghost use Rattle.fetch_workers.specs.Rests.{AreFetches, AreWorkers, IsAssembled, IsFailedLeg, RestsOn};
-ghost use Rattle.fetch_workers.specs.Ways.{AreWaysOf, counts_of};
+ghost use Rattle.fetch_workers.specs.Made.{IsAssembledBy, failed_leg_in, log_in, outcome_in};
+ghost use Rattle.fetch_workers.specs.Rests.{AreFetches, AreWorkers, IsFailedLeg, RestsOn};
+ghost use Rattle.fetch_workers.specs.Ways.{counts_of};
 
-use crate::crew::run_workers;
 use crate::fault::AssembleFault;
 use crate::log::{Own, answers_of, is_log_of};
 use crate::page_in_progress::PageInProgress;
 use crate::shared_desk::SharedDesk;
+use crate::wanted_page::WantedPage;
 use crate::worker::Worker;
 use answer_sources::{ConcurrentSource, Gate, OneByOne, OpenGate, Source, WayCounts};
 use edge_types::{Answer, NoMemory, Outcome, PageUrl, Request};
@@ -95,10 +96,7 @@ where
     requires ahead { ahead ≤ MAX_AHEAD }
     requires workers { AreWorkers workers }
     requires levels { AreLevels levels }
-    ensures page { IfOk result (λ page.
-        IsAssembled (S.gives source.now) request levels url (map arc_value page.log.items) (shown (arc_value page.outcome))) }
-    ensures ways { IfOk result (λ page. AreWaysOf (map arc_value page.log.items) page.ways) }
-    ensures failed_leg { IfOk result (λ page. IsFailedLeg request levels url (map arc_value page.log.items) (shown (arc_value page.outcome)) (option_map arc_value page.failed_leg)) }
+    ensures page { IfOk result (λ made. IsAssembledBy (S.gives source.now) request levels url made) }
 {
     assemble_gated(
         rt, alloc, source, &OpenGate, url, request, ahead, workers, levels,
@@ -126,13 +124,11 @@ where
     requires ahead { ahead ≤ MAX_AHEAD }
     requires workers { AreWorkers workers }
     requires levels { AreLevels levels }
-    ensures page { IfOk result (λ page.
-        IsAssembled (S.gives source.now) request levels url (map arc_value page.log.items) (shown (arc_value page.outcome))) }
-    ensures ways { IfOk result (λ page. AreWaysOf (map arc_value page.log.items) page.ways) }
-    ensures failed_leg { IfOk result (λ page. IsFailedLeg request levels url (map arc_value page.log.items) (shown (arc_value page.outcome)) (option_map arc_value page.failed_leg)) }
+    ensures page { IfOk result (λ made. IsAssembledBy (S.gives source.now) request levels url made) }
 {
     let how = Assembling::new(ahead, workers, levels);
-    how.assemble(rt, alloc, &OneByOne { source }, gate, url, request)
+    let wanted = how.wanted(url, request);
+    how.assemble_gated(rt, alloc, &OneByOne { source }, gate, &wanted)
 }
 
 impl Assembling {
@@ -192,43 +188,49 @@ impl Assembling {
         }
     }
 
-    /// Assembles a page by these numbers, with a gate that is passed before each fetch.
+    /// Assembles a page by these numbers.
     ///
-    /// If one fetch may be in flight, threads work for the page, as in `assemble_gated`. If more may be, the calling
+    /// If one fetch may be in flight, threads work for the page, as in `assemble`. If more may be, the calling
     /// thread works for it alone, and has as many in flight as may be and are asked for; what is in flight when the
     /// page is done is given up.
     ///
     /// Our profile.
-    pub fn assemble<R, S, G>(
+    pub fn assemble<R, S>(
         self,
         rt: &R,
         alloc: Global,
         source: &S,
-        gate: &G,
         url: PageUrl,
         request: Request,
     ) -> Result<Assembled, AssembleFault>
     where
         R: Wait + Threads + Sync,
         S: ConcurrentSource<R> + Sync,
-        G: Gate<R> + Sync,
-        ensures page { IfOk result (λ page.
-            IsAssembled (S.gives source.now) request self.levels url (map arc_value page.log.items) (shown (arc_value page.outcome))) }
-        ensures ways { IfOk result (λ page. AreWaysOf (map arc_value page.log.items) page.ways) }
-        ensures failed_leg { IfOk result (λ page. IsFailedLeg request self.levels url (map arc_value page.log.items) (shown (arc_value page.outcome)) (option_map arc_value page.failed_leg)) }
+        ensures page { IfOk result (λ made. IsAssembledBy (S.gives source.now) request self.levels url made) }
     {
-        let page = self.accept(alloc, &url, &request)?;
+        let wanted = self.wanted(url, request);
+        self.assemble_gated(rt, alloc, source, &OpenGate, &wanted)
+    }
+
+    // The same with a gate that is passed before each fetch.
+    fn assemble_gated<R, S, G>(
+        self,
+        rt: &R,
+        alloc: Global,
+        source: &S,
+        gate: &G,
+        wanted: &WantedPage,
+    ) -> Result<Assembled, AssembleFault>
+    where
+        R: Wait + Threads + Sync,
+        S: ConcurrentSource<R> + Sync,
+        G: Gate<R> + Sync,
+        ensures page { IfOk result (λ made. IsAssembledBy (S.gives source.now) wanted.now.request wanted.now.levels wanted.now.url made) }
+    {
+        let page = self.accept(alloc, wanted)?;
         let shared = SharedDesk::new(alloc, page, self.threads());
         let own = self.worked(rt, alloc, source, gate, &shared)?;
-        put_together::<R, S>(
-            alloc,
-            source,
-            shared.into_page(),
-            own,
-            &url,
-            &request,
-            self.levels,
-        )
+        put_together::<R, S>(alloc, source, shared.into_page(), own, wanted)
     }
 
     /// Begins a page by these numbers, which is then gone on with by one thread at a time, and has as many fetches in flight
@@ -247,21 +249,26 @@ impl Assembling {
         R: Wait + Drop,
         S: ConcurrentSource<R> + Drop,
         ensures source { IfOk result (λ page. page.work.posted.source ≡ source) }
-        ensures url { IfOk result (λ page. (box_value page.work.under_way).url ≡ url) }
-        ensures request { IfOk result (λ page. (box_value page.work.under_way).request ≡ request) }
-        ensures levels { IfOk result (λ page. (box_value page.work.under_way).levels ≡ self.levels) }
+        ensures url { IfOk result (λ page. (box_value page.work.under_way).wanted.url ≡ url) }
+        ensures request { IfOk result (λ page. (box_value page.work.under_way).wanted.request ≡ request) }
+        ensures levels { IfOk result (λ page. (box_value page.work.under_way).wanted.levels ≡ self.levels) }
     {
-        let page = self.accept(alloc, &url, &request)?;
-        PageInProgress::new(
-            rt,
-            alloc,
-            source,
-            page,
-            self.fetches,
+        let wanted = self.wanted(url, request);
+        let page = self.accept(alloc, &wanted)?;
+        PageInProgress::new(rt, alloc, source, page, self.fetches, wanted)
+    }
+
+    // The page at this URL, for this request and with these levels.
+    fn wanted(self, url: PageUrl, request: Request) -> WantedPage
+        ensures url { result.url ≡ url }
+        ensures request { result.request ≡ request }
+        ensures levels { result.levels ≡ self.levels }
+    {
+        WantedPage {
             url,
             request,
-            self.levels,
-        )
+            levels: self.levels,
+        }
     }
 
     // How many threads may work for a page: its own alone where that has several fetches in flight.
@@ -286,28 +293,28 @@ impl Assembling {
         G: Gate<R> + Sync,
         ensures { IfOk result (λ own. AllOwn (S.gives source.now) own.items) }
     {
+        let worker = Worker {
+            rt,
+            alloc,
+            source,
+            gate,
+            shared,
+        };
         if self.fetches == 1 {
-            run_workers(rt, alloc, source, gate, shared, self.workers)
+            worker.work_with_others(self.workers)
         } else {
-            let worker = Worker {
-                rt,
-                alloc,
-                source,
-                gate,
-                shared,
-            };
             worker.work_concurrently(self.fetches)
         }
     }
 
     // The page, before anybody works for it.
-    fn accept(self, alloc: Global, url: &PageUrl, request: &Request) -> Result<Page, NoMemory>
-        ensures { IfOk result (λ page. page ≡ accepted url.now request.now self.ahead self.levels) }
+    fn accept(self, alloc: Global, wanted: &WantedPage) -> Result<Page, NoMemory>
+        ensures { IfOk result (λ page. page ≡ accepted wanted.now.url wanted.now.request self.ahead self.levels) }
     {
         let page = Page::accept(
             alloc,
-            url.share()?,
-            request.copy(alloc)?,
+            wanted.url.share()?,
+            wanted.request.copy(alloc)?,
             self.ahead,
             self.levels,
         )?;
@@ -321,18 +328,13 @@ pub(crate) fn put_together<R, S: Source<R>>(
     _source: &S,
     mut page: Page,
     mut own: Vec<Own>,
-    url: &PageUrl,
-    request: &Request,
-    levels: u8,
+    wanted: &WantedPage,
 ) -> Result<Assembled, AssembleFault>
     requires { AllOwn (S.gives _source.now) own.items }
-    ensures page { IfOk result (λ page.
-        IsAssembled (S.gives _source.now) request.now levels url.now (map arc_value page.log.items) (shown (arc_value page.outcome))) }
-    ensures ways { IfOk result (λ page. AreWaysOf (map arc_value page.log.items) page.ways) }
-    ensures failed_leg { IfOk result (λ page. IsFailedLeg request.now levels url.now (map arc_value page.log.items) (shown (arc_value page.outcome)) (option_map arc_value page.failed_leg)) }
+    ensures page { IfOk result (λ made. IsAssembledBy (S.gives _source.now) wanted.now.request wanted.now.levels wanted.now.url made) }
 {
     own.sort_unstable_by_key(|o| o.place);
-    compared(alloc, &mut page, own, url, request, levels)
+    compared(alloc, &mut page, own, wanted)
 }
 
 // The page that was worked for, if it is done, it is the one that was asked for, and its log consists of
@@ -341,18 +343,16 @@ fn compared(
     alloc: Global,
     page: &mut Page,
     own: Vec<Own>,
-    url: &PageUrl,
-    request: &Request,
-    levels: u8,
+    wanted: &WantedPage,
 ) -> Result<Assembled, AssembleFault>
-    ensures own { IfOk result (λ page. map arc_value page.log.items ≡ map (λ (o : Own). o.answer) own.items) }
-    ensures legal { IfOk result (λ page. IsLegal request.now url.now (map arc_value page.log.items)) }
-    ensures outcome { IfOk result (λ page. RestsOn request.now levels url.now (map arc_value page.log.items) (shown (arc_value page.outcome))) }
-    ensures ways { IfOk result (λ page. page.ways ≡ counts_of (map (λ (o : Own). o.way) own.items)) }
-    ensures failed_leg { IfOk result (λ page. IsFailedLeg request.now levels url.now (map arc_value page.log.items) (shown (arc_value page.outcome)) (option_map arc_value page.failed_leg)) }
+    ensures own { IfOk result (λ made. log_in made ≡ map (λ (o : Own). o.answer) own.items) }
+    ensures legal { IfOk result (λ made. IsLegal wanted.now.request wanted.now.url (log_in made)) }
+    ensures outcome { IfOk result (λ made. RestsOn wanted.now.request wanted.now.levels wanted.now.url (log_in made) (outcome_in made)) }
+    ensures ways { IfOk result (λ made. made.ways ≡ counts_of (map (λ (o : Own). o.way) own.items)) }
+    ensures failed_leg { IfOk result (λ made. IsFailedLeg wanted.now.request wanted.now.levels wanted.now.url (log_in made) (outcome_in made) (failed_leg_in made)) }
 {
     let outcome = told(page)?;
-    if !is_asked_for(page, url, request, levels) || !is_log_of(page, own.as_slice()) {
+    if !wanted.is(page) || !is_log_of(page, own.as_slice()) {
         return Err(AssembleFault::Torn);
     }
     legal(page);
@@ -395,11 +395,4 @@ fn legal(page: &Page)
     ensures { IsLegal page.now.request page.now.url (log_of page.now.board) }
 {
     let _ = page.logged(0);
-}
-
-// Whether it is the page at this URL, for this request and with these levels.
-fn is_asked_for(page: &Page, url: &PageUrl, request: &Request, levels: u8) -> bool
-    ensures { IsTrue result → (page.now.url ≡ url.now) × (page.now.request ≡ request.now) × (page.now.levels ≡ levels) }
-{
-    page.url() == url && page.request() == request && page.levels() == levels
 }

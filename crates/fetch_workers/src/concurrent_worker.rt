@@ -4,7 +4,7 @@
 ghost use Rattle.std.specs.Prelude.{◌≡◌, IfOk, IfSome, IsTrue, OnOk};
 ghost use Rattle.fetch_workers.specs.Given.{AllOwn};
 
-use crate::desk::{SetAside, Turn};
+use crate::desk::{NextTask, SetAside};
 use crate::fault::AssembleFault;
 use crate::log::Own;
 use crate::shared_desk::Shared;
@@ -152,12 +152,12 @@ impl<'a, R: Wait, S: ConcurrentSource<R>, G: Gate<R>, D: Shared<R>> Worker<'a, R
         ensures { OnOk result (AllOwn (S.gives self.now.source.now) mine.new.items) }
     {
         for _ in self.rt.forever() {
-            match self.shared.turn(self.rt) {
-                Turn::End => return Ok(Reached::End),
-                Turn::NoMemory => return Err(AssembleFault::NoMemory),
-                Turn::Sleep => return Ok(Reached::Sleep),
-                Turn::Prepare(ticket) => self.prepare(ticket, mine)?,
-                Turn::StartAndFetch(ticket) | Turn::Fetch(ticket) => {
+            match self.shared.next_task(self.rt) {
+                NextTask::End => return Ok(Reached::End),
+                NextTask::NoMemory => return Err(AssembleFault::NoMemory),
+                NextTask::Sleep => return Ok(Reached::Sleep),
+                NextTask::Prepare(ticket) => self.prepare(ticket, mine)?,
+                NextTask::StartAndFetch(ticket) | NextTask::Fetch(ticket) => {
                     return Ok(Reached::Fetch(ticket));
                 }
             }

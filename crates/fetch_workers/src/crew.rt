@@ -10,7 +10,6 @@ use crate::log::Own;
 use crate::shared_desk::Shared;
 use crate::worker::Worker;
 use answer_sources::{Gate, Source};
-use std::alloc::Global;
 use std::marker::PhantomData;
 use std::sync::Wait;
 use std::thread;
@@ -35,65 +34,85 @@ impl<'a, R, S: Source<R>> Promise<Result<Vec<Own>, AssembleFault>> for GivenBy<'
     ghost kept_by = { λ promise result. IfOk result (λ own. AllOwn (S.gives promise.source.now) own.items) };
 }
 
-// Works in this thread, and starts at most `others` workers one after another, each of which does
-// the same. Returns what they all posted.
-#[cycle(helpers)]
-fn work_in<'s, E, R, S, G, D>(
-    scope: &'s Scope<'s, E>,
-    rt: &'s R,
-    alloc: Global,
-    source: &'s S,
-    gate: &'s G,
-    shared: &'s D,
-    others: u8,
-) -> Result<Vec<Own>, AssembleFault>
+impl<'s, R, S, G, D> Worker<'s, R, S, G, D>
 where
     R: Wait + Threads + Sync,
     S: Source<R> + Sync,
     G: Gate<R> + Sync,
     D: Shared<R> + Sync,
-    requires { IsSync R.row × IsSync S.row × IsSync G.row × IsSync D.row }
-    ensures { IfOk result (λ own. AllOwn (S.gives source.now) own.items) }
 {
-    let worker = Worker {
-        rt,
-        alloc,
-        source,
-        gate,
-        shared,
-    };
-    let mut mine = Vec::new(alloc);
-    let worked = worker.work(others, &mut mine);
-    if worked.is_err() {
-        shared.end(rt);
+    // Works in this thread, and starts at most `others` workers one after another, each of which does
+    // the same. Returns what they all posted.
+    #[cycle(helpers)]
+    fn work_in<E>(self, scope: &'s Scope<'s, E>, others: u8) -> Result<Vec<Own>, AssembleFault>
+        requires { IsSync R.row × IsSync S.row × IsSync G.row × IsSync D.row }
+        ensures { IfOk result (λ own. AllOwn (S.gives self.entry.source.now) own.items) }
+    {
+        let mut mine = Vec::new(self.alloc);
+        let worked = self.work(others, &mut mine);
+        if worked.is_err() {
+            self.shared.end(self.rt);
+        }
+        let Some(ticket) = worked? else {
+            return Ok(mine);
+        };
+        let promise = GivenBy {
+            source: self.source,
+            runtime: PhantomData,
+        };
+        let helper = move || -> Result<Vec<Own>, AssembleFault>
+            requires { IsSync R.row × IsSync S.row × IsSync G.row × IsSync D.row × (0 < others) }
+            ensures { IfOk result (λ own. AllOwn (S.gives self.entry.source.now) own.items) }
+        { self.work_in(scope, others - 1) };
+        let Ok(child) = scope.spawn_with(promise, helper) else {
+            ticket.give_up();
+            self.shared.end(self.rt);
+            return Err(AssembleFault::NoThread);
+        };
+        let rest = match self.fetch_one(ticket, &mut mine) {
+            Ok(()) => {
+                let more = self.work_in(scope, others - 1);
+                both::<R, S>(self.source, Ok(mine), more)
+            }
+            Err(fault) => {
+                self.shared.end(self.rt);
+                Err(fault)
+            }
+        };
+        both::<R, S>(self.source, rest, child.join(self.rt))
     }
-    let Some(ticket) = worked? else {
-        return Ok(mine);
-    };
-    let promise = GivenBy {
-        source,
-        runtime: PhantomData,
-    };
-    let helper = move || -> Result<Vec<Own>, AssembleFault>
-        requires { IsSync R.row × IsSync S.row × IsSync G.row × IsSync D.row × (0 < others) }
-        ensures { IfOk result (λ own. AllOwn (S.gives source.entry.now) own.items) }
-    { work_in(scope, rt, alloc, source, gate, shared, others - 1) };
-    let Ok(child) = scope.spawn_with(promise, helper) else {
-        ticket.give_up();
-        shared.end(rt);
-        return Err(AssembleFault::NoThread);
-    };
-    let rest = match worker.fetch_one(ticket, &mut mine) {
-        Ok(()) => {
-            let more = work_in(scope, rt, alloc, source, gate, shared, others - 1);
-            both::<R, S>(source, Ok(mine), more)
-        }
-        Err(fault) => {
-            shared.end(rt);
-            Err(fault)
-        }
-    };
-    both::<R, S>(source, rest, child.join(rt))
+
+    /// What this worker and those that it starts posted, at most so many with it; each of them has been joined.
+    pub(crate) fn work_with_others(self, workers: u8) -> Result<Vec<Own>, AssembleFault>
+        requires { 0 < workers }
+        ensures { IfOk result (λ own. AllOwn (S.gives self.entry.source.now) own.items) }
+    {
+        // In parts: of a worker that a closure captures, its clause would tell nothing.
+        let Worker {
+            rt,
+            alloc,
+            source,
+            gate,
+            shared,
+        } = self;
+        thread::scope(
+            thread::scope_env(),
+            rt,
+            |scope| -> Result<Vec<Own>, AssembleFault>
+                requires { IsSync R.row × IsSync S.row × IsSync G.row × IsSync D.row × (0 < workers) }
+                ensures { IfOk result (λ own. AllOwn (S.gives source.entry.now) own.items) }
+            {
+                let worker = Worker {
+                    rt,
+                    alloc,
+                    source,
+                    gate,
+                    shared,
+                };
+                worker.work_in(scope, workers - 1)
+            },
+        )
+    }
 }
 
 // What both posted, or the first of their faults; out of memory if there is no room for what both posted.
@@ -117,31 +136,4 @@ fn both<R, S: Source<R>>(
         Ok(()) => Ok(all),
         Err(_) => Err(AssembleFault::NoMemory),
     }
-}
-
-// What all workers posted; each of them has been joined.
-pub(crate) fn run_workers<R, S, G, D>(
-    rt: &R,
-    alloc: Global,
-    source: &S,
-    gate: &G,
-    shared: &D,
-    workers: u8,
-) -> Result<Vec<Own>, AssembleFault>
-where
-    R: Wait + Threads + Sync,
-    S: Source<R> + Sync,
-    G: Gate<R> + Sync,
-    D: Shared<R> + Sync,
-    requires { 0 < workers }
-    ensures { IfOk result (λ own. AllOwn (S.gives source.now) own.items) }
-{
-    thread::scope(
-        thread::scope_env(),
-        rt,
-        |scope| -> Result<Vec<Own>, AssembleFault>
-            requires { IsSync R.row × IsSync S.row × IsSync G.row × IsSync D.row × (0 < workers) }
-            ensures { IfOk result (λ own. AllOwn (S.gives source.entry.now) own.items) }
-        { work_in(scope, rt, alloc, source, gate, shared, workers - 1) },
-    )
 }

@@ -49,7 +49,7 @@ pub(crate) struct Desk {
 }
 
 /// What a worker does next.
-pub(crate) enum Turn {
+pub(crate) enum NextTask {
     /// To look whether the answer is ready.
     Prepare(Ticket),
     Fetch(Ticket),
@@ -86,20 +86,20 @@ impl Desk {
     }
 
     /// What a worker does next. A ticket that was set aside is handed out once no slot is unclaimed.
-    pub(crate) fn turn(&mut self) -> Turn {
+    pub(crate) fn next_task(&mut self) -> NextTask {
         if self.ended {
-            return Turn::End;
+            return NextTask::End;
         }
         match self.advance() {
             Ok(false) => {}
-            Ok(true) => return Turn::End,
-            Err(NoMemory) => return Turn::NoMemory,
+            Ok(true) => return NextTask::End,
+            Err(NoMemory) => return NextTask::NoMemory,
         }
         if let Some(ticket) = self.page.claim() {
-            return Turn::Prepare(ticket);
+            return NextTask::Prepare(ticket);
         }
         match self.aside.pop_front() {
-            None => Turn::Sleep,
+            None => NextTask::Sleep,
             Some(aside) => self.hand_out(aside.into_ticket()),
         }
     }
@@ -120,11 +120,11 @@ impl Desk {
         advanced
     }
 
-    fn hand_out(&mut self, ticket: Ticket) -> Turn {
+    fn hand_out(&mut self, ticket: Ticket) -> NextTask {
         if self.take_place() {
-            Turn::StartAndFetch(ticket)
+            NextTask::StartAndFetch(ticket)
         } else {
-            Turn::Fetch(ticket)
+            NextTask::Fetch(ticket)
         }
     }
 

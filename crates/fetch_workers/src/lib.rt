@@ -12,6 +12,7 @@ mod log;
 mod owed_fetches;
 mod page_in_progress;
 mod shared_desk;
+mod wanted_page;
 mod worker;
 
 pub use assembler::{Assembled, Assembling, MAX_FETCHES, MAX_WORKERS, assemble, assemble_gated};

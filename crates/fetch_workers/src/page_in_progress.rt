@@ -1,11 +1,8 @@
 //! Pages that wait for their fetches as values, and hold no thread.
 
-ghost use Rattle.std.specs.Prelude.{◌≡◌, box_value, map, option_map, IfErr, IfOk, OnOk};
-ghost use Rattle.std.specs.Arc.{arc_value};
-ghost use Rattle.edge_types.specs.Outcome.{shown};
+ghost use Rattle.std.specs.Prelude.{◌≡◌, box_value, IfErr, IfOk, OnOk};
+ghost use Rattle.fetch_workers.specs.Made.{IsAssembledBy};
 ghost use Rattle.fetch_workers.specs.Progress.{AreGiven};
-ghost use Rattle.fetch_workers.specs.Rests.{IsAssembled, IsFailedLeg};
-ghost use Rattle.fetch_workers.specs.Ways.{AreWaysOf};
 
 use crate::assembler::{Assembled, put_together};
 use crate::concurrent_worker::Flights;
@@ -13,9 +10,10 @@ use crate::fault::AssembleFault;
 use crate::log::Own;
 use crate::owed_fetches::{OwedFetches, Owing};
 use crate::shared_desk::SharedDesk;
+use crate::wanted_page::WantedPage;
 use crate::worker::Worker;
 use answer_sources::{Awaited, ConcurrentSource, OpenGate, Source};
-use edge_types::{NoMemory, PageUrl, Request};
+use edge_types::NoMemory;
 use plan_runner::Page;
 use std::alloc::Global;
 use std::marker::PhantomData;
@@ -62,9 +60,7 @@ impl<R: Wait, S: ConcurrentSource<R>> Posted<R, S> {
         under_way: &mut UnderWay<R, S::InFlight>,
     ) -> (Posted<R, S>, Result<bool, AssembleFault>)
         ensures source { result.0.source ≡ self.source }
-        ensures url { under_way.new.url ≡ under_way.old.url }
-        ensures request { under_way.new.request ≡ under_way.old.request }
-        ensures levels { under_way.new.levels ≡ under_way.old.levels }
+        ensures wanted { under_way.new.wanted ≡ under_way.old.wanted }
     {
         self.known();
         let alloc = under_way.alloc;
@@ -111,9 +107,7 @@ struct UnderWay<R, F> {
     flights: Option<Box<Flights<F>>>,
     // How many fetches it may have in flight.
     most: u16,
-    url: PageUrl,
-    request: Request,
-    levels: u8,
+    wanted: WantedPage,
 }
 
 // The work for a page. Most of it lies in a box, so that a page is moved at little cost.
@@ -137,14 +131,10 @@ impl<R: Wait + Drop, S: ConcurrentSource<R> + Drop> PageInProgress<R, S> {
         source: S,
         page: Page,
         most: u16,
-        url: PageUrl,
-        request: Request,
-        levels: u8,
+        wanted: WantedPage,
     ) -> Result<PageInProgress<R, S>, NoMemory>
         ensures source { IfOk result (λ page. page.work.posted.source ≡ source) }
-        ensures url { IfOk result (λ page. (box_value page.work.under_way).url ≡ url) }
-        ensures request { IfOk result (λ page. (box_value page.work.under_way).request ≡ request) }
-        ensures levels { IfOk result (λ page. (box_value page.work.under_way).levels ≡ levels) }
+        ensures wanted { IfOk result (λ page. (box_value page.work.under_way).wanted ≡ wanted) }
     {
         let under_way = UnderWay {
             rt,
@@ -152,9 +142,7 @@ impl<R: Wait + Drop, S: ConcurrentSource<R> + Drop> PageInProgress<R, S> {
             desk: SharedDesk::new(alloc, page, 1),
             flights: None,
             most,
-            url,
-            request,
-            levels,
+            wanted,
         };
         let posted = Posted {
             source,
@@ -177,14 +165,10 @@ impl<R: Wait + Drop, S: ConcurrentSource<R> + Drop> PageInProgress<R, S> {
     /// Goes on as far as it gets without waiting for a fetch. The page comes back if it is to be gone on with, once what
     /// it waits for has moved: see `awaited`.
     pub fn go_on(self) -> Result<Ended<R, S>, PageInProgress<R, S>>
-        ensures page { IfOk result (λ ended. IfOk ended.made (λ page.
-            IsAssembled (S.gives self.work.posted.source) (box_value self.work.under_way).request (box_value self.work.under_way).levels (box_value self.work.under_way).url (map arc_value page.log.items) (shown (arc_value page.outcome)))) }
-        ensures ways { IfOk result (λ ended. IfOk ended.made (λ page. AreWaysOf (map arc_value page.log.items) page.ways)) }
-        ensures failed_leg { IfOk result (λ ended. IfOk ended.made (λ page. IsFailedLeg (box_value self.work.under_way).request (box_value self.work.under_way).levels (box_value self.work.under_way).url (map arc_value page.log.items) (shown (arc_value page.outcome)) (option_map arc_value page.failed_leg))) }
+        ensures page { let wanted = (box_value self.work.under_way).wanted in
+            IfOk result (λ ended. IfOk ended.made (λ made. IsAssembledBy (S.gives self.work.posted.source) wanted.request wanted.levels wanted.url made)) }
         ensures source { IfErr result (λ page. page.work.posted.source ≡ self.work.posted.source) }
-        ensures url { IfErr result (λ page. (box_value page.work.under_way).url ≡ (box_value self.work.under_way).url) }
-        ensures request { IfErr result (λ page. (box_value page.work.under_way).request ≡ (box_value self.work.under_way).request) }
-        ensures levels { IfErr result (λ page. (box_value page.work.under_way).levels ≡ (box_value self.work.under_way).levels) }
+        ensures wanted { IfErr result (λ page. (box_value page.work.under_way).wanted ≡ (box_value self.work.under_way).wanted) }
     {
         let PageInProgress { work } = self;
         let (work, has_ended) = work.worked();
@@ -198,9 +182,7 @@ impl<R: Wait + Drop, S: ConcurrentSource<R> + Drop> PageInProgress<R, S> {
     /// What it waits for; `None` where only `wait` tells.
     pub fn awaited(&mut self) -> Option<Awaited>
         ensures source { self.new.work.posted.source ≡ self.old.work.posted.source }
-        ensures url { (box_value self.new.work.under_way).url ≡ (box_value self.old.work.under_way).url }
-        ensures request { (box_value self.new.work.under_way).request ≡ (box_value self.old.work.under_way).request }
-        ensures levels { (box_value self.new.work.under_way).levels ≡ (box_value self.old.work.under_way).levels }
+        ensures wanted { (box_value self.new.work.under_way).wanted ≡ (box_value self.old.work.under_way).wanted }
     {
         self.work.awaited()
     }
@@ -208,9 +190,7 @@ impl<R: Wait + Drop, S: ConcurrentSource<R> + Drop> PageInProgress<R, S> {
     /// Waits until it may be gone on with, or for `most`, where there is one.
     pub fn wait(&mut self, most: Option<Duration>)
         ensures source { self.new.work.posted.source ≡ self.old.work.posted.source }
-        ensures url { (box_value self.new.work.under_way).url ≡ (box_value self.old.work.under_way).url }
-        ensures request { (box_value self.new.work.under_way).request ≡ (box_value self.old.work.under_way).request }
-        ensures levels { (box_value self.new.work.under_way).levels ≡ (box_value self.old.work.under_way).levels }
+        ensures wanted { (box_value self.new.work.under_way).wanted ≡ (box_value self.old.work.under_way).wanted }
     {
         self.work.wait(most);
     }
@@ -220,9 +200,7 @@ impl<R: Wait + Drop, S: ConcurrentSource<R> + Drop> Work<R, S> {
     // The same once nothing can be done without waiting, or the work has ended; and whether it has, and how.
     fn worked(self) -> (Work<R, S>, Result<bool, AssembleFault>)
         ensures source { result.0.posted.source ≡ self.posted.source }
-        ensures url { (box_value result.0.under_way).url ≡ (box_value self.under_way).url }
-        ensures request { (box_value result.0.under_way).request ≡ (box_value self.under_way).request }
-        ensures levels { (box_value result.0.under_way).levels ≡ (box_value self.under_way).levels }
+        ensures wanted { (box_value result.0.under_way).wanted ≡ (box_value self.under_way).wanted }
     {
         let Work {
             posted,
@@ -234,10 +212,8 @@ impl<R: Wait + Drop, S: ConcurrentSource<R> + Drop> Work<R, S> {
 
     // What has come of the page, once its work has ended.
     fn ended(self) -> Ended<R, S>
-        ensures page { IfOk result.made (λ page.
-            IsAssembled (S.gives self.posted.source) (box_value self.under_way).request (box_value self.under_way).levels (box_value self.under_way).url (map arc_value page.log.items) (shown (arc_value page.outcome))) }
-        ensures ways { IfOk result.made (λ page. AreWaysOf (map arc_value page.log.items) page.ways) }
-        ensures failed_leg { IfOk result.made (λ page. IsFailedLeg (box_value self.under_way).request (box_value self.under_way).levels (box_value self.under_way).url (map arc_value page.log.items) (shown (arc_value page.outcome)) (option_map arc_value page.failed_leg)) }
+        ensures page { let wanted = (box_value self.under_way).wanted in
+            IfOk result.made (λ made. IsAssembledBy (S.gives self.posted.source) wanted.request wanted.levels wanted.url made) }
     {
         let Work { posted, under_way } = self;
         let UnderWay {
@@ -246,9 +222,7 @@ impl<R: Wait + Drop, S: ConcurrentSource<R> + Drop> Work<R, S> {
             desk,
             flights,
             most: _,
-            url,
-            request,
-            levels,
+            wanted,
         } = Box::into_inner(under_way);
         posted.known();
         let Posted {
@@ -257,7 +231,7 @@ impl<R: Wait + Drop, S: ConcurrentSource<R> + Drop> Work<R, S> {
             runtime: _,
         } = posted;
         let page = desk.into_page();
-        let made = put_together::<R, S>(alloc, &source, page, own, &url, &request, levels);
+        let made = put_together::<R, S>(alloc, &source, page, own, &wanted);
         Ended {
             made,
             owed: owed(owing_for(rt, alloc, source, flights)),
@@ -289,9 +263,7 @@ impl<R: Wait + Drop, S: ConcurrentSource<R> + Drop> Work<R, S> {
 
     fn awaited(&mut self) -> Option<Awaited>
         ensures source { self.new.posted.source ≡ self.old.posted.source }
-        ensures url { (box_value self.new.under_way).url ≡ (box_value self.old.under_way).url }
-        ensures request { (box_value self.new.under_way).request ≡ (box_value self.old.under_way).request }
-        ensures levels { (box_value self.new.under_way).levels ≡ (box_value self.old.under_way).levels }
+        ensures wanted { (box_value self.new.under_way).wanted ≡ (box_value self.old.under_way).wanted }
     {
         let posted = &self.posted;
         let under_way = &mut *self.under_way;
@@ -303,9 +275,7 @@ impl<R: Wait + Drop, S: ConcurrentSource<R> + Drop> Work<R, S> {
 
     fn wait(&mut self, most: Option<Duration>)
         ensures source { self.new.posted.source ≡ self.old.posted.source }
-        ensures url { (box_value self.new.under_way).url ≡ (box_value self.old.under_way).url }
-        ensures request { (box_value self.new.under_way).request ≡ (box_value self.old.under_way).request }
-        ensures levels { (box_value self.new.under_way).levels ≡ (box_value self.old.under_way).levels }
+        ensures wanted { (box_value self.new.under_way).wanted ≡ (box_value self.old.under_way).wanted }
     {
         let posted = &self.posted;
         let under_way = &mut *self.under_way;
@@ -334,9 +304,7 @@ fn owing_of<R: Wait + Drop, S: ConcurrentSource<R> + Drop>(
         desk: _,
         flights,
         most: _,
-        url: _,
-        request: _,
-        levels: _,
+        wanted: _,
     } = under_way;
     owing_for(rt, alloc, source, flights)
 }

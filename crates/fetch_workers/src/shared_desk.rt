@@ -5,7 +5,7 @@ ghost use Rattle.std.specs.Prelude.{◌<◌};
 ghost use Rattle.std.specs.Sync.Mutex.{mutex_guard_value};
 ghost use Rattle.plan_runner.specs.Sound.{IsSound};
 
-use crate::desk::{Desk, Turn};
+use crate::desk::{Desk, NextTask};
 use crate::fault::AssembleFault;
 use answer_board::{Receipt, Ticket};
 use edge_types::NoMemory;
@@ -19,10 +19,10 @@ pub(crate) trait Shared<R> {
     fn end(&self, rt: &R);
 
     /// Waits until there is something to do.
-    fn next_turn(&self, rt: &R) -> Turn;
+    fn wait_for_task(&self, rt: &R) -> NextTask;
 
     /// What there is to do now, without waiting.
-    fn turn(&self, rt: &R) -> Turn;
+    fn next_task(&self, rt: &R) -> NextTask;
 
     /// Posts an answer, and returns its place in the log.
     fn post(&self, rt: &R, receipt: Receipt) -> Result<usize, AssembleFault>;
@@ -70,19 +70,19 @@ impl<R: Wait> Shared<R> for SharedDesk {
         self.moved.notify_all();
     }
 
-    fn next_turn(&self, rt: &R) -> Turn {
+    fn wait_for_task(&self, rt: &R) -> NextTask {
         let mut desk = self.lock(rt);
         for _ in rt.forever() {
-            match desk.turn() {
-                Turn::Sleep => {
+            match desk.next_task() {
+                NextTask::Sleep => {
                     desk.falls_asleep();
                     desk = self.moved.wait(rt, desk);
                     desk.wakes();
                 }
-                Turn::End => {
+                NextTask::End => {
                     drop(desk);
                     self.moved.notify_all();
-                    return Turn::End;
+                    return NextTask::End;
                 }
                 other => return other,
             }
@@ -90,8 +90,8 @@ impl<R: Wait> Shared<R> for SharedDesk {
         unreachable!()
     }
 
-    fn turn(&self, rt: &R) -> Turn {
-        self.lock(rt).turn()
+    fn next_task(&self, rt: &R) -> NextTask {
+        self.lock(rt).next_task()
     }
 
     fn post(&self, rt: &R, receipt: Receipt) -> Result<usize, AssembleFault> {

@@ -5,7 +5,7 @@ ghost use Rattle.std.specs.Prelude.{◌≡◌, ◌<◌, IfOk, OnOk, OnSome};
 ghost use Rattle.std.specs.Arc.{arc_value};
 ghost use Rattle.fetch_workers.specs.Given.{AllOwn};
 
-use crate::desk::Turn;
+use crate::desk::NextTask;
 use crate::fault::AssembleFault;
 use crate::log::Own;
 use crate::shared_desk::Shared;
@@ -17,7 +17,7 @@ use std::alloc::Global;
 use std::sync::{Arc, Wait};
 
 /// What works for a page in one thread.
-#[derive(Drop)]
+#[derive_where(Clone, Copy)]
 pub(crate) struct Worker<'a, R, S, G, D> {
     pub rt: &'a R,
     pub alloc: Global,
@@ -134,13 +134,13 @@ impl<'a, R: Wait, S: Source<R>, G: Gate<R>, D: Shared<R>> Worker<'a, R, S, G, D>
         ensures others { IfOk result (λ found. OnSome found (0 < others)) }
     {
         for _ in self.rt.forever() {
-            match self.shared.next_turn(self.rt) {
-                Turn::End => return Ok(None),
-                Turn::NoMemory => return Err(AssembleFault::NoMemory),
-                Turn::Sleep => {}
-                Turn::Prepare(ticket) => self.prepare(ticket, mine)?,
-                Turn::StartAndFetch(ticket) if others > 0 => return Ok(Some(ticket)),
-                Turn::StartAndFetch(ticket) | Turn::Fetch(ticket) => {
+            match self.shared.wait_for_task(self.rt) {
+                NextTask::End => return Ok(None),
+                NextTask::NoMemory => return Err(AssembleFault::NoMemory),
+                NextTask::Sleep => {}
+                NextTask::Prepare(ticket) => self.prepare(ticket, mine)?,
+                NextTask::StartAndFetch(ticket) if others > 0 => return Ok(Some(ticket)),
+                NextTask::StartAndFetch(ticket) | NextTask::Fetch(ticket) => {
                     self.fetch_one(ticket, mine)?;
                 }
             }

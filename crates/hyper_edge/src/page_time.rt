@@ -7,7 +7,7 @@ ghost use Rattle.std.specs.Time.{instant_nanos};
 ghost use Rattle.hyper_edge.specs.Departure.{is_over};
 ghost use Rattle.hyper_edge.specs.PageTime.{GivesInTime, earlier_of, names_url};
 
-use answer_sources::{Awaited, Bell, ConcurrentSource, Given, Source, Way};
+use answer_sources::{Arrival, Awaited, Bell, ConcurrentSource, Given, Source, Way};
 use edge_connections::ClientWatch;
 use edge_types::{Answer, NoMemory, PageUrl};
 use plan_compiler::Prepared;
@@ -197,12 +197,7 @@ impl<R: Clock, S: ConcurrentSource<R>> ConcurrentSource<R> for WithinTime<S> {
         Ok(in_flight.awaited.push(own)?)
     }
 
-    fn next(
-        &self,
-        rt: &R,
-        alloc: Global,
-        in_flight: &mut FetchesInTime<S::InFlight>,
-    ) -> Result<Option<Given>, NoMemory> {
+    fn next(&self, rt: &R, alloc: Global, in_flight: &mut FetchesInTime<S::InFlight>) -> Arrival {
         if let Some(url) = in_flight.late.pop() {
             return Ok(Some(self.too_late(rt, alloc, &url)?));
         }

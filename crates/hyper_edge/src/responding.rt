@@ -7,7 +7,7 @@ ghost use Rattle.hyper_edge.specs.Responses as spec;
 
 use crate::faults::{reason_of, status_of};
 use access_log::Reason;
-use answer_sources::{ConcurrentSource, OneByOne, OpenGate, Source, WayCounts};
+use answer_sources::{ConcurrentSource, OneByOne, Source, WayCounts};
 use edge_types::{Answer, NoMemory, PageUrl, Request};
 use fetch_workers::{AssembleFault, Assembled, Assembling, Ended, OwedFetches, PageInProgress};
 use http::Response;
@@ -134,7 +134,7 @@ where
         (sent responded.response ≡ refusal 503)
         ⊎ spec.TellsPageAt (S.gives source.now) url request how.levels (sent responded.response))) }
 {
-    match how.assemble(rt, alloc, source, &OpenGate, url, request) {
+    match how.assemble(rt, alloc, source, url, request) {
         Ok(page) => Ok(Some(paged_of(alloc, page)?)),
         Err(AssembleFault::NoThread) => Ok(None),
         Err(AssembleFault::NoMemory | AssembleFault::Torn) => Ok(Some(no_room(alloc)?)),
@@ -176,9 +176,9 @@ where
     ensures at_once { IfOk result (λ begun. IfOk begun (λ responded.
         spec.Responds (S.gives source) head.now.method.now head.now.target.now head.now.fields.now how.levels (sent responded.response))) }
     ensures page { IfOk result (λ begun. IfErr begun (λ page.
-        spec.IsAskedFor head.now.method.now head.now.target.now head.now.fields.now (box_value page.work.under_way).url (box_value page.work.under_way).request)) }
+        spec.IsAskedFor head.now.method.now head.now.target.now head.now.fields.now (box_value page.work.under_way).wanted.url (box_value page.work.under_way).wanted.request)) }
     ensures source { IfOk result (λ begun. IfErr begun (λ page. page.work.posted.source ≡ source)) }
-    ensures levels { IfOk result (λ begun. IfErr begun (λ page. (box_value page.work.under_way).levels ≡ how.levels)) }
+    ensures levels { IfOk result (λ begun. IfErr begun (λ page. (box_value page.work.under_way).wanted.levels ≡ how.levels)) }
 {
     if how.fetches == 1 {
         return Ok(Ok(respond_with_log(&rt, alloc, &source, head, how)?));
@@ -212,13 +212,11 @@ pub(crate) fn go_on_with<R, S>(
 where
     R: Wait + Drop,
     S: ConcurrentSource<R> + Drop,
-    ensures told { IfOk result (λ went. IfOk went (λ told.
+    ensures told { let wanted = (box_value page.work.under_way).wanted in IfOk result (λ went. IfOk went (λ told.
         (sent told.responded.response ≡ refusal 503)
-        ⊎ spec.TellsPageAt (S.gives page.work.posted.source) (box_value page.work.under_way).url (box_value page.work.under_way).request (box_value page.work.under_way).levels (sent told.responded.response))) }
+        ⊎ spec.TellsPageAt (S.gives page.work.posted.source) wanted.url wanted.request wanted.levels (sent told.responded.response))) }
     ensures source { IfOk result (λ went. IfErr went (λ left. left.work.posted.source ≡ page.work.posted.source)) }
-    ensures url { IfOk result (λ went. IfErr went (λ left. (box_value left.work.under_way).url ≡ (box_value page.work.under_way).url)) }
-    ensures request { IfOk result (λ went. IfErr went (λ left. (box_value left.work.under_way).request ≡ (box_value page.work.under_way).request)) }
-    ensures levels { IfOk result (λ went. IfErr went (λ left. (box_value left.work.under_way).levels ≡ (box_value page.work.under_way).levels)) }
+    ensures wanted { IfOk result (λ went. IfErr went (λ left. (box_value left.work.under_way).wanted ≡ (box_value page.work.under_way).wanted)) }
 {
     match page.go_on() {
         Ok(Ended { made, owed }) => match made {

@@ -8,6 +8,7 @@ ghost use Rattle.esi_meaning.specs.Meaning.{AreLevels, outcome};
 ghost use Rattle.esi_meaning.specs.State.{state};
 ghost use Rattle.answer_board.specs.Board.{log_of};
 ghost use Rattle.plan_machine.specs.Headline.{IsTrueOver};
+ghost use Rattle.plan_runner.specs.declared.page.TheConstants.{MAX_AHEAD};
 ghost use Rattle.plan_runner.specs.Calls.{told_state};
 ghost use Rattle.plan_runner.specs.Events.{Happen, Ran, Advances, empty_handed};
 ghost use Rattle.plan_runner.specs.Holding.{IsAtEnd, IsHeld};

@@ -15,7 +15,7 @@ use crate::pool::{IdleSocket, Strays};
 use crate::reach::{Reach, lost_by};
 use crate::source::HyperSource;
 use crate::stream_signals::StreamSignals;
-use answer_sources::{Awaited, Bell, ConcurrentSource, Given};
+use answer_sources::{Arrival, Awaited, Bell, ConcurrentSource, Given};
 use edge_types::{Answer, NoMemory, PageUrl};
 use fetch_outcomes::FetchFault;
 use std::alloc::{AllocGlobal, Global};
@@ -312,12 +312,7 @@ where
     }
 
     // It has what the latest wait has told, which also took a ring of the bell. Where that was somebody else's, it looks once.
-    fn next(
-        &self,
-        rt: &R,
-        alloc: Global,
-        in_flight: &mut FetchesInFlight,
-    ) -> Result<Option<Given>, NoMemory> {
+    fn next(&self, rt: &R, alloc: Global, in_flight: &mut FetchesInFlight) -> Arrival {
         for _ in rt.forever() {
             if let Some(answer) = in_flight.answers.pop_front() {
                 return Ok(Some(Given::fetched(answer)));

@@ -102,11 +102,9 @@ fn gate_over_a_table<R: ServerRuntime + Abort + Sync>(
     let meeting = Meeting::of("/x", 3, millis);
     let table = source_of(rt, alloc, CASE)?;
     let (url, request) = (url(rt, alloc, "/p")?, Request::empty());
-    let how = Assembling::new(2, workers.clamp(1, 16), 4);
-    let out = told(
-        alloc,
-        how.assemble(rt, alloc, &table, &meeting, url, request),
-    )?;
+    let workers = workers.clamp(1, 16);
+    let made = assemble_gated(rt, alloc, &table, &meeting, url, request, 2, workers, 4);
+    let out = told(alloc, made)?;
     assert!(rt; out.as_str().starts_with("12 /p /"), "{out}");
     Ok(meeting.counts())
 }

@@ -1,7 +1,7 @@
 //! Pages whose thread has several fetches in flight.
 
 use super::{push_outcome, source_of, url};
-use answer_sources::{Clock, ConcurrentSource, Given, OneByOne, OpenGate, Source, TableSource};
+use answer_sources::{Arrival, Clock, ConcurrentSource, Given, OneByOne, Source, TableSource};
 use edge_types::{NoMemory, PageUrl, Request};
 use fetch_workers::Assembling;
 use shared_cache::Cache;
@@ -90,12 +90,7 @@ impl<R> ConcurrentSource<R> for Flying<'_> {
         Ok(())
     }
 
-    fn next(
-        &self,
-        rt: &R,
-        alloc: Global,
-        in_flight: &mut Vec<PageUrl>,
-    ) -> Result<Option<Given>, NoMemory> {
+    fn next(&self, rt: &R, alloc: Global, in_flight: &mut Vec<PageUrl>) -> Arrival {
         let last = in_flight.len().saturating_sub(1);
         let place = match self.order {
             Order::FirstBegun => 0,
@@ -139,7 +134,7 @@ where
     let alloc = rt.alloc();
     let how = Assembling::new(16, 4, 4).with_fetches(fetches.clamp(1, 256));
     let (url, request) = (url(rt, alloc, "/p")?, Request::empty());
-    let made = how.assemble(rt, alloc, source, &OpenGate, url, request);
+    let made = how.assemble(rt, alloc, source, url, request);
     let mut out = String::new(alloc);
     match made {
         Ok(page) => push_outcome(&mut out, &page.outcome)?,

@@ -6,7 +6,7 @@ ghost use Rattle.shared_cache.specs.Circles.{IfLanded, IsForAll};
 
 use crate::cache::{Cache, is_for_all};
 use crate::cache_flights::{CacheFlights, Joined, Led};
-use answer_sources::{Awaited, Bell, Clock, ConcurrentSource, Given, Way};
+use answer_sources::{Arrival, Awaited, Bell, Clock, ConcurrentSource, Given, Way};
 use edge_types::{NoMemory, PageUrl};
 use fragment_cache::{Begun, Picked};
 use std::alloc::Global;
@@ -280,12 +280,7 @@ where
 
     // What the source has to say first, which may take a ring: so whatever the ring is about is seen by the look at the
     // flights that others lead.
-    fn next(
-        &self,
-        rt: &R,
-        alloc: Global,
-        in_flight: &mut CacheFlights<S::InFlight>,
-    ) -> Result<Option<Given>, NoMemory> {
+    fn next(&self, rt: &R, alloc: Global, in_flight: &mut CacheFlights<S::InFlight>) -> Arrival {
         for _ in rt.forever() {
             if let Some(given) = in_flight.here.pop() {
                 return Ok(Some(given));
