@@ -8,11 +8,11 @@ use Rattle.clap.specs.declared.parser.matches.Found.{Found}
 use Rattle.clap.specs.declared.parser.matches.SubCommand.{SubCommand}
 use Rattle.clap.proofs.WalkLemmas.{first_value-rows}
 use Rattle.clap.proofs.OnLiterals.{clap_on_literals}
-use Rattle.edge_commands.specs.declared.command.Asked.{Asked}
-use Rattle.edge_commands.specs.declared.command.Asked.TheVariants.{Case, Serve, Check}
+use Rattle.edge_commands.specs.declared.command.Invocation.{Invocation}
+use Rattle.edge_commands.specs.declared.command.Invocation.TheVariants.{Case, Serve, Check}
 use Rattle.edge_commands.specs.declared.command.Refusal.{Refusal}
 use Rattle.edge_commands.specs.declared.command.Refusal.TheVariants as refusal
-use Rattle.edge_commands.specs.CommandLine.{program, word_of, IsAsked, IsAskedToCheck, IsAskedToServe, IsRefusedBy, IsRefusedToCheck, IsRefusedToServe, Asks, IsRefused}
+use Rattle.edge_commands.specs.CommandLine.{program, word_of, IsInvokedBy, IsInvokedToCheck, IsInvokedToServe, IsRefusedBy, IsRefusedToCheck, IsRefusedToServe, Asks, IsRefused}
 
 pub name_of_rows : {Z : Type 0} (sub : Option (Box SubCommand Z)) → option_map (λ p. p.0) (subcommand_rows sub) ≡ option_map (λ b. (out-SubCommand (box_value b)).name.now) sub
 name_of_rows None = refl
@@ -36,8 +36,8 @@ unfolding clap_on_literals
 program_is_free = refl
 
 -- what the matches ask for, the words ask for
-pub judged : (words : List Text) (result : Result Asked Refusal) → fault_of program words ≡ []
-    → MatchResult result (IsAsked (subcommand_of program words)) (IsRefusedBy (subcommand_of program words)) → MatchResult result (Asks words) (IsRefused words)
+pub judged : (words : List Text) (result : Result Invocation Refusal) → fault_of program words ≡ []
+    → MatchResult result (IsInvokedBy (subcommand_of program words)) (IsRefusedBy (subcommand_of program words)) → MatchResult result (Asks words) (IsRefused words)
 judged words (Ok (Case order ahead levels is_why)) taken says = (record { taken = taken; says = says.0 }, says.1)
 judged words (Ok (Serve setup)) taken says = record { taken = taken; says = says }
 judged words (Ok (Check checking)) taken says = record { taken = taken; says = says }
@@ -49,8 +49,8 @@ judged words (Err (refusal.Serve option)) taken says = (taken, says)
 judged words (Err refusal.NoMemory) taken says = tt
 
 -- what the rows of `serve` ask for, the matches do
-pub served : (met : Option (Text × List Row)) (rows : List Row) (result : Result Asked Refusal) → met ≡ Some (codes "serve", rows)
-    → MatchResult result (IsAskedToServe rows) (IsRefusedToServe rows) → MatchResult result (IsAsked met) (IsRefusedBy met)
+pub served : (met : Option (Text × List Row)) (rows : List Row) (result : Result Invocation Refusal) → met ≡ Some (codes "serve", rows)
+    → MatchResult result (IsInvokedToServe rows) (IsRefusedToServe rows) → MatchResult result (IsInvokedBy met) (IsRefusedBy met)
 served met rows (Ok (Case order ahead levels is_why)) is says = absurd says
 served met rows (Ok (Serve setup)) is says = record { rows = rows; met_is = is; says = says }
 served met rows (Ok (Check checking)) is says = absurd says
@@ -62,8 +62,8 @@ served met rows (Err (refusal.Serve option)) is says = (rows, is, says)
 served met rows (Err refusal.NoMemory) is says = tt
 
 -- what the rows of `check` ask for, the matches do
-pub checked : (met : Option (Text × List Row)) (rows : List Row) (result : Result Asked Refusal) → met ≡ Some (codes "check", rows)
-    → MatchResult result (IsAskedToCheck rows) IsRefusedToCheck → MatchResult result (IsAsked met) (IsRefusedBy met)
+pub checked : (met : Option (Text × List Row)) (rows : List Row) (result : Result Invocation Refusal) → met ≡ Some (codes "check", rows)
+    → MatchResult result (IsInvokedToCheck rows) IsRefusedToCheck → MatchResult result (IsInvokedBy met) (IsRefusedBy met)
 checked met rows (Ok (Case order ahead levels is_why)) is says = absurd says
 checked met rows (Ok (Serve setup)) is says = absurd says
 checked met rows (Ok (Check checking)) is says = record { rows = rows; met_is = is; says = says }

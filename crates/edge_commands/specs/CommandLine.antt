@@ -16,8 +16,8 @@ use Rattle.edge_setup.specs.Rules.{is_set}
 use Rattle.edge_setup.specs.Words.{IsFirstWrong, SaysSetup}
 use Rattle.edge_setup.specs.declared.check.Checking.{Checking}
 use Rattle.edge_setup.specs.declared.setup.Setup.{Setup}
-use Rattle.edge_commands.specs.declared.command.Asked.{Asked}
-use Rattle.edge_commands.specs.declared.command.Asked.TheVariants.{Case, Serve, Check}
+use Rattle.edge_commands.specs.declared.command.Invocation.{Invocation}
+use Rattle.edge_commands.specs.declared.command.Invocation.TheVariants.{Case, Serve, Check}
 use Rattle.edge_commands.specs.declared.command.Refusal.{Refusal}
 use Rattle.edge_commands.specs.declared.command.Refusal.TheVariants as refusal
 
@@ -62,16 +62,16 @@ pub record AsksOf (met : Option (Text × List Row)) (order : List Event) (ahead 
   pub levels_are : levels_of (word_of (codes "levels") met) ≡ Some levels
 
 -- what the rows of `serve` ask for
-abbrev pub IsAskedToServe : List Row → Asked → Type 0
-IsAskedToServe rows (Case order ahead levels is_why) = ⊥
-IsAskedToServe rows (Serve setup) = SaysSetup rows setup
-IsAskedToServe rows (Check checking) = ⊥
+abbrev pub IsInvokedToServe : List Row → Invocation → Type 0
+IsInvokedToServe rows (Case order ahead levels is_why) = ⊥
+IsInvokedToServe rows (Serve setup) = SaysSetup rows setup
+IsInvokedToServe rows (Check checking) = ⊥
 
 -- what the rows of `check` ask for
-abbrev pub IsAskedToCheck : List Row → Asked → Type 0
-IsAskedToCheck rows (Case order ahead levels is_why) = ⊥
-IsAskedToCheck rows (Serve setup) = ⊥
-IsAskedToCheck rows (Check checking) = SaysChecking rows checking
+abbrev pub IsInvokedToCheck : List Row → Invocation → Type 0
+IsInvokedToCheck rows (Case order ahead levels is_why) = ⊥
+IsInvokedToCheck rows (Serve setup) = ⊥
+IsInvokedToCheck rows (Check checking) = SaysChecking rows checking
 
 -- the matches are those of `serve`, and ask for this
 pub record AsksServeOf (met : Option (Text × List Row)) (setup : Setup) : Type 0 where
@@ -85,10 +85,10 @@ pub record AsksCheckOf (met : Option (Text × List Row)) (checking : Checking) :
   pub met_is : met ≡ Some (codes "check", rows)
   pub says : SaysChecking rows checking
 
-abbrev pub IsAsked : Option (Text × List Row) → Asked → Type 0
-IsAsked met (Case order ahead levels is_why) = AsksOf met order.items ahead levels × (is_why_of met ≡ is_why)
-IsAsked met (Serve setup) = AsksServeOf met setup
-IsAsked met (Check checking) = AsksCheckOf met checking
+abbrev pub IsInvokedBy : Option (Text × List Row) → Invocation → Type 0
+IsInvokedBy met (Case order ahead levels is_why) = AsksOf met order.items ahead levels × (is_why_of met ≡ is_why)
+IsInvokedBy met (Serve setup) = AsksServeOf met setup
+IsInvokedBy met (Check checking) = AsksCheckOf met checking
 
 -- why the rows of `serve` are refused
 abbrev pub IsRefusedToServe : List Row → Refusal → Type 0
@@ -140,7 +140,7 @@ pub record AsksCheck (words : List Text) (checking : Checking) : Type 0 where
   pub says : AsksCheckOf (subcommand_of program words) checking
 
 -- the words ask for this
-abbrev pub Asks : List Text → Asked → Type 0
+abbrev pub Asks : List Text → Invocation → Type 0
 Asks words (Case order ahead levels is_why) = AsksCase words order.items ahead levels × AsksWhy words is_why
 Asks words (Serve setup) = AsksServe words setup
 Asks words (Check checking) = AsksCheck words checking
@@ -152,7 +152,7 @@ IsRefused words refusal.NoMemory = Unit {0}
 IsRefused words why = (fault_of program words ≡ []) × IsRefusedBy (subcommand_of program words) why
 
 -- the numbers are within their limits
-abbrev pub IsWithin : Asked → Type 0
+abbrev pub IsWithin : Invocation → Type 0
 IsWithin (Case order ahead levels is_why) = (ahead ≤ MAX_AHEAD) × AreLevels levels
 IsWithin (Serve setup) = Unit {0}
 IsWithin (Check checking) = Unit {0}

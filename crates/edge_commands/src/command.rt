@@ -11,7 +11,7 @@ use std::alloc::AllocError;
 
 /// What the words of the command line ask for.
 #[derive(Drop)]
-pub enum Asked<'a> {
+pub enum Invocation<'a> {
     /// `case`: standard input is a case, to be run.
     Case {
         /// The events that run first.

@@ -2,9 +2,9 @@
 ghost use Rattle.std.specs.Prelude.{◌≡◌, ◌≤◌, map, string_bytes, option_map, Some, ◌≢◌, IfNone, IfOk, IfSome, MatchResult};
 ghost use Rattle.esi_meaning.specs.Meaning.{AreLevels};
 ghost use Rattle.clap.specs.Words.{app_of, found_of, rows_of, subcommand_rows_of};
-ghost use Rattle.edge_commands.specs.CommandLine.{program, word_of, order_of, ahead_of, levels_of, name_of, Asks, IsRefused, IsOfCase, IsAsked, IsAskedToCheck, IsAskedToServe, IsRefusedBy, IsRefusedToCheck, IsRefusedToServe, IsWithin};
+ghost use Rattle.edge_commands.specs.CommandLine.{program, word_of, order_of, ahead_of, levels_of, name_of, Asks, IsRefused, IsOfCase, IsInvokedBy, IsInvokedToCheck, IsInvokedToServe, IsRefusedBy, IsRefusedToCheck, IsRefusedToServe, IsWithin};
 
-use crate::command::{Asked, Refusal};
+use crate::command::{Invocation, Refusal};
 use clap::{ArgMatches, Command};
 use decimals::decimal_of;
 use edge_case::read_events;
@@ -76,17 +76,17 @@ fn levels_of(word: Option<&str>) -> Option<u8>
 }
 
 // What the matches ask for.
-fn asked_by<'a>(alloc: Global, matches: &ArgMatches<'a>) -> Result<Asked<'a>, Refusal>
-    ensures judged { MatchResult result (IsAsked (subcommand_rows_of matches.now)) (IsRefusedBy (subcommand_rows_of matches.now)) }
+fn invocation_by<'a>(alloc: Global, matches: &ArgMatches<'a>) -> Result<Invocation<'a>, Refusal>
+    ensures judged { MatchResult result (IsInvokedBy (subcommand_rows_of matches.now)) (IsRefusedBy (subcommand_rows_of matches.now)) }
     ensures within { IfOk result IsWithin }
 {
     if let Some(own) = matches_of(matches, "serve") {
-        return serve_asked_by(alloc, own);
+        return serve_invocation(alloc, own);
     }
     if let Some(own) = matches_of(matches, "check") {
-        return check_asked_by(alloc, own);
+        return check_invocation(alloc, own);
     }
-    case_asked_by(alloc, matches)
+    case_invocation(alloc, matches)
 }
 
 // The matches of the subcommand, if it has this name.
@@ -99,29 +99,29 @@ fn matches_of<'b, 'a>(matches: &'b ArgMatches<'a>, name: &str) -> Option<&'b Arg
 }
 
 // What the matches of `serve` ask for.
-fn serve_asked_by<'a>(alloc: Global, own: &ArgMatches<'a>) -> Result<Asked<'a>, Refusal>
-    ensures judged { MatchResult result (IsAskedToServe (rows_of (found_of own.now))) (IsRefusedToServe (rows_of (found_of own.now))) }
+fn serve_invocation<'a>(alloc: Global, own: &ArgMatches<'a>) -> Result<Invocation<'a>, Refusal>
+    ensures judged { MatchResult result (IsInvokedToServe (rows_of (found_of own.now))) (IsRefusedToServe (rows_of (found_of own.now))) }
     ensures within { IfOk result IsWithin }
 {
     match setup_of(alloc, own) {
-        Ok(setup) => Ok(Asked::Serve(setup)),
+        Ok(setup) => Ok(Invocation::Serve(setup)),
         Err(SetupFault::Wrong(option)) => Err(Refusal::Serve(option)),
         Err(SetupFault::NoMemory) => Err(Refusal::NoMemory),
     }
 }
 
 // What the matches of `check` ask for.
-fn check_asked_by<'a>(alloc: Global, own: &ArgMatches<'a>) -> Result<Asked<'a>, Refusal>
-    ensures judged { MatchResult result (IsAskedToCheck (rows_of (found_of own.now))) IsRefusedToCheck }
+fn check_invocation<'a>(alloc: Global, own: &ArgMatches<'a>) -> Result<Invocation<'a>, Refusal>
+    ensures judged { MatchResult result (IsInvokedToCheck (rows_of (found_of own.now))) IsRefusedToCheck }
     ensures within { IfOk result IsWithin }
 {
-    Ok(Asked::Check(checking_of(alloc, own)?))
+    Ok(Invocation::Check(checking_of(alloc, own)?))
 }
 
 // What the matches of `case` ask for.
-fn case_asked_by<'a>(alloc: Global, matches: &ArgMatches<'a>) -> Result<Asked<'a>, Refusal>
+fn case_invocation<'a>(alloc: Global, matches: &ArgMatches<'a>) -> Result<Invocation<'a>, Refusal>
     requires { IsOfCase (name_of (subcommand_rows_of matches.now)) }
-    ensures judged { MatchResult result (IsAsked (subcommand_rows_of matches.now)) (IsRefusedBy (subcommand_rows_of matches.now)) }
+    ensures judged { MatchResult result (IsInvokedBy (subcommand_rows_of matches.now)) (IsRefusedBy (subcommand_rows_of matches.now)) }
     ensures within { IfOk result IsWithin }
 {
     let Some(order) = order_of(alloc, word_of(matches, "order"))? else {
@@ -129,7 +129,7 @@ fn case_asked_by<'a>(alloc: Global, matches: &ArgMatches<'a>) -> Result<Asked<'a
     };
     let ahead = ahead_of(word_of(matches, "ahead")).ok_or(Refusal::Ahead)?;
     let levels = levels_of(word_of(matches, "levels")).ok_or(Refusal::Levels)?;
-    Ok(Asked::Case {
+    Ok(Invocation::Case {
         order,
         ahead,
         levels,
@@ -138,10 +138,10 @@ fn case_asked_by<'a>(alloc: Global, matches: &ArgMatches<'a>) -> Result<Asked<'a
 }
 
 /// What the words of the command line ask for.
-pub fn asked<'a>(alloc: Global, words: &'a [String]) -> Result<Asked<'a>, Refusal>
+pub fn invocation_of<'a>(alloc: Global, words: &'a [String]) -> Result<Invocation<'a>, Refusal>
     ensures judged { MatchResult result (Asks (map string_bytes words.now)) (IsRefused (map string_bytes words.now)) }
     ensures within { IfOk result IsWithin }
 {
     let matches = command(alloc)?.try_get_matches_from(words)?;
-    asked_by(alloc, &matches)
+    invocation_by(alloc, &matches)
 }

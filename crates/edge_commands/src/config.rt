@@ -3,7 +3,7 @@ ghost use Rattle.std.specs.Prelude.{◌≡◌, bytes_eq, codes, string_bytes};
 ghost use Rattle.std.specs.List.{list_any};
 
 use crate::command::Refusal;
-use crate::command_line::asked;
+use crate::command_line::invocation_of;
 use crate::status::Status;
 use clap::Command;
 use clap::error::ErrorKind;
@@ -87,7 +87,7 @@ impl<'a> Words<'a> {
 // Whether the words of a command line may be used once its file is read: `clap` takes them, but for an option that has
 // to be there. What the values of options are worth is judged with those of the file.
 fn wants_file(alloc: Global, line: &[String]) -> Result<bool, Status> {
-    match asked(alloc, line) {
+    match invocation_of(alloc, line) {
         Ok(_) | Err(Refusal::Serve(_)) => Ok(true),
         // Without its file it would be another server.
         Err(Refusal::NoMemory) => Err(Status::NoMemory),

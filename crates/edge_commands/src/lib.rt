@@ -11,8 +11,8 @@ mod status;
 mod why;
 
 pub use checking::check;
-pub use command::{Asked, Refusal};
-pub use command_line::asked;
+pub use command::{Invocation, Refusal};
+pub use command_line::invocation_of;
 pub use config::{Words, print_config, prints_config};
 pub use status::Status;
 pub use why::explain;

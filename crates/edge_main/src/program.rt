@@ -6,7 +6,7 @@ ghost use Rattle.edge_main.specs.Program.{Does, explained_by};
 use crate::options::options_of;
 use crate::server_options::ServerOptions;
 use edge_case::{CaseEnd, CaseFault, Ran, Running, run_case, run_case_and_keep};
-use edge_commands::{Asked, Refusal, Status, asked};
+use edge_commands::{Invocation, Refusal, Status, invocation_of};
 use edge_setup::Checking;
 use std::alloc::Global;
 use std::io::{Read, Write};
@@ -41,8 +41,8 @@ pub(crate) fn run_words<'a, R: Read, W: Write>(
     ensures why { IfErr result (IsRefused (map string_bytes words.now)) }
     ensures untouched { OnErr result ((reader.new ≡ reader.old) × (writer.new ≡ writer.old)) }
 {
-    match asked(alloc, words)? {
-        Asked::Case {
+    match invocation_of(alloc, words)? {
+        Invocation::Case {
             order,
             ahead,
             levels,
@@ -61,8 +61,8 @@ pub(crate) fn run_words<'a, R: Read, W: Write>(
                 Ok(Done::Ran(Status::of(ended)))
             }
         }
-        Asked::Serve(setup) => Ok(Done::Serves(options_of(setup))),
-        Asked::Check(checking) => Ok(Done::Checks(checking)),
+        Invocation::Serve(setup) => Ok(Done::Serves(options_of(setup))),
+        Invocation::Check(checking) => Ok(Done::Checks(checking)),
     }
 }
 

@@ -1,5 +1,5 @@
 use Rattle.std.proofs.Common.{◌≡◌, ◌∙◌, map, string_bytes, true, rules}
-use Rattle.edge_commands.specs.declared.command.Asked.TheVariants.{Case, Serve}
+use Rattle.edge_commands.specs.declared.command.Invocation.TheVariants.{Case, Serve}
 use Rattle.edge_commands.specs.CommandLine.{Asks}
 use Rattle.edge_main.proofs.ProgramLemmas.{does_explained}
 use Rattle.edge_main.proofs.program.run_words.Goals as goal
