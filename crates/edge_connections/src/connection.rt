@@ -4,7 +4,7 @@ ghost use Rattle.std.specs.Prelude.{◌≡◌, box_value, IsSomeAnd};
 ghost use Rattle.edge_connections.specs.Refusals.{status_of_refusal};
 
 use crate::executor::Executor;
-use crate::handover::{Asked, Handover};
+use crate::handover::{Handover, IncomingRequest};
 use crate::signals::{Pause, Signals};
 use futures::Future;
 use futures::task::{Context, Poll};
@@ -17,7 +17,7 @@ use std::sync::{Arc, Wait};
 #[derive(Drop)]
 pub enum Stop {
     /// A request has come, and waits for its response.
-    Asked(Asked),
+    Request(IncomingRequest),
     /// A response has been written.
     Written,
     /// Its client lets it wait.
@@ -104,8 +104,8 @@ impl<F: Future<Output = hyper::Result<()>>> Connection<F> {
             Some(signals) => signals.take_pause(),
             None => None,
         };
-        if let Some(asked) = self.handover.take_asked() {
-            return Some(Stop::Asked(asked));
+        if let Some(incoming) = self.handover.take_incoming() {
+            return Some(Stop::Request(incoming));
         }
         if self.signals.as_ref()?.take_written() {
             return Some(Stop::Written);

@@ -13,7 +13,7 @@ use tokio::io::{AsyncRead, AsyncWrite};
 
 /// A request whose head has come.
 #[derive(Drop)]
-pub struct Asked {
+pub struct IncomingRequest {
     /// The head, as the HTTP library read it.
     pub head: Request<()>,
     /// Whether nothing of a body follows the head.
@@ -27,7 +27,7 @@ pub type Answered = Result<Response<EdgeBody>, AllocError>;
 /// connection or answers its request, so the locks are free.
 #[derive(Drop)]
 pub struct Handover {
-    asked: Mutex<Option<Asked>>,
+    incoming: Mutex<Option<IncomingRequest>>,
     answered: Mutex<Option<Answered>>,
 }
 
@@ -35,14 +35,14 @@ impl Handover {
     /// Nothing is handed over yet.
     pub fn new() -> Handover {
         Handover {
-            asked: Mutex::new(None),
+            incoming: Mutex::new(None),
             answered: Mutex::new(None),
         }
     }
 
     /// The request that was handed over since this was last asked.
-    pub(crate) fn take_asked(&self) -> Option<Asked> {
-        self.asked.try_lock()?.take()
+    pub(crate) fn take_incoming(&self) -> Option<IncomingRequest> {
+        self.incoming.try_lock()?.take()
     }
 
     /// Gives the response to it.
@@ -52,9 +52,9 @@ impl Handover {
         }
     }
 
-    fn ask(&self, asked: Asked) {
-        if let Some(mut left) = self.asked.try_lock() {
-            *left = Some(asked);
+    fn ask(&self, incoming: IncomingRequest) {
+        if let Some(mut left) = self.incoming.try_lock() {
+            *left = Some(incoming);
         }
     }
 
@@ -81,7 +81,7 @@ impl<I: AsyncRead + AsyncWrite> Service<Request<Incoming<I>>> for HandsOver {
     // Nobody reads a body, so it is let go of at once.
     fn call(&self, request: Request<Incoming<I>>) -> ComesBack {
         let (head, body) = request.into_parts();
-        self.handover.ask(Asked {
+        self.handover.ask(IncomingRequest {
             head: Request::from_parts(head, ()),
             is_whole: body.is_end_stream(),
         });

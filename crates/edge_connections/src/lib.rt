@@ -27,7 +27,7 @@ pub use date::DateClock;
 pub use departure::{ClientWatch, watch_of};
 pub use exchange::{Limits, deadline};
 pub use executor::Executor;
-pub use handover::{Answered, Asked, ComesBack, Handover, HandsOver};
+pub use handover::{Answered, ComesBack, Handover, HandsOver, IncomingRequest};
 pub use parking::{Parked, ParkingPlace, Waiting};
 pub use roster::{Admission, AfterFailure, Capacity, Roster, ServeEnd, Work};
 pub use runtime::ServerRuntime;

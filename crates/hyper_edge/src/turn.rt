@@ -5,7 +5,7 @@ use crate::page_time::WithinTime;
 use crate::responding::{Responded, Told, go_on_with};
 use crate::serving::Serving;
 use answer_sources::{ConcurrentSource, OnBehalf};
-use edge_connections::{Answered, Asked, Connection, Duty, Pause, Stop};
+use edge_connections::{Answered, Connection, Duty, IncomingRequest, Pause, Stop};
 use edge_types::NoMemory;
 use fetch_workers::{OwedFetches, PageInProgress};
 use futures::Future;
@@ -41,7 +41,7 @@ where
 // A request that waits for its response, and when its head had come, where that is to be reported.
 #[derive(Drop)]
 struct Requested {
-    asked: Asked,
+    incoming: IncomingRequest,
     begun: Option<Instant>,
 }
 
@@ -113,7 +113,7 @@ where
         F: Future<Output = hyper::Result<()>>,
     {
         match stop {
-            Stop::Asked(asked) => self.begun(asked, connection),
+            Stop::Request(incoming) => self.begun(incoming, connection),
             Stop::Written => {
                 self.report();
                 None
@@ -138,7 +138,11 @@ where
 
     // Begins the response to a request, and goes on with the page that is to be assembled for it, if it is none that is
     // there at once, as `paged` does.
-    fn begun<F>(&mut self, asked: Asked, connection: &Connection<F>) -> Option<Halt<R, S>>
+    fn begun<F>(
+        &mut self,
+        incoming: IncomingRequest,
+        connection: &Connection<F>,
+    ) -> Option<Halt<R, S>>
     where
         F: Future<Output = hyper::Result<()>>,
     {
@@ -147,10 +151,10 @@ where
             true => Instant::now(serving.rt).ok(),
             false => None,
         };
-        let request = Requested { asked, begun };
+        let request = Requested { incoming, begun };
         match serving
             .service
-            .begin(&request.asked.head, connection.socket())
+            .begin(&request.incoming.head, connection.socket())
         {
             Ok(Err(page)) => return self.paged(page, request, connection),
             Ok(Ok(responded)) => {
@@ -305,21 +309,21 @@ where
     // where something of the request's body is left, which nobody reads.
     fn answered(&mut self, responded: Responded, request: &Requested) -> Answered {
         let serving = self.serving;
-        let asked = &request.asked;
+        let incoming = &request.incoming;
         if let Some(begun) = request.begun {
-            let client = serving.service.client_of(&asked.head, self.client);
+            let client = serving.service.client_of(&incoming.head, self.client);
             let record = record_of(
                 serving.rt,
                 serving.journal,
                 serving.service.alloc(),
                 client,
-                &asked.head,
+                &incoming.head,
                 &responded,
             );
             let _ = self.unreported.push(Unreported { begun, record });
         }
         let mut response = responded.response;
-        if serving.keeps && !asked.is_whole {
+        if serving.keeps && !incoming.is_whole {
             closes(&mut response)?;
         }
         Ok(response)
