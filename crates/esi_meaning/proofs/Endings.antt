@@ -10,13 +10,13 @@ use Rattle.esi_meaning.specs.Meaning.{element_run, elements_run}
 use Rattle.esi_meaning.specs.Run.{Run, in_turn, with_front}
 use Rattle.esi_meaning.specs.Ending.{Ends, Adds}
 use Rattle.esi_meaning.specs.declared.limits.TheConstants.{MAX_LEGS}
-use Rattle.esi_meaning.specs.declared.progress.Ending.{Ending}
-use Rattle.esi_meaning.specs.declared.progress.Ending.TheVariants.{Complete}
-use Rattle.esi_meaning.specs.declared.progress.Progress.{Progress}
+use Rattle.esi_meaning.specs.declared.draft.Ending.{Ending}
+use Rattle.esi_meaning.specs.declared.draft.Ending.TheVariants.{Complete}
+use Rattle.esi_meaning.specs.declared.draft.Draft.{Draft}
 use Rattle.esi_meaning.proofs.RunLemmas.{with_front-with_front}
 
 -- what is left of a run, after these legs and this text
-pub record Leaves (whole rest : Run) (start now : Progress) : Type 0 where
+pub record Leaves (whole rest : Run) (start now : Draft) : Type 0 where
   pub few : now.legs ≤ MAX_LEGS
   pub sum : start.legs + length whole.legs ≡ now.legs + length rest.legs
   pub text : List ℕ
@@ -30,7 +30,7 @@ adds-more x y a b c first second = record {
   spell = concat-append first.pieces second.pieces ∙ ap (λ (bytes : List ℕ). bytes ++ joined second.pieces) first.spell ∙ ap (λ (bytes : List ℕ). x ++ bytes) second.spell;
 }
 
-module _ (whole a b : Run) (start old new : Progress) (left : Leaves whole (in_turn a b) start old) where
+module _ (whole a b : Run) (start old new : Draft) (left : Leaves whole (in_turn a b) start old) where
   pub leaves-more : Ends a old new Complete → Leaves whole b start new
   leaves-more e =
       let legs : length (in_turn a b).legs ≡ length a.legs + length b.legs = rw e.0.gave (length-append a.legs b.legs) in
@@ -44,7 +44,7 @@ module _ (whole a b : Run) (start old new : Progress) (left : Leaves whole (in_t
       }
 
 -- one element more, as the code goes over the nodes
-pub leaves-next : (r : Request) (leg : List Part → Run) (whole : Run) (start old new : Progress) (nodes : List Node) (i : ℕ) (x : Node) (ending : Ending) → i < length nodes → x ≡ get_or nodes i x
+pub leaves-next : (r : Request) (leg : List Part → Run) (whole : Run) (start old new : Draft) (nodes : List Node) (i : ℕ) (x : Node) (ending : Ending) → i < length nodes → x ≡ get_or nodes i x
     → Leaves whole (elements_run r leg (elements_of (drop i nodes))) start old → Ends (element_run r leg (element_of x)) old new ending → ending ≡ Complete
     → Leaves whole (elements_run r leg (elements_of (drop (i + 1) nodes))) start new
 leaves-next r leg whole start old new nodes i x ending within is left e complete =

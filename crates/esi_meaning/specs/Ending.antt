@@ -2,9 +2,9 @@
 use Rattle.std.specs.Prelude.{◌≡◌, ℕ, ◌+◌, ◌<◌, ◌≤◌, List, ◌++◌, length, Some, None}
 use Rattle.edge_types.specs.Pieces.{joined}
 use Rattle.esi_meaning.specs.declared.limits.TheConstants.{MAX_LEGS}
-use Rattle.esi_meaning.specs.declared.progress.Ending.{Ending}
-use Rattle.esi_meaning.specs.declared.progress.Ending.TheVariants.{Complete, Failed, TooManyLegs}
-use Rattle.esi_meaning.specs.declared.progress.Progress.{Progress}
+use Rattle.esi_meaning.specs.declared.draft.Ending.{Ending}
+use Rattle.esi_meaning.specs.declared.draft.Ending.TheVariants.{Complete, Failed, TooManyLegs}
+use Rattle.esi_meaning.specs.declared.draft.Draft.{Draft}
 use Rattle.esi_meaning.specs.Run.{Run}
 
 -- the count of legs grows by those of the run, within the limit
@@ -24,7 +24,7 @@ pub record GivesText (run : Run) (old new : List (List ℕ)) : Type 0 where
   pub gave : run.text ≡ Some text
   pub added : Adds text old new
 
-abbrev pub Ends : Run → Progress → Progress → Ending → Type 0
+abbrev pub Ends : Run → Draft → Draft → Ending → Type 0
 Ends run old new Complete = GivesText run old.body new.body × Counts run old.legs new.legs
 Ends run old new Failed = (run.text ≡ None) × (new.body ≡ old.body) × Counts run old.legs new.legs
 Ends run old new TooManyLegs = MAX_LEGS < old.legs + length run.legs

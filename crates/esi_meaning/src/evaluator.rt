@@ -11,12 +11,12 @@ ghost use Rattle.esi_meaning.specs.Evaluator.{named_at, fetched_at, reply_at, bo
 ghost use Rattle.esi_meaning.specs.Run.{AsksNobody, tries};
 
 use crate::choice::chosen;
+use crate::draft::{
+    Draft, Ending, count_leg, no_leg, on_error, push_text, push_values, unprocessed,
+};
 use crate::inlines::inline_for;
 use crate::leg::leg_url;
 use crate::limits::MAX_LEGS;
-use crate::progress::{
-    Ending, Progress, count_leg, no_leg, on_error, push_text, push_values, unprocessed,
-};
 use edge_types::{Answer, NoMemory, PageUrl, Request, SharedBytes, Table};
 use esi_tree::{Branch, Include, Node, Template, TreeFault, template};
 use esi_vars::{Lookups, Part};
@@ -46,19 +46,19 @@ pub(crate) fn elements(
     setting: &Setting<'_>,
     standing: Standing<'_>,
     nodes: &[Node],
-    progress: &mut Progress,
+    draft: &mut Draft,
 ) -> Result<Ending, NoMemory>
-    requires few { progress.old.legs ≤ MAX_LEGS }
+    requires few { draft.old.legs ≤ MAX_LEGS }
     requires shallow { FitsDepth (depth (elements_of nodes.now)) }
     ensures { IfOk result
-        (Ends (elements_at setting.now standing.entry (elements_of nodes.now)) progress.old progress.new) }
+        (Ends (elements_at setting.now standing.entry (elements_of nodes.now)) draft.old draft.new) }
 {
-    let mark = progress.body.mark();
+    let mark = draft.body.mark();
     for node in nodes {
-        match element(setting, standing, node, progress)? {
+        match element(setting, standing, node, draft)? {
             Ending::Complete => {}
             Ending::Failed => {
-                progress.body.cut(mark);
+                draft.body.cut(mark);
                 return Ok(Ending::Failed);
             }
             Ending::TooManyLegs => return Ok(Ending::TooManyLegs),
@@ -72,23 +72,23 @@ fn element(
     setting: &Setting<'_>,
     standing: Standing<'_>,
     node: &Node,
-    progress: &mut Progress,
+    draft: &mut Draft,
 ) -> Result<Ending, NoMemory>
-    requires few { progress.old.legs ≤ MAX_LEGS }
+    requires few { draft.old.legs ≤ MAX_LEGS }
     requires shallow { FitsDepth (element_depth (element_of node.now)) }
     ensures { IfOk result
-        (Ends (element_at setting.now standing.entry (element_of node.now)) progress.old progress.new) }
+        (Ends (element_at setting.now standing.entry (element_of node.now)) draft.old draft.new) }
 {
     match node {
-        Node::Text(text) => push_text(text, progress),
+        Node::Text(text) => push_text(text, draft),
         Node::VarsText(parts) => push_values(
             setting.alloc,
             setting.request,
             parts.as_slice(),
-            progress,
+            draft,
         ),
-        Node::Include(asked) => include(setting, standing, asked, progress),
-        Node::Choose(branches) => choose(setting, standing, branches.as_slice(), progress),
+        Node::Include(asked) => include(setting, standing, asked, draft),
+        Node::Choose(branches) => choose(setting, standing, branches.as_slice(), draft),
         Node::Try {
             attempt,
             except,
@@ -98,10 +98,10 @@ fn element(
             standing,
             attempt.as_slice(),
             except.as_slice(),
-            progress,
+            draft,
         ),
         Node::Vars(content) | Node::Inline { content, .. } => {
-            elements(setting, standing, content.as_slice(), progress)
+            elements(setting, standing, content.as_slice(), draft)
         }
         Node::Nothing => Ok(Ending::Complete),
     }
@@ -114,15 +114,15 @@ fn choose(
     setting: &Setting<'_>,
     standing: Standing<'_>,
     branches: &[Branch],
-    progress: &mut Progress,
+    draft: &mut Draft,
 ) -> Result<Ending, NoMemory>
-    requires few { progress.old.legs ≤ MAX_LEGS }
+    requires few { draft.old.legs ≤ MAX_LEGS }
     requires shallow { FitsDepth (branches_depth (branches_of branches.now)) }
     ensures { IfOk result
-        (Ends (choice_at setting.now standing.entry (branches_of branches.now)) progress.old progress.new) }
+        (Ends (choice_at setting.now standing.entry (branches_of branches.now)) draft.old draft.new) }
 {
     let content = chosen(setting.request, branches);
-    elements(setting, standing, content, progress)
+    elements(setting, standing, content, draft)
 }
 
 // A try: the attempt, else the except.
@@ -132,16 +132,16 @@ fn one_of(
     standing: Standing<'_>,
     attempt: &[Node],
     except: &[Node],
-    progress: &mut Progress,
+    draft: &mut Draft,
 ) -> Result<Ending, NoMemory>
-    requires few { progress.old.legs ≤ MAX_LEGS }
+    requires few { draft.old.legs ≤ MAX_LEGS }
     requires shallow_attempt { FitsDepth (depth (elements_of attempt.now)) }
     requires shallow_except { FitsDepth (depth (elements_of except.now)) }
     ensures { IfOk result
-        (Ends (try_at setting.now standing.entry (elements_of attempt.now) (elements_of except.now)) progress.old progress.new) }
+        (Ends (try_at setting.now standing.entry (elements_of attempt.now) (elements_of except.now)) draft.old draft.new) }
 {
-    match elements(setting, standing, attempt, progress)? {
-        Ending::Failed => elements(setting, standing, except, progress),
+    match elements(setting, standing, attempt, draft)? {
+        Ending::Failed => elements(setting, standing, except, draft),
         ended => Ok(ended),
     }
 }
@@ -152,14 +152,14 @@ fn include(
     setting: &Setting<'_>,
     standing: Standing<'_>,
     include: &Include,
-    progress: &mut Progress,
+    draft: &mut Draft,
 ) -> Result<Ending, NoMemory>
-    requires few { progress.old.legs ≤ MAX_LEGS }
+    requires few { draft.old.legs ≤ MAX_LEGS }
     ensures { IfOk result
-        (Ends (include_at setting.now standing.entry include.now) progress.old progress.new) }
+        (Ends (include_at setting.now standing.entry include.now) draft.old draft.new) }
 {
-    match leg(setting, standing, include.src.as_slice(), progress)? {
-        Ending::Failed => alternative(setting, standing, include, progress),
+    match leg(setting, standing, include.src.as_slice(), draft)? {
+        Ending::Failed => alternative(setting, standing, include, draft),
         ended => Ok(ended),
     }
 }
@@ -170,16 +170,16 @@ fn alternative(
     setting: &Setting<'_>,
     standing: Standing<'_>,
     include: &Include,
-    progress: &mut Progress,
+    draft: &mut Draft,
 ) -> Result<Ending, NoMemory>
-    requires few { progress.old.legs ≤ MAX_LEGS }
+    requires few { draft.old.legs ≤ MAX_LEGS }
     ensures { IfOk result
-        (Ends (alternative_at setting.now standing.entry include.now) progress.old progress.new) }
+        (Ends (alternative_at setting.now standing.entry include.now) draft.old draft.new) }
 {
     let Some(alt) = &include.alt else {
         return Ok(on_error(include.on_error));
     };
-    match leg(setting, standing, alt.as_slice(), progress)? {
+    match leg(setting, standing, alt.as_slice(), draft)? {
         Ending::Failed => Ok(on_error(include.on_error)),
         ended => Ok(ended),
     }
@@ -191,14 +191,14 @@ fn leg(
     setting: &Setting<'_>,
     standing: Standing<'_>,
     text: &[Part],
-    progress: &mut Progress,
+    draft: &mut Draft,
 ) -> Result<Ending, NoMemory>
-    requires few { progress.old.legs ≤ MAX_LEGS }
+    requires few { draft.old.legs ≤ MAX_LEGS }
     ensures { IfOk result
-        (Ends (leg_at setting.now standing.entry text.now) progress.old progress.new) }
+        (Ends (leg_at setting.now standing.entry text.now) draft.old draft.new) }
 {
     if standing.level == 0 {
-        return Ok(no_leg(progress));
+        return Ok(no_leg(draft));
     }
     let found = leg_url(
         setting.alloc,
@@ -208,13 +208,13 @@ fn leg(
         &mut Lookups::none(),
     )?;
     let Some(url) = found else {
-        return Ok(no_leg(progress));
+        return Ok(no_leg(draft));
     };
     let below = Standing {
         level: standing.level - 1,
         ..standing
     };
-    named(setting, below, &url, progress)
+    named(setting, below, &url, draft)
 }
 
 // A leg of this URL: an inline of its template, or else what the origin answers.
@@ -223,15 +223,15 @@ fn named(
     setting: &Setting<'_>,
     standing: Standing<'_>,
     url: &PageUrl,
-    progress: &mut Progress,
+    draft: &mut Draft,
 ) -> Result<Ending, NoMemory>
-    requires few { progress.old.legs ≤ MAX_LEGS }
+    requires few { draft.old.legs ≤ MAX_LEGS }
     ensures { IfOk result
-        (Ends (named_at setting.now standing.entry url.now) progress.old progress.new) }
+        (Ends (named_at setting.now standing.entry url.now) draft.old draft.new) }
 {
     match inline_for(setting.alloc, standing.url, url, standing.template.nodes())? {
-        Some(content) => inlined(setting, standing, content, progress),
-        None => fetched(setting, standing.level, url, progress),
+        Some(content) => inlined(setting, standing, content, draft),
+        None => fetched(setting, standing.level, url, draft),
     }
 }
 
@@ -241,17 +241,17 @@ fn inlined(
     setting: &Setting<'_>,
     standing: Standing<'_>,
     content: &[Node],
-    progress: &mut Progress,
+    draft: &mut Draft,
 ) -> Result<Ending, NoMemory>
-    requires few { progress.old.legs ≤ MAX_LEGS }
+    requires few { draft.old.legs ≤ MAX_LEGS }
     requires shallow { FitsDepth (depth (elements_of content.now)) }
     ensures { IfOk result
-        (Ends (tries AsksNobody (elements_at setting.now standing.entry (elements_of content.now))) progress.old progress.new) }
+        (Ends (tries AsksNobody (elements_at setting.now standing.entry (elements_of content.now))) draft.old draft.new) }
 {
-    if !count_leg(&mut progress.legs) {
+    if !count_leg(&mut draft.legs) {
         return Ok(Ending::TooManyLegs);
     }
-    elements(setting, standing, content, progress)
+    elements(setting, standing, content, draft)
 }
 
 // A leg of this URL that its origin answers.
@@ -260,17 +260,17 @@ fn fetched(
     setting: &Setting<'_>,
     level: u8,
     url: &PageUrl,
-    progress: &mut Progress,
+    draft: &mut Draft,
 ) -> Result<Ending, NoMemory>
-    requires few { progress.old.legs ≤ MAX_LEGS }
+    requires few { draft.old.legs ≤ MAX_LEGS }
     ensures { IfOk result
-        (Ends (fetched_at setting.now level url.now) progress.old progress.new) }
+        (Ends (fetched_at setting.now level url.now) draft.old draft.new) }
 {
-    if !count_leg(&mut progress.legs) {
+    if !count_leg(&mut draft.legs) {
         return Ok(Ending::TooManyLegs);
     }
     match setting.table.get(url) {
-        Some(answer) => answered(setting, level, url, answer, progress),
+        Some(answer) => answered(setting, level, url, answer, draft),
         None => Ok(Ending::Failed),
     }
 }
@@ -282,16 +282,16 @@ fn answered(
     level: u8,
     url: &PageUrl,
     answer: &Arc<Answer>,
-    progress: &mut Progress,
+    draft: &mut Draft,
 ) -> Result<Ending, NoMemory>
-    requires few { progress.old.legs ≤ MAX_LEGS }
+    requires few { draft.old.legs ≤ MAX_LEGS }
     ensures { IfOk result
-        (Ends (reply_at setting.now level url.now (arc_value answer.now).reply) progress.old progress.new) }
+        (Ends (reply_at setting.now level url.now (arc_value answer.now).reply) draft.old draft.new) }
 {
     if answer.processed() {
-        processed(setting, level, url, &answer.share_body()?, progress)
+        processed(setting, level, url, &answer.share_body()?, draft)
     } else {
-        unprocessed(answer, progress)
+        unprocessed(answer, draft)
     }
 }
 
@@ -301,11 +301,11 @@ fn processed(
     level: u8,
     url: &PageUrl,
     body: &SharedBytes,
-    progress: &mut Progress,
+    draft: &mut Draft,
 ) -> Result<Ending, NoMemory>
-    requires few { progress.old.legs ≤ MAX_LEGS }
+    requires few { draft.old.legs ≤ MAX_LEGS }
     ensures { IfOk result
-        (Ends (body_at setting.now level url.now body.now) progress.old progress.new) }
+        (Ends (body_at setting.now level url.now body.now) draft.old draft.new) }
 {
     let template = match template(setting.alloc, body) {
         Ok(template) => template,
@@ -317,5 +317,5 @@ fn processed(
         url,
         template: &template,
     };
-    elements(setting, there, template.nodes(), progress)
+    elements(setting, there, template.nodes(), draft)
 }

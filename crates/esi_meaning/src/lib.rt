@@ -2,13 +2,13 @@
 #![tactic(auto)]
 
 mod choice;
+mod draft;
 mod evaluator;
 mod inlines;
 pub mod laws;
 mod leg;
 mod limits;
 mod page;
-mod progress;
 
 pub use leg::leg_url;
 pub use limits::{MAX_LEGS, MAX_LEVELS, MIN_LEVELS, are_levels};

@@ -8,8 +8,8 @@ ghost use Rattle.edge_types.specs.Pieces.{joined};
 ghost use Rattle.esi_meaning.specs.Meaning.{outcome, AreLevels};
 ghost use Rattle.esi_meaning.specs.Evaluator.{answered_page, processed_page};
 
+use crate::draft::{Draft, Ending, push_whole};
 use crate::evaluator::{Setting, Standing, elements};
-use crate::progress::{Ending, Progress, push_whole};
 use edge_types::{
     Answer, Head, NoMemory, Outcome, PageBody, PageFault, PageUrl, Reply, Request, SharedBytes,
     Table,
@@ -101,14 +101,14 @@ fn processed_page(
         url,
         template: &template,
     };
-    let mut progress = Progress {
+    let mut draft = Draft {
         legs: 0,
         body: PageBody::new(setting.alloc),
     };
-    match elements(setting, standing, template.nodes(), &mut progress)? {
+    match elements(setting, standing, template.nodes(), &mut draft)? {
         Ending::Complete => Ok(Outcome::Page {
             head: head.copy(setting.alloc)?,
-            body: progress.body,
+            body: draft.body,
         }),
         Ending::Failed => Ok(Outcome::Fault(PageFault::IncludeFailed)),
         Ending::TooManyLegs => Ok(Outcome::Fault(PageFault::TooManyLegs)),

@@ -48,4 +48,4 @@ abbrev pub invariant-elements-loop-node : goal.invariant-elements-loop-node
 invariant-elements-loop-node l =
     Leaves (elements_run l.setting.request.now (leg_at l.setting l.standing) (elements_of l.nodes))
     (elements_run l.setting.request.now (leg_at l.setting l.standing) (elements_of (drop l.node-index l.nodes)))
-    l.fn.progress l.progress
+    l.fn.draft l.draft

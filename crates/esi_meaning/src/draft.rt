@@ -1,4 +1,4 @@
-//! How far a page has come: its legs and its text so far. Nothing here is recursive.
+//! The draft of a page: its legs and its text so far. Nothing here is recursive.
 
 ghost use Rattle.std.specs.Prelude.{◌≡◌, ◌+◌, ◌<◌, ◌≤◌, ◌↔◌, IsTrue, IfOk, OnOk, None, Some};
 ghost use Rattle.std.specs.Bool.{OnTrue};
@@ -27,9 +27,9 @@ pub(crate) enum Ending {
     TooManyLegs,
 }
 
-/// How far a page has come.
+/// A page as far as it was evaluated.
 #[derive(Drop)]
-pub(crate) struct Progress {
+pub(crate) struct Draft {
     /// How many legs were tried.
     pub(crate) legs: u16,
     /// The text so far.
@@ -37,12 +37,12 @@ pub(crate) struct Progress {
 }
 
 /// Outputs a text as it is.
-pub(crate) fn push_text(text: &SharedBytes, progress: &mut Progress) -> Result<Ending, NoMemory>
-    requires { progress.old.legs ≤ MAX_LEGS }
+pub(crate) fn push_text(text: &SharedBytes, draft: &mut Draft) -> Result<Ending, NoMemory>
+    requires { draft.old.legs ≤ MAX_LEGS }
     ensures { IfOk result
-        (Ends (gives (Some text.now)) progress.old progress.new) }
+        (Ends (gives (Some text.now)) draft.old draft.new) }
 {
-    progress.body.push(text.share()?)?;
+    draft.body.push(text.share()?)?;
     Ok(Ending::Complete)
 }
 
@@ -51,20 +51,20 @@ pub(crate) fn push_values(
     alloc: Global,
     request: &Request,
     parts: &[Part],
-    progress: &mut Progress,
+    draft: &mut Draft,
 ) -> Result<Ending, NoMemory>
-    requires { progress.old.legs ≤ MAX_LEGS }
+    requires { draft.old.legs ≤ MAX_LEGS }
     ensures { IfOk result
-        (Ends (gives (Some (substituted request.now parts.now))) progress.old progress.new) }
+        (Ends (gives (Some (substituted request.now parts.now))) draft.old draft.new) }
 {
     let text = substitute(alloc, request, parts)?;
-    progress.body.push(SharedBytes::of(text)?)?;
+    draft.body.push(SharedBytes::of(text)?)?;
     Ok(Ending::Complete)
 }
 
 /// An include that can't be fetched: nothing, or a failure.
 pub(crate) fn on_error(asked: OnError) -> Ending
-    ensures { (p : Progress) → p.legs ≤ MAX_LEGS → Ends (on_error asked) p p result }
+    ensures { (p : Draft) → p.legs ≤ MAX_LEGS → Ends (on_error asked) p p result }
 {
     match asked {
         OnError::Continues => Ending::Complete,
@@ -73,11 +73,11 @@ pub(crate) fn on_error(asked: OnError) -> Ending
 }
 
 /// A leg that fetches nothing and has no text.
-pub(crate) fn no_leg(progress: &mut Progress) -> Ending
-    requires { progress.old.legs ≤ MAX_LEGS }
-    ensures { Ends (tries AsksNobody (gives None)) progress.old progress.new result }
+pub(crate) fn no_leg(draft: &mut Draft) -> Ending
+    requires { draft.old.legs ≤ MAX_LEGS }
+    ensures { Ends (tries AsksNobody (gives None)) draft.old draft.new result }
 {
-    if !count_leg(&mut progress.legs) {
+    if !count_leg(&mut draft.legs) {
         return Ending::TooManyLegs;
     }
     Ending::Failed
@@ -96,15 +96,15 @@ pub(crate) fn count_leg(legs: &mut u16) -> bool
 }
 
 /// An answer that isn't processed: its body as it is, if the fetch succeeded.
-pub(crate) fn unprocessed(answer: &Arc<Answer>, progress: &mut Progress) -> Result<Ending, NoMemory>
-    requires { progress.old.legs ≤ MAX_LEGS }
+pub(crate) fn unprocessed(answer: &Arc<Answer>, draft: &mut Draft) -> Result<Ending, NoMemory>
+    requires { draft.old.legs ≤ MAX_LEGS }
     ensures { IfOk result
-        (Ends (unprocessed_run (arc_value answer.now).reply) progress.old progress.new) }
+        (Ends (unprocessed_run (arc_value answer.now).reply) draft.old draft.new) }
 {
     if !answer.succeeded() {
         return Ok(Ending::Failed);
     }
-    push_whole(answer, &mut progress.body)?;
+    push_whole(answer, &mut draft.body)?;
     Ok(Ending::Complete)
 }
 
