@@ -14,7 +14,7 @@ use Rattle.std.specs.BTreeMap.{get, insert_entry}
 use Rattle.std.specs.List.{AllByRecursion}
 use Rattle.std.specs.Map.{lookup, set_value}
 use Rattle.edge_types.specs.Answered.{Answered}
-use Rattle.fragment_cache.specs.Machine.{Kept, Flights, same_number, kept_at, flying, flying_at, landed_at, picks_at, NoneFlies, changed_value, changed, without, departed, one_fewer, landed_with, picked}
+use Rattle.fragment_cache.specs.Machine.{FlightState, Flights, same_number, flight_at, flying, flying_at, landed_at, picks_at, NoneFlies, changed_value, changed, without, departed, one_fewer, landed_with, picked}
 use Rattle.fragment_cache.specs.Sound.{HasNamed, AreFlights}
 use Rattle.fragment_cache.specs.Index.{Indexed, Numbers, Changes, HaveSameNumbers}
 use Rattle.fragment_cache.specs.Steps.{Arrives}
@@ -105,15 +105,15 @@ exact_number = tells_apart exact_unsigned
 pub number_itself : (n : ℕ) → same_number n n ≡ true
 number_itself = (eq_by_cmp_equiv nat_cmp_total).refl
 
--- a number that is not below itself is not kept
-pub kept_at-next : (next : ℕ) (flights : Flights) → AllByRecursion (λ e. e.0 < next) flights → kept_at flights next ≡ None
-kept_at-next next [] h = refl
-kept_at-next next (e ∷ es) h = (elim (same_number next e.0) as (λ b. same_number next e.0 ≡ b → kept_at (e ∷ es) next ≡ None) [
+-- a number that is not below itself is of no flight
+pub flight_at-next : (next : ℕ) (flights : Flights) → AllByRecursion (λ e. e.0 < next) flights → flight_at flights next ≡ None
+flight_at-next next [] h = refl
+flight_at-next next (e ∷ es) h = (elim (same_number next e.0) as (λ b. same_number next e.0 ≡ b → flight_at (e ∷ es) next ≡ None) [
   | true ↦ λ is. let same : next ≡ e.0 = exact_number next e.0 is in let low : e.0 < next = h.0 in absurd (omega arith)
-  | false ↦ λ is. rw is (kept_at-next next es h.1)
+  | false ↦ λ is. rw is (flight_at-next next es h.1)
 ]) refl
 
-pub insert_entry-end : (next : ℕ) (f : Kept) (flights : Flights) → AllByRecursion (λ e. e.0 < next) flights → insert_entry nat_cmp flights next f ≡ flights ++ (next, f) ∷ []
+pub insert_entry-end : (next : ℕ) (f : FlightState) (flights : Flights) → AllByRecursion (λ e. e.0 < next) flights → insert_entry nat_cmp flights next f ≡ flights ++ (next, f) ∷ []
 insert_entry-end next f [] h = refl
 insert_entry-end next f (e ∷ es) h =
     let low : e.0 < next = h.0 in
@@ -121,53 +121,53 @@ insert_entry-end next f (e ∷ es) h =
     let other : nat_eq next e.0 ≡ false = grind (arith, nat_tests) in
     rw (past, other) (ap (λ l. e ∷ l) (insert_entry-end next f es h.1))
 
-module _ (P : ℕ × Kept → Type 0) (number : ℕ) (g : Kept → Kept) where
-  pub each_changed : (flights : Flights) → ((f : Kept) → kept_at flights number ≡ Some f → P (number, f) → P (number, g f)) → AllByRecursion P flights → AllByRecursion P (changed number g flights)
+module _ (P : ℕ × FlightState → Type 0) (number : ℕ) (g : FlightState → FlightState) where
+  pub each_changed : (flights : Flights) → ((f : FlightState) → flight_at flights number ≡ Some f → P (number, f) → P (number, g f)) → AllByRecursion P flights → AllByRecursion P (changed number g flights)
   each_changed [] keeps h = tt
   each_changed (e ∷ es) keeps h = (elim (same_number number e.0) as (λ b. same_number number e.0 ≡ b → AllByRecursion P (changed number g (e ∷ es))) [
     | true ↦ λ is.
         let same : number ≡ e.0 = exact_number number e.0 is in
-        let found : kept_at (e ∷ es) number ≡ Some e.1 = rw is refl in
+        let found : flight_at (e ∷ es) number ≡ Some e.1 = rw is refl in
         rw is (subst (λ (n : ℕ). P (n, g e.1)) same (keeps e.1 found (subst (λ (n : ℕ). P (n, e.1)) (sym same) h.0)), h.1)
     | false ↦ λ is. rw is (h.0, each_changed es (λ f found. keeps f (rw is found)) h.1)
   ]) refl
 
 -- a change that leaves flights flying, or landed, as they were
-abbrev pub KeepsFlying : (Kept → Kept) → Type 0
-KeepsFlying g = (f : Kept) → flying (g f) ≡ flying f
+abbrev pub KeepsFlying : (FlightState → FlightState) → Type 0
+KeepsFlying g = (f : FlightState) → flying (g f) ≡ flying f
 
-pub flying_at-changed : (number : ℕ) (g : Kept → Kept) → KeepsFlying g → (flights : Flights) (m : ℕ) → flying_at (changed number g flights) m ≡ flying_at flights m
-flying_at-changed number g keeps flights m = ap (option_and_then flying) (lookup-changed same_number exact_number number_itself number g flights m) ∙ by_case (same_number number m) (kept_at flights m)
+pub flying_at-changed : (number : ℕ) (g : FlightState → FlightState) → KeepsFlying g → (flights : Flights) (m : ℕ) → flying_at (changed number g flights) m ≡ flying_at flights m
+flying_at-changed number g keeps flights m = ap (option_and_then flying) (lookup-changed same_number exact_number number_itself number g flights m) ∙ by_case (same_number number m) (flight_at flights m)
   where
-    by_case : (c : Bool) (o : Option Kept) → option_and_then flying (cond c (option_map g o) o) ≡ option_and_then flying o
+    by_case : (c : Bool) (o : Option FlightState) → option_and_then flying (cond c (option_map g o) o) ≡ option_and_then flying o
     by_case true None = refl
     by_case true (Some f) = keeps f
     by_case false o = refl
 
 pub flying_at-landed : (number : ℕ) (answer : Answered) (flights : Flights) (m : ℕ) → flying_at (changed number (landed_with answer) flights) m ≡ cond (same_number number m) None (flying_at flights m)
-flying_at-landed number answer flights m = ap (option_and_then flying) (lookup-changed same_number exact_number number_itself number (landed_with answer) flights m) ∙ by_case (same_number number m) (kept_at flights m)
+flying_at-landed number answer flights m = ap (option_and_then flying) (lookup-changed same_number exact_number number_itself number (landed_with answer) flights m) ∙ by_case (same_number number m) (flight_at flights m)
   where
-    by_case : (c : Bool) (o : Option Kept) → option_and_then flying (cond c (option_map (landed_with answer) o) o) ≡ cond c None (option_and_then flying o)
+    by_case : (c : Bool) (o : Option FlightState) → option_and_then flying (cond c (option_map (landed_with answer) o) o) ≡ cond c None (option_and_then flying o)
     by_case true None = refl
     by_case true (Some f) = refl
     by_case false o = refl
 
 pub flying_at-without : (number : ℕ) (flights : Flights) (m : ℕ) → flying_at (without number flights) m ≡ cond (same_number number m) None (flying_at flights m)
-flying_at-without number flights m = ap (option_and_then flying) (lookup-others same_number exact_number number_itself number flights m) ∙ by_case (same_number number m) (kept_at flights m)
+flying_at-without number flights m = ap (option_and_then flying) (lookup-others same_number exact_number number_itself number flights m) ∙ by_case (same_number number m) (flight_at flights m)
   where
-    by_case : (c : Bool) (o : Option Kept) → option_and_then flying (cond c None o) ≡ cond c None (option_and_then flying o)
+    by_case : (c : Bool) (o : Option FlightState) → option_and_then flying (cond c None o) ≡ cond c None (option_and_then flying o)
     by_case true o = refl
     by_case false o = refl
 
-pub flying_at-push : (number : ℕ) (url : List ℕ) (flights : Flights) (m : ℕ) → kept_at flights number ≡ None → flying_at (flights ++ (number, departed url) ∷ []) m ≡ cond (same_number number m) (Some url) (flying_at flights m)
-flying_at-push number url flights m none = ap (option_and_then flying) (lookup-push same_number exact_number number_itself number (departed url) flights m none) ∙ by_case (same_number number m) (kept_at flights m)
+pub flying_at-push : (number : ℕ) (url : List ℕ) (flights : Flights) (m : ℕ) → flight_at flights number ≡ None → flying_at (flights ++ (number, departed url) ∷ []) m ≡ cond (same_number number m) (Some url) (flying_at flights m)
+flying_at-push number url flights m none = ap (option_and_then flying) (lookup-push same_number exact_number number_itself number (departed url) flights m none) ∙ by_case (same_number number m) (flight_at flights m)
   where
-    by_case : (c : Bool) (o : Option Kept) → option_and_then flying (cond c (Some (departed url)) o) ≡ cond c (Some url) (option_and_then flying o)
+    by_case : (c : Bool) (o : Option FlightState) → option_and_then flying (cond c (Some (departed url)) o) ≡ cond c (Some url) (option_and_then flying o)
     by_case true o = refl
     by_case false o = refl
 
 pub flying_at-arrives : (old new : Flights) (number : ℕ) (answer : Answered) → Arrives old number answer new → (m : ℕ) → flying_at new m ≡ cond (same_number number m) None (flying_at old m)
-flying_at-arrives old new number answer (inl kept) m = ap (λ (fs : Flights). flying_at fs m) kept.1 ∙ flying_at-landed number answer old m
+flying_at-arrives old new number answer (inl stays) m = ap (λ (fs : Flights). flying_at fs m) stays.1 ∙ flying_at-landed number answer old m
 flying_at-arrives old new number answer (inr gone) m = ap (λ (fs : Flights). flying_at fs m) gone ∙ flying_at-without number old m
 
 -- ---- the index
@@ -189,10 +189,10 @@ module _ (before after : Numbers) (flights : Flights) (next : ℕ) (indexed : In
     flights_after = flights ++ (next, departed url) ∷ []
 
     after_is : (m : ℕ) → flying_at (flights ++ (next, departed url) ∷ []) m ≡ cond (same_number next m) (Some url) (flying_at flights m)
-    after_is m = flying_at-push next url flights m (kept_at-next next flights indexed.below)
+    after_is m = flying_at-push next url flights m (flight_at-next next flights indexed.below)
 
     nobody : (u : List ℕ) → flying_at flights next ≡ Some u → ⊥
-    nobody u e = let absent : flying_at flights next ≡ None = ap (option_and_then flying) (kept_at-next next flights indexed.below) in cc
+    nobody u e = let absent : flying_at flights next ≡ None = ap (option_and_then flying) (flight_at-next next flights indexed.below) in cc
 
     found_lead : (u : List ℕ) (m : ℕ) → number_for after u ≡ Some m → flying_at (flights ++ (next, departed url) ∷ []) m ≡ Some u
     found_lead u m h = by_url (bytes_eq url u) refl
@@ -227,8 +227,8 @@ module _ (before after : Numbers) (flights : Flights) (next : ℕ) (indexed : In
     Indexed-lead = record {
       found = found_lead;
       listed = listed_lead;
-      below = each_append (λ (e : ℕ × Kept). e.0 < next + 1) flights ((next, departed url) ∷ []) (weaker flights indexed.below) (omega arith, tt);
-      named = each_append (λ (e : ℕ × Kept). HasNamed e.1) flights ((next, departed url) ∷ []) indexed.named (tt, tt);
+      below = each_append (λ (e : ℕ × FlightState). e.0 < next + 1) flights ((next, departed url) ∷ []) (weaker flights indexed.below) (omega arith, tt);
+      named = each_append (λ (e : ℕ × FlightState). HasNamed e.1) flights ((next, departed url) ∷ []) indexed.named (tt, tt);
     }
       where
         weaker : (es : Flights) → AllByRecursion (λ e. e.0 < next) es → AllByRecursion (λ e. e.0 < next + 1) es
@@ -277,7 +277,7 @@ Indexed-land before after flights flights' next url number answer indexed flies 
   named = named_after arrives;
 }
   where
-    of_url : (f : Kept) → kept_at flights number ≡ Some f → answer.url ≡ f.url
+    of_url : (f : FlightState) → flight_at flights number ≡ Some f → answer.url ≡ f.url
     of_url f at = named ∙ by_landed f.landed refl
       where
         by_landed : (o : Option Answered) → f.landed ≡ o → url ≡ f.url
@@ -285,15 +285,15 @@ Indexed-land before after flights flights' next url number answer indexed flies 
         by_landed (Some a) e = let shows : flying_at flights number ≡ None = ap (option_and_then flying) at ∙ ap (λ (l : Option Answered). cond (is_none l) (Some f.url) None) e in absurd (cc)
 
     below_after : Arrives flights number answer flights' → AllByRecursion (λ e. e.0 < next) flights'
-    below_after (inl kept) = subst (AllByRecursion (λ (e : ℕ × Kept). e.0 < next)) (sym kept.1) (each_changed (λ e. e.0 < next) number (landed_with answer) flights (λ f at low. low) indexed.below)
-    below_after (inr gone) = subst (AllByRecursion (λ (e : ℕ × Kept). e.0 < next)) (sym gone) (each_filter (λ (e : ℕ × Kept). e.0 < next) (λ (e : ℕ × Kept). not (same_number number e.0)) flights indexed.below)
+    below_after (inl stays) = subst (AllByRecursion (λ (e : ℕ × FlightState). e.0 < next)) (sym stays.1) (each_changed (λ e. e.0 < next) number (landed_with answer) flights (λ f at low. low) indexed.below)
+    below_after (inr gone) = subst (AllByRecursion (λ (e : ℕ × FlightState). e.0 < next)) (sym gone) (each_filter (λ (e : ℕ × FlightState). e.0 < next) (λ (e : ℕ × FlightState). not (same_number number e.0)) flights indexed.below)
 
     named_after : Arrives flights number answer flights' → AllByRecursion (λ e. HasNamed e.1) flights'
-    named_after (inl kept) = subst (AllByRecursion (λ (e : ℕ × Kept). HasNamed e.1)) (sym kept.1) (each_changed (λ e. HasNamed e.1) number (landed_with answer) flights (λ f at _. of_url f at) indexed.named)
-    named_after (inr gone) = subst (AllByRecursion (λ (e : ℕ × Kept). HasNamed e.1)) (sym gone) (each_filter (λ (e : ℕ × Kept). HasNamed e.1) (λ (e : ℕ × Kept). not (same_number number e.0)) flights indexed.named)
+    named_after (inl stays) = subst (AllByRecursion (λ (e : ℕ × FlightState). HasNamed e.1)) (sym stays.1) (each_changed (λ e. HasNamed e.1) number (landed_with answer) flights (λ f at _. of_url f at) indexed.named)
+    named_after (inr gone) = subst (AllByRecursion (λ (e : ℕ × FlightState). HasNamed e.1)) (sym gone) (each_filter (λ (e : ℕ × FlightState). HasNamed e.1) (λ (e : ℕ × FlightState). not (same_number number e.0)) flights indexed.named)
 
 -- after a change of pick-ups alone
-pub Indexed-picks : (index : Numbers) (flights : Flights) (next number : ℕ) (g : Kept → Kept) → KeepsFlying g → ((f : Kept) → HasNamed f → HasNamed (g f)) → Indexed index flights next → Indexed index (changed number g flights) next
+pub Indexed-picks : (index : Numbers) (flights : Flights) (next number : ℕ) (g : FlightState → FlightState) → KeepsFlying g → ((f : FlightState) → HasNamed f → HasNamed (g f)) → Indexed index flights next → Indexed index (changed number g flights) next
 Indexed-picks index flights next number g keeps named indexed = record {
   found = λ u m h. flying_at-changed number g keeps flights m ∙ indexed.found u m h;
   listed = λ u m h. indexed.listed u m (sym (flying_at-changed number g keeps flights m) ∙ h);
@@ -306,8 +306,8 @@ pub Indexed-without : (index : Numbers) (flights : Flights) (next number : ℕ) 
 Indexed-without index flights next number lands indexed = record {
   found = λ u m h. same m ∙ indexed.found u m h;
   listed = λ u m h. indexed.listed u m (sym (same m) ∙ h);
-  below = each_filter (λ (e : ℕ × Kept). e.0 < next) (λ (e : ℕ × Kept). not (same_number number e.0)) flights indexed.below;
-  named = each_filter (λ (e : ℕ × Kept). HasNamed e.1) (λ (e : ℕ × Kept). not (same_number number e.0)) flights indexed.named;
+  below = each_filter (λ (e : ℕ × FlightState). e.0 < next) (λ (e : ℕ × FlightState). not (same_number number e.0)) flights indexed.below;
+  named = each_filter (λ (e : ℕ × FlightState). HasNamed e.1) (λ (e : ℕ × FlightState). not (same_number number e.0)) flights indexed.named;
 }
   where
     by_number : (m : ℕ) (b : Bool) → same_number number m ≡ b → cond (same_number number m) None (flying_at flights m) ≡ flying_at flights m
@@ -338,13 +338,13 @@ Indexed-same before after flights next agree indexed = record {
 
 -- what has landed doesn't fly
 pub landed_flies_not : (flights : Flights) (number : ℕ) → IsSome (landed_at flights number) → flying_at flights number ≡ None
-landed_flies_not flights number h = by_case (kept_at flights number) h
+landed_flies_not flights number h = by_case (flight_at flights number) h
   where
     by_landed : (url : List ℕ) (picks : ℕ) (l : Option Answered) → IsSome l → flying (record { url = url; landed = l; picks = picks }) ≡ None
     by_landed url picks None i = absurd (true≢false (sym i))
     by_landed url picks (Some a) i = refl
 
-    by_case : (o : Option Kept) → IsSome (option_and_then (λ (f : Kept). f.landed) o) → option_and_then flying o ≡ None
+    by_case : (o : Option FlightState) → IsSome (option_and_then (λ (f : FlightState). f.landed) o) → option_and_then flying o ≡ None
     by_case None i = absurd (true≢false (sym i))
     by_case (Some f) i = by_landed f.url f.picks f.landed i
 
@@ -382,9 +382,9 @@ HaveSameNumbers-undone before mid after url number absent opened closed = λ q. 
     by_test q false t = at_other url q None mid after closed t ∙ at_other url q (Some number) before mid opened t
 
 -- a flight that is found landed
-pub landed_at-found : (flights : Flights) (number : ℕ) (f : Kept) (answer : Answered) → Some f ≡ kept_at flights number → Some answer ≡ f.landed → IsSome (landed_at flights number)
+pub landed_at-found : (flights : Flights) (number : ℕ) (f : FlightState) (answer : Answered) → Some f ≡ flight_at flights number → Some answer ≡ f.landed → IsSome (landed_at flights number)
 landed_at-found flights number f answer found is =
-    let at : landed_at flights number ≡ Some answer = ap (option_and_then (λ (f : Kept). f.landed)) (sym found) ∙ sym is in
+    let at : landed_at flights number ≡ Some answer = ap (option_and_then (λ (f : FlightState). f.landed)) (sym found) ∙ sym is in
     subst (λ (o : Option Answered). IsSome o) (sym at) refl
 
 -- all flights that fly for a URL are the one

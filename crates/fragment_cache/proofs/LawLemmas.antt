@@ -8,19 +8,19 @@ use Rattle.edge_types.specs.declared.answer.Reply.TheVariants.{Failed, Got}
 use Rattle.edge_types.specs.Answered.{Answered}
 use Rattle.edge_types.specs.Head.{is_success}
 use Rattle.fragment_cache.specs.Times.{second_after, expiry_of, expiry_of_reply, fresh_until, extension_of, is_failing}
-use Rattle.fragment_cache.specs.Machine.{Entry, Entries, Flight, Airspace, Kept, State, Flights, empty, flying, entry_of, left, others, used, stored, fresh, bridge_end, bridging, answer_before, same_number, kept_at, flying_at, landed_at, picks_at, NoneFlies, changed, without, departed, one_more, one_fewer, landed_with, picked}
+use Rattle.fragment_cache.specs.Machine.{Entry, Entries, Flight, Airspace, FlightState, State, Flights, empty, flying, entry_of, left, others, used, stored, fresh, bridge_end, bridging, answer_before, same_number, flight_at, flying_at, landed_at, picks_at, NoneFlies, changed, without, departed, one_more, one_fewer, landed_with, picked}
 use Rattle.fragment_cache.specs.Steps.{PicksUp, Arrives, LandsSomehow, Hit, Join, Lead, Bypass, LookAnswer, Found, Missing, Refused, Here, Flying, Unknown}
 use Rattle.fragment_cache.specs.Runs.{Event, Began, Looked, Landed, PickedUp, Purged, Step, Run}
 use Rattle.fragment_cache.specs.Law.{History, is_of, flies_in, is_bridged, latest, flying_in, landed_in, leads, joins, heres, IsLatest, NoneFlew, Follows, Keeps, OneFlies, CacheLaw}
 use Rattle.fragment_cache.proofs.EntryLemmas.{same_bytes, each_filter, each_append}
-use Rattle.fragment_cache.proofs.FlightLemmas.{exact_number, kept_at-next, each_changed, flying_at-changed, flying_at-arrives, flying_at-push, landed_flies_not, flying_at-without}
-use Rattle.fragment_cache.proofs.LookupLemmas.{bytes_itself, turned_bytes, entry_of-left, entry_of-others, entry_of-used, entry_of-take, answer_before-some, kept_at-changed, kept_at-without, kept_at-push, tells_none, made_below, tells_more, tells_departed, tells_landed, tells_fewer, tells_less, Tells}
+use Rattle.fragment_cache.proofs.FlightLemmas.{exact_number, flight_at-next, each_changed, flying_at-changed, flying_at-arrives, flying_at-push, landed_flies_not, flying_at-without}
+use Rattle.fragment_cache.proofs.LookupLemmas.{bytes_itself, turned_bytes, entry_of-left, entry_of-others, entry_of-used, entry_of-take, answer_before-some, flight_at-changed, flight_at-without, flight_at-push, tells_none, made_below, tells_more, tells_departed, tells_landed, tells_fewer, tells_less, Tells}
 
 -- ---- what a history tells of the state after it
 
 pub record Told (h : History) (s : State) : Type 0 where
   pub flying : (m : ℕ) → flying_at s.flights m ≡ flying_in h m
-  pub tells : (m : ℕ) → Tells (kept_at s.flights m) (landed_in h m) (heres h m) (joins h m)
+  pub tells : (m : ℕ) → Tells (flight_at s.flights m) (landed_in h m) (heres h m) (joins h m)
   pub below : AllByRecursion (λ e. e.0 < s.next) s.flights
   pub number : s.next ≡ leads h
   pub latest : (url : List ℕ) (e : Entry) → entry_of s.entries url ≡ Some e → IsLatest h url e.answer e.expiry
@@ -77,15 +77,15 @@ told_hit h s url now answer told = record { flying = told.flying; tells = told.t
 told_join : (h : History) (s : State) (url : List ℕ) (now number : ℕ) → Told h s → Told (Began url now (Join number) ∷ h) (record s { flights = changed number one_more s.flights })
 told_join h s url now number told = record {
   flying = λ m. flying_at-changed number one_more (λ f. refl) s.flights m ∙ told.flying m;
-  tells = λ m. subst (λ (o : Option Kept). Tells o (landed_in h m) (heres h m) (cond (same_number number m) (joins h m + 1) (joins h m))) (sym (kept_at-changed number one_more s.flights m)) (by_number m (same_number number m));
+  tells = λ m. subst (λ (o : Option FlightState). Tells o (landed_in h m) (heres h m) (cond (same_number number m) (joins h m + 1) (joins h m))) (sym (flight_at-changed number one_more s.flights m)) (by_number m (same_number number m));
   below = each_changed (λ e. e.0 < s.next) number one_more s.flights (λ f at low. low) told.below;
   number = told.number;
   latest = told.latest;
   one = told.one;
 }
   where
-    by_number : (m : ℕ) (c : Bool) → Tells (cond c (option_map one_more (kept_at s.flights m)) (kept_at s.flights m)) (landed_in h m) (heres h m) (cond c (joins h m + 1) (joins h m))
-    by_number m true = tells_more (kept_at s.flights m) (landed_in h m) (heres h m) (joins h m) (told.tells m)
+    by_number : (m : ℕ) (c : Bool) → Tells (cond c (option_map one_more (flight_at s.flights m)) (flight_at s.flights m)) (landed_in h m) (heres h m) (cond c (joins h m + 1) (joins h m))
+    by_number m true = tells_more (flight_at s.flights m) (landed_in h m) (heres h m) (joins h m) (told.tells m)
     by_number m false = told.tells m
 
 none_flew : (h : History) (s : State) (url : List ℕ) → Told h s → NoneFlies s.flights url → NoneFlew h url
@@ -95,18 +95,18 @@ told_lead : (h : History) (s : State) (url : List ℕ) (now : ℕ) (ready : Answ
     → Told (Began url now (Lead (record { number = s.next; url = url }) ready) ∷ h) (record s { flights = s.flights ++ (s.next, departed url) ∷ []; next = s.next + 1 })
 told_lead h s url now ready told none = record {
   flying = λ m. flying_at-push s.next url s.flights m absent ∙ ap (cond (same_number s.next m) (Some url)) (told.flying m);
-  tells = λ m. subst (λ (o : Option Kept). Tells o (landed_in h m) (heres h m) (joins h m)) (sym (kept_at-push s.next (departed url) s.flights m absent)) (by_number m (same_number s.next m));
-  below = each_append (λ (e : ℕ × Kept). e.0 < s.next + 1) s.flights ((s.next, departed url) ∷ []) (weaker s.flights told.below) (omega arith, tt);
+  tells = λ m. subst (λ (o : Option FlightState). Tells o (landed_in h m) (heres h m) (joins h m)) (sym (flight_at-push s.next (departed url) s.flights m absent)) (by_number m (same_number s.next m));
+  below = each_append (λ (e : ℕ × FlightState). e.0 < s.next + 1) s.flights ((s.next, departed url) ∷ []) (weaker s.flights told.below) (omega arith, tt);
   number = ap (λ (n : ℕ). n + 1) told.number;
   latest = told.latest;
   one = λ u one other a b. by_numbers u one other (same_number s.next one) (same_number s.next other) refl refl a b;
 }
   where
-    absent : kept_at s.flights s.next ≡ None
-    absent = kept_at-next s.next s.flights told.below
+    absent : flight_at s.flights s.next ≡ None
+    absent = flight_at-next s.next s.flights told.below
 
-    by_number : (m : ℕ) (c : Bool) → Tells (cond c (Some (departed url)) (kept_at s.flights m)) (landed_in h m) (heres h m) (joins h m)
-    by_number m true = tells_departed url (landed_in h m) (heres h m) (joins h m) (made_below (kept_at s.flights m) (landed_in h m) (heres h m) (joins h m) (told.tells m))
+    by_number : (m : ℕ) (c : Bool) → Tells (cond c (Some (departed url)) (flight_at s.flights m)) (landed_in h m) (heres h m) (joins h m)
+    by_number m true = tells_departed url (landed_in h m) (heres h m) (joins h m) (made_below (flight_at s.flights m) (landed_in h m) (heres h m) (joins h m) (told.tells m))
     by_number m false = told.tells m
 
     weaker : (es : Flights) → AllByRecursion (λ e. e.0 < s.next) es → AllByRecursion (λ e. e.0 < s.next + 1) es
@@ -130,27 +130,27 @@ module _ (h : History) (s : State) (number : ℕ) (given : Answered) (flights : 
   flying_land : (m : ℕ) → flying_at flights m ≡ cond (same_number number m) None (flying_in h m)
   flying_land m = flying_at-arrives s.flights flights number given arrives m ∙ ap (cond (same_number number m) None) (told.flying m)
 
-  gone_tells : (m : ℕ) (c : Bool) → Tells (cond c None (kept_at s.flights m)) (cond c (Some given) (landed_in h m)) (heres h m) (joins h m)
-  gone_tells m true = tells_none (Some given) (heres h m) (joins h m) (made_below (kept_at s.flights m) (landed_in h m) (heres h m) (joins h m) (told.tells m))
+  gone_tells : (m : ℕ) (c : Bool) → Tells (cond c None (flight_at s.flights m)) (cond c (Some given) (landed_in h m)) (heres h m) (joins h m)
+  gone_tells m true = tells_none (Some given) (heres h m) (joins h m) (made_below (flight_at s.flights m) (landed_in h m) (heres h m) (joins h m) (told.tells m))
   gone_tells m false = told.tells m
 
-  kept_tells : 0 < picks_at s.flights number → (m : ℕ) (c : Bool) → same_number number m ≡ c → Tells (cond c (option_map (landed_with given) (kept_at s.flights m)) (kept_at s.flights m)) (cond c (Some given) (landed_in h m)) (heres h m) (joins h m)
-  kept_tells some m true t = tells_landed (kept_at s.flights m) (landed_in h m) given (heres h m) (joins h m) (subst (λ (n : ℕ). 0 < picks_at s.flights n) (exact_number number m t) some) (told.tells m)
-  kept_tells some m false t = told.tells m
+  stays_tells : 0 < picks_at s.flights number → (m : ℕ) (c : Bool) → same_number number m ≡ c → Tells (cond c (option_map (landed_with given) (flight_at s.flights m)) (flight_at s.flights m)) (cond c (Some given) (landed_in h m)) (heres h m) (joins h m)
+  stays_tells some m true t = tells_landed (flight_at s.flights m) (landed_in h m) given (heres h m) (joins h m) (subst (λ (n : ℕ). 0 < picks_at s.flights n) (exact_number number m t) some) (told.tells m)
+  stays_tells some m false t = told.tells m
 
-  tells_land : (m : ℕ) → Tells (kept_at flights m) (cond (same_number number m) (Some given) (landed_in h m)) (heres h m) (joins h m)
+  tells_land : (m : ℕ) → Tells (flight_at flights m) (cond (same_number number m) (Some given) (landed_in h m)) (heres h m) (joins h m)
   tells_land m = by_way arrives
     where
-      by_way : Arrives s.flights number given flights → Tells (kept_at flights m) (cond (same_number number m) (Some given) (landed_in h m)) (heres h m) (joins h m)
-      by_way (inl kept) = subst (λ (o : Option Kept). Tells o (cond (same_number number m) (Some given) (landed_in h m)) (heres h m) (joins h m)) (sym (ap (λ (fs : Flights). kept_at fs m) kept.1 ∙ kept_at-changed number (landed_with given) s.flights m)) (kept_tells kept.0 m (same_number number m) refl)
-      by_way (inr gone) = subst (λ (o : Option Kept). Tells o (cond (same_number number m) (Some given) (landed_in h m)) (heres h m) (joins h m)) (sym (ap (λ (fs : Flights). kept_at fs m) gone ∙ kept_at-without number s.flights m)) (gone_tells m (same_number number m))
+      by_way : Arrives s.flights number given flights → Tells (flight_at flights m) (cond (same_number number m) (Some given) (landed_in h m)) (heres h m) (joins h m)
+      by_way (inl stays) = subst (λ (o : Option FlightState). Tells o (cond (same_number number m) (Some given) (landed_in h m)) (heres h m) (joins h m)) (sym (ap (λ (fs : Flights). flight_at fs m) stays.1 ∙ flight_at-changed number (landed_with given) s.flights m)) (stays_tells stays.0 m (same_number number m) refl)
+      by_way (inr gone) = subst (λ (o : Option FlightState). Tells o (cond (same_number number m) (Some given) (landed_in h m)) (heres h m) (joins h m)) (sym (ap (λ (fs : Flights). flight_at fs m) gone ∙ flight_at-without number s.flights m)) (gone_tells m (same_number number m))
 
   below_land : AllByRecursion (λ e. e.0 < s.next) flights
   below_land = by_way arrives
     where
       by_way : Arrives s.flights number given flights → AllByRecursion (λ e. e.0 < s.next) flights
-      by_way (inl kept) = subst (AllByRecursion (λ (e : ℕ × Kept). e.0 < s.next)) (sym kept.1) (each_changed (λ e. e.0 < s.next) number (landed_with given) s.flights (λ f at low. low) told.below)
-      by_way (inr gone) = subst (AllByRecursion (λ (e : ℕ × Kept). e.0 < s.next)) (sym gone) (each_filter (λ (e : ℕ × Kept). e.0 < s.next) (λ (e : ℕ × Kept). not (same_number number e.0)) s.flights told.below)
+      by_way (inl stays) = subst (AllByRecursion (λ (e : ℕ × FlightState). e.0 < s.next)) (sym stays.1) (each_changed (λ e. e.0 < s.next) number (landed_with given) s.flights (λ f at low. low) told.below)
+      by_way (inr gone) = subst (AllByRecursion (λ (e : ℕ × FlightState). e.0 < s.next)) (sym gone) (each_filter (λ (e : ℕ × FlightState). e.0 < s.next) (λ (e : ℕ × FlightState). not (same_number number e.0)) s.flights told.below)
 
   still : (m : ℕ) (c : Bool) (u : List ℕ) → cond c None (flying_in h m) ≡ Some u → flying_in h m ≡ Some u
   still m true u e = absurd (cc)
@@ -211,7 +211,7 @@ module _ (h : History) (s : State) (flight : Flight) (answer : Answered) (now : 
       → Told (Landed flight answer now given ∷ h) (record s { entries = entries; flights = flights })
   told_landed entries bridged is last = record {
     flying = λ m. flying_land h s flight.number given flights told arrives m ∙ ap (λ (b : Bool). cond (b && same_number flight.number m) None (flying_in h m)) (sym flies);
-    tells = λ m. subst (λ (b : Bool). Tells (kept_at flights m) (cond (b && same_number flight.number m) (Some given) (landed_in h m)) (heres h m) (joins h m)) (sym flies) (tells_land h s flight.number given flights told arrives m);
+    tells = λ m. subst (λ (b : Bool). Tells (flight_at flights m) (cond (b && same_number flight.number m) (Some given) (landed_in h m)) (heres h m) (joins h m)) (sym flies) (tells_land h s flight.number given flights told arrives m);
     below = below_land h s flight.number given flights told arrives;
     number = told.number;
     latest = λ u e at.
@@ -276,18 +276,18 @@ module _ (h : History) (s : State) (number : ℕ) (told : Told h s) (landed : Is
       by_landed (Some a) is i = ((told.tells number).answer_is a is).1
 
   -- of the flights after a pick-up, with one pick-up more made
-  tells_picked : (m : ℕ) (b : Bool) → nat_lt 1 (picks_at s.flights number) ≡ b → Tells (kept_at (if b then changed number one_fewer s.flights else without number s.flights) m) (landed_in h m) (cond (same_number number m) (heres h m + 1) (heres h m)) (joins h m)
-  tells_picked m true t = subst (λ (o : Option Kept). Tells o (landed_in h m) (cond (same_number number m) (heres h m + 1) (heres h m)) (joins h m)) (sym (kept_at-changed number one_fewer s.flights m)) (by_number (same_number number m) refl)
+  tells_picked : (m : ℕ) (b : Bool) → nat_lt 1 (picks_at s.flights number) ≡ b → Tells (flight_at (if b then changed number one_fewer s.flights else without number s.flights) m) (landed_in h m) (cond (same_number number m) (heres h m + 1) (heres h m)) (joins h m)
+  tells_picked m true t = subst (λ (o : Option FlightState). Tells o (landed_in h m) (cond (same_number number m) (heres h m + 1) (heres h m)) (joins h m)) (sym (flight_at-changed number one_fewer s.flights m)) (by_number (same_number number m) refl)
     where
       two : 1 < picks_at s.flights number
       two = grind (arith, nat_tests)
 
-      by_number : (c : Bool) → same_number number m ≡ c → Tells (cond c (option_map one_fewer (kept_at s.flights m)) (kept_at s.flights m)) (landed_in h m) (cond c (heres h m + 1) (heres h m)) (joins h m)
-      by_number true e = tells_fewer (kept_at s.flights m) (landed_in h m) (heres h m) (joins h m) (subst (λ (n : ℕ). 1 < picks_at s.flights n) (exact_number number m e) two) (told.tells m)
+      by_number : (c : Bool) → same_number number m ≡ c → Tells (cond c (option_map one_fewer (flight_at s.flights m)) (flight_at s.flights m)) (landed_in h m) (cond c (heres h m + 1) (heres h m)) (joins h m)
+      by_number true e = tells_fewer (flight_at s.flights m) (landed_in h m) (heres h m) (joins h m) (subst (λ (n : ℕ). 1 < picks_at s.flights n) (exact_number number m e) two) (told.tells m)
       by_number false e = told.tells m
-  tells_picked m false t = subst (λ (o : Option Kept). Tells o (landed_in h m) (cond (same_number number m) (heres h m + 1) (heres h m)) (joins h m)) (sym (kept_at-without number s.flights m)) (by_number (same_number number m) refl)
+  tells_picked m false t = subst (λ (o : Option FlightState). Tells o (landed_in h m) (cond (same_number number m) (heres h m + 1) (heres h m)) (joins h m)) (sym (flight_at-without number s.flights m)) (by_number (same_number number m) refl)
     where
-      by_number : (c : Bool) → same_number number m ≡ c → Tells (cond c None (kept_at s.flights m)) (landed_in h m) (cond c (heres h m + 1) (heres h m)) (joins h m)
+      by_number : (c : Bool) → same_number number m ≡ c → Tells (cond c None (flight_at s.flights m)) (landed_in h m) (cond c (heres h m + 1) (heres h m)) (joins h m)
       by_number true e =
           let left : 0 < picks_at s.flights m = subst (λ (n : ℕ). 0 < picks_at s.flights n) (exact_number number m e) some_left in
           let room : picks_at s.flights m + heres h m ≤ joins h m = (told.tells m).picks in
@@ -304,7 +304,7 @@ module _ (h : History) (s : State) (number : ℕ) (told : Told h s) (landed : Is
 
   below_picked : (b : Bool) → AllByRecursion (λ e. e.0 < s.next) (if b then changed number one_fewer s.flights else without number s.flights)
   below_picked true = each_changed (λ e. e.0 < s.next) number one_fewer s.flights (λ f at low. low) told.below
-  below_picked false = each_filter (λ (e : ℕ × Kept). e.0 < s.next) (λ (e : ℕ × Kept). not (same_number number e.0)) s.flights told.below
+  below_picked false = each_filter (λ (e : ℕ × FlightState). e.0 < s.next) (λ (e : ℕ × FlightState). not (same_number number e.0)) s.flights told.below
 
   made_one : heres h number < joins h number
   made_one = let left = some_left in let room : picks_at s.flights number + heres h number ≤ joins h number = (told.tells number).picks in omega arith
@@ -329,8 +329,8 @@ module _ (h : History) (s : State) (number : ℕ) (told : Told h s) (landed : Is
     one = told.one;
   }
     where
-      less : (m : ℕ) (c : Bool) → Tells (kept_at (picked number s.flights) m) (landed_in h m) (cond c (heres h m + 1) (heres h m)) (joins h m) → Tells (kept_at (picked number s.flights) m) (landed_in h m) (heres h m) (joins h m)
-      less m true t = tells_less (kept_at (picked number s.flights) m) (landed_in h m) (heres h m) (joins h m) t
+      less : (m : ℕ) (c : Bool) → Tells (flight_at (picked number s.flights) m) (landed_in h m) (cond c (heres h m + 1) (heres h m)) (joins h m) → Tells (flight_at (picked number s.flights) m) (landed_in h m) (heres h m) (joins h m)
+      less m true t = tells_less (flight_at (picked number s.flights) m) (landed_in h m) (heres h m) (joins h m) t
       less m false t = t
 
 -- ---- every step, and every run
@@ -344,7 +344,7 @@ told_looked h s url now answer told = record { flying = told.flying; tells = tol
 told_missed : (h : History) (s : State) (flight : Flight) (answer : Answered) (now : ℕ) (given : Answered) → Told h s → flying_in h flight.number ≢ Some flight.url → Told (Landed flight answer now given ∷ h) s
 told_missed h s flight answer now given told other = record {
   flying = λ m. told.flying m ∙ ap (λ (b : Bool). cond (b && same_number flight.number m) None (flying_in h m)) (sym misses);
-  tells = λ m. subst (λ (b : Bool). Tells (kept_at s.flights m) (cond (b && same_number flight.number m) (Some given) (landed_in h m)) (heres h m) (joins h m)) (sym misses) (told.tells m);
+  tells = λ m. subst (λ (b : Bool). Tells (flight_at s.flights m) (cond (b && same_number flight.number m) (Some given) (landed_in h m)) (heres h m) (joins h m)) (sym misses) (told.tells m);
   below = told.below;
   number = told.number;
   latest = λ u e is. subst (λ (b : Bool). Last (cond (b && (not (is_bridged answer given) && bytes_eq flight.url u)) (Some (answer, now)) (latest u h)) e) (sym misses) (told.latest u e is);

@@ -6,7 +6,7 @@ use Rattle.std.proofs.lemmas.Slice.Eq.{bytes_eq-Decides}
 use Rattle.std.proofs.lemmas.Map.Entries.{lookup-filter-keys}
 use Rattle.std.specs.Option.{option_map_or}
 use Rattle.edge_types.specs.Answered.{Answered}
-use Rattle.fragment_cache.specs.Machine.{Entry, Entries, Kept, Flights, entry_of, left, others, used, answer_before, same_number, kept_at, changed, without, departed, one_more, one_fewer, landed_with}
+use Rattle.fragment_cache.specs.Machine.{Entry, Entries, FlightState, Flights, entry_of, left, others, used, answer_before, same_number, flight_at, changed, without, departed, one_more, one_fewer, landed_with}
 use Rattle.fragment_cache.proofs.EntryLemmas.{same_bytes}
 use Rattle.fragment_cache.proofs.FlightLemmas.{lookup-append_none, lookup-append_some, lookup-changed, lookup-others, lookup-push, exact_number, number_itself}
 
@@ -73,19 +73,19 @@ answer_before-some now end a answer h = by_test (nat_lt now end) refl
 
 -- ---- flights, at a number
 
-pub kept_at-changed : (number : ℕ) (g : Kept → Kept) (flights : Flights) (m : ℕ) → kept_at (changed number g flights) m ≡ cond (same_number number m) (option_map g (kept_at flights m)) (kept_at flights m)
-kept_at-changed number g flights m = lookup-changed same_number exact_number number_itself number g flights m
+pub flight_at-changed : (number : ℕ) (g : FlightState → FlightState) (flights : Flights) (m : ℕ) → flight_at (changed number g flights) m ≡ cond (same_number number m) (option_map g (flight_at flights m)) (flight_at flights m)
+flight_at-changed number g flights m = lookup-changed same_number exact_number number_itself number g flights m
 
-pub kept_at-without : (number : ℕ) (flights : Flights) (m : ℕ) → kept_at (without number flights) m ≡ cond (same_number number m) None (kept_at flights m)
-kept_at-without number flights m = lookup-others same_number exact_number number_itself number flights m
+pub flight_at-without : (number : ℕ) (flights : Flights) (m : ℕ) → flight_at (without number flights) m ≡ cond (same_number number m) None (flight_at flights m)
+flight_at-without number flights m = lookup-others same_number exact_number number_itself number flights m
 
-pub kept_at-push : (number : ℕ) (f : Kept) (flights : Flights) (m : ℕ) → kept_at flights number ≡ None → kept_at (flights ++ (number, f) ∷ []) m ≡ cond (same_number number m) (Some f) (kept_at flights m)
-kept_at-push number f flights m none = lookup-push same_number exact_number number_itself number f flights m none
+pub flight_at-push : (number : ℕ) (f : FlightState) (flights : Flights) (m : ℕ) → flight_at flights number ≡ None → flight_at (flights ++ (number, f) ∷ []) m ≡ cond (same_number number m) (Some f) (flight_at flights m)
+flight_at-push number f flights m none = lookup-push same_number exact_number number_itself number f flights m none
 
 -- what is told of a flight: the answer with which it landed, and that its pick-ups left and made are no more than its joins
-pub record Tells (o : Option Kept) (landed : Option Answered) (made joined : ℕ) : Type 0 where
-  pub answer_is : (answer : Answered) → option_and_then (λ (f : Kept). f.landed) o ≡ Some answer → (landed ≡ Some answer) × (0 < option_map_or (λ (f : Kept). f.picks) o 0)
-  pub picks : option_map_or (λ (f : Kept). f.picks) o 0 + made ≤ joined
+pub record Tells (o : Option FlightState) (landed : Option Answered) (made joined : ℕ) : Type 0 where
+  pub answer_is : (answer : Answered) → option_and_then (λ (f : FlightState). f.landed) o ≡ Some answer → (landed ≡ Some answer) × (0 < option_map_or (λ (f : FlightState). f.picks) o 0)
+  pub picks : option_map_or (λ (f : FlightState). f.picks) o 0 + made ≤ joined
 
 pub tells_none : (landed : Option Answered) (made joined : ℕ) → made ≤ joined → Tells None landed made joined
 tells_none landed made joined h = record { answer_is = λ answer e. absurd (no answer e); picks = omega arith }
@@ -93,10 +93,10 @@ tells_none landed made joined h = record { answer_is = λ answer e. absurd (no a
     no : (answer : Answered) → None ≡ Some answer → ⊥
     no answer e = cc
 
-pub made_below : (o : Option Kept) (landed : Option Answered) (made joined : ℕ) → Tells o landed made joined → made ≤ joined
+pub made_below : (o : Option FlightState) (landed : Option Answered) (made joined : ℕ) → Tells o landed made joined → made ≤ joined
 made_below o landed made joined t = let p = t.picks in omega arith
 
-pub tells_more : (o : Option Kept) (landed : Option Answered) (made joined : ℕ) → Tells o landed made joined → Tells (option_map one_more o) landed made (joined + 1)
+pub tells_more : (o : Option FlightState) (landed : Option Answered) (made joined : ℕ) → Tells o landed made joined → Tells (option_map one_more o) landed made (joined + 1)
 tells_more None landed made joined t = tells_none landed made (joined + 1) (let p = made_below None landed made joined t in omega arith)
 tells_more (Some f) landed made joined t = record { answer_is = λ answer e. ((t.answer_is answer e).0, omega arith); picks = let p : f.picks + made ≤ joined = t.picks in omega arith }
 
@@ -106,13 +106,13 @@ tells_departed url landed made joined h = record { answer_is = λ answer e. absu
     no : (answer : Answered) → None ≡ Some answer → ⊥
     no answer e = cc
 
-pub tells_landed : (o : Option Kept) (landed : Option Answered) (answer : Answered) (made joined : ℕ) → 0 < option_map_or (λ (f : Kept). f.picks) o 0 → Tells o landed made joined → Tells (option_map (landed_with answer) o) (Some answer) made joined
+pub tells_landed : (o : Option FlightState) (landed : Option Answered) (answer : Answered) (made joined : ℕ) → 0 < option_map_or (λ (f : FlightState). f.picks) o 0 → Tells o landed made joined → Tells (option_map (landed_with answer) o) (Some answer) made joined
 tells_landed None landed answer made joined some t = tells_none (Some answer) made joined (made_below None landed made joined t)
 tells_landed (Some f) landed answer made joined some t = record { answer_is = λ a e. (e, some); picks = t.picks }
 
-pub tells_fewer : (o : Option Kept) (landed : Option Answered) (made joined : ℕ) → 1 < option_map_or (λ (f : Kept). f.picks) o 0 → Tells o landed made joined → Tells (option_map one_fewer o) landed (made + 1) joined
+pub tells_fewer : (o : Option FlightState) (landed : Option Answered) (made joined : ℕ) → 1 < option_map_or (λ (f : FlightState). f.picks) o 0 → Tells o landed made joined → Tells (option_map one_fewer o) landed (made + 1) joined
 tells_fewer None landed made joined some t = absurd (omega arith)
 tells_fewer (Some f) landed made joined some t = record { answer_is = λ a e. ((t.answer_is a e).0, let p : 1 < f.picks = some in omega arith); picks = let p : 1 < f.picks = some in let q : f.picks + made ≤ joined = t.picks in omega arith }
 
-pub tells_less : (o : Option Kept) (landed : Option Answered) (made joined : ℕ) → Tells o landed (made + 1) joined → Tells o landed made joined
+pub tells_less : (o : Option FlightState) (landed : Option Answered) (made joined : ℕ) → Tells o landed (made + 1) joined → Tells o landed made joined
 tells_less o landed made joined t = record { answer_is = t.answer_is; picks = let p = t.picks in omega arith }

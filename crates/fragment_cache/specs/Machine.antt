@@ -18,7 +18,7 @@ pub record Flight : Type 0 where
   pub url : List ℕ
 
 -- a flight as the shard keeps it: its URL, the answer with which it landed (none while it flies), and the pick-ups left
-pub record Kept : Type 0 where
+pub record FlightState : Type 0 where
   pub url : List ℕ
   pub landed : Option Answered
   pub picks : ℕ
@@ -26,7 +26,7 @@ pub record Kept : Type 0 where
 -- entries by URL, newest use first; flights by number, in order; the next number; how many entries there may be
 pub record State : Type 0 where
   pub entries : List (List ℕ × Entry)
-  pub flights : List (ℕ × Kept)
+  pub flights : List (ℕ × FlightState)
   pub next : ℕ
   pub capacity : ℕ
 
@@ -37,14 +37,14 @@ pub record Shelf : Type 0 where
 
 -- the flights of a shard, and the next number
 pub record Airspace : Type 0 where
-  pub flights : List (ℕ × Kept)
+  pub flights : List (ℕ × FlightState)
   pub next : ℕ
 
 abbrev pub Entries : Type 0
 Entries = List (List ℕ × Entry)
 
 abbrev pub Flights : Type 0
-Flights = List (ℕ × Kept)
+Flights = List (ℕ × FlightState)
 
 -- the flights of a shard, and its next number
 abbrev pub airspace : State → Airspace
@@ -115,24 +115,24 @@ abbrev pub same_number : ℕ → ℕ → Bool
 same_number = eq_by_cmp nat_cmp
 
 -- the flight with a number
-abbrev pub kept_at : Flights → ℕ → Option Kept
-kept_at flights number = lookup (same_number number) flights
+abbrev pub flight_at : Flights → ℕ → Option FlightState
+flight_at flights number = lookup (same_number number) flights
 
 -- the URL for which a flight is under way: none once it has landed
-abbrev pub flying : Kept → Option (List ℕ)
+abbrev pub flying : FlightState → Option (List ℕ)
 flying f = if is_none f.landed then Some f.url else None
 
--- the URL for which the flight with a number is under way: none if it has landed or is not kept
+-- the URL for which the flight with a number is under way: none if it has landed or isn't there
 abbrev pub flying_at : Flights → ℕ → Option (List ℕ)
-flying_at flights number = option_and_then flying (kept_at flights number)
+flying_at flights number = option_and_then flying (flight_at flights number)
 
 -- the answer with which the flight with a number landed
 abbrev pub landed_at : Flights → ℕ → Option Answered
-landed_at flights number = option_and_then (λ f. f.landed) (kept_at flights number)
+landed_at flights number = option_and_then (λ f. f.landed) (flight_at flights number)
 
 -- how many pick-ups the flight with a number has left
 abbrev pub picks_at : Flights → ℕ → ℕ
-picks_at flights number = option_map_or (λ f. f.picks) (kept_at flights number) 0
+picks_at flights number = option_map_or (λ f. f.picks) (flight_at flights number) 0
 
 -- no flight is under way for the URL
 abbrev pub NoneFlies : Flights → List ℕ → Type 0
@@ -144,7 +144,7 @@ changed_value test change [] = []
 changed_value test change (e ∷ es) = if test e.0 then (e.0, change e.1) ∷ es else e ∷ changed_value test change es
 
 -- the flights, with a change of the one with this number
-abbrev pub changed : ℕ → (Kept → Kept) → Flights → Flights
+abbrev pub changed : ℕ → (FlightState → FlightState) → Flights → Flights
 changed number change flights = changed_value (same_number number) change flights
 
 -- the flights without the one with this number
@@ -152,16 +152,16 @@ abbrev pub without : ℕ → Flights → Flights
 without number flights = filter (λ e. not (same_number number e.0)) flights
 
 -- a flight that has just left: it is under way, and nobody waits for it
-abbrev pub departed : List ℕ → Kept
+abbrev pub departed : List ℕ → FlightState
 departed url = record { url = url; landed = None; picks = 0 }
 
-abbrev pub one_more : Kept → Kept
+abbrev pub one_more : FlightState → FlightState
 one_more f = record f { picks = f.picks + 1 }
 
-abbrev pub one_fewer : Kept → Kept
+abbrev pub one_fewer : FlightState → FlightState
 one_fewer f = record f { picks = f.picks - 1 }
 
-abbrev pub landed_with : Answered → Kept → Kept
+abbrev pub landed_with : Answered → FlightState → FlightState
 landed_with answer f = record f { landed = Some answer }
 
 -- the flights after a pick-up of this one: the last pick-up ends it

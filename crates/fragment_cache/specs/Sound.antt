@@ -2,7 +2,7 @@
 use Rattle.std.specs.Prelude.{◌≡◌, ℕ, ◌<◌, ◌≤◌, List, length, bytes_eq, IfSome, Some, ⊤}
 use Rattle.std.specs.List.{AllByRecursion, IsDistinct}
 use Rattle.std.specs.Map.{keys_of}
-use Rattle.fragment_cache.specs.Machine.{State, Entry, Kept, Entries, Flights, flying_at}
+use Rattle.fragment_cache.specs.Machine.{State, Entry, FlightState, Entries, Flights, flying_at}
 use Rattle.fragment_cache.specs.Steps.{BeginAnswer, Hit, Join, Lead, Bypass}
 
 -- the entry holds an answer of its URL
@@ -10,7 +10,7 @@ abbrev pub IsNamed : List ℕ × Entry → Type 0
 IsNamed e = e.1.answer.url ≡ e.0
 
 -- a flight that has landed holds an answer of its URL
-abbrev pub HasNamed : Kept → Type 0
+abbrev pub HasNamed : FlightState → Type 0
 HasNamed f = IfSome f.landed (λ answer. answer.url ≡ f.url)
 
 -- the entries hold answers of their URLs, no URL has two, and there are no more than the capacity

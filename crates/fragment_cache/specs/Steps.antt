@@ -2,9 +2,9 @@
 use Rattle.std.specs.Prelude.{◌≡◌, ◌≢◌, ℕ, ◌+◌, ◌-◌, ◌^◌, ◌<◌, ◌≤◌, ◌⊎◌, Bool, IsTrue, IsSome, List, [], ◌∷◌, ◌++◌, length, Some, None}
 use Rattle.edge_types.specs.Answered.{Answered, failed}
 use Rattle.fragment_cache.specs.declared.flights.TheConstants.{MAX_FLIGHTS}
-use Rattle.fragment_cache.specs.declared.kept.TheConstants.{MAX_PICKS}
+use Rattle.fragment_cache.specs.declared.flight_state.TheConstants.{MAX_PICKS}
 use Rattle.fragment_cache.specs.Times.{expiry_of, is_failing}
-use Rattle.fragment_cache.specs.Machine.{Flight, Airspace, airspace, State, Flights, others, left, used, stored, fresh, bridging, kept_at, flying_at, landed_at, picks_at, NoneFlies, changed, without, departed, one_more, landed_with, picked}
+use Rattle.fragment_cache.specs.Machine.{Flight, Airspace, airspace, State, Flights, others, left, used, stored, fresh, bridging, flight_at, flying_at, landed_at, picks_at, NoneFlies, changed, without, departed, one_more, landed_with, picked}
 
 -- the result of `begin`
 pub data BeginAnswer : Type 0 where
@@ -92,7 +92,7 @@ PicksUp old number (Here answer) new = (landed_at old number ≡ Some answer) ×
 -- it is under way
 PicksUp old number Flying new = IsSome (flying_at old number) × (new ≡ old)
 -- there is no such flight; or an allocation failed, which no clause can say, and the pick-up is used up
-PicksUp old number Unknown new = ((kept_at old number ≡ None) × (new ≡ old)) ⊎ (IsSome (landed_at old number) × (new ≡ picked number old))
+PicksUp old number Unknown new = ((flight_at old number ≡ None) × (new ≡ old)) ⊎ (IsSome (landed_at old number) × (new ≡ picked number old))
 
 -- nothing else changes
 abbrev pub Picks : State → ℕ → PickAnswer → State → Type 0

@@ -8,11 +8,11 @@ use Rattle.fragment_cache.specs.declared.shard.Begun.TheVariants.{Hit, Join, Lea
 abbrev pub plus : ℕ → ℕ → ℕ
 plus one other = min (one + other) (2 ^ 64 - 1)
 
--- nothing is kept, and nothing was asked for
+-- nothing is stored, and nothing was asked for
 abbrev pub nothing : CacheTally
 nothing = record { entries = 0; bytes = 0; hits = 0; joins = 0; leads = 0; bypasses = 0; bridges = 0 }
 
--- one more was answered from what is kept
+-- one more was answered from what is stored
 abbrev pub hit : CacheTally → CacheTally
 hit tally = record tally { hits = plus tally.hits 1 }
 

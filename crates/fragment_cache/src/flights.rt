@@ -1,8 +1,8 @@
 //! The flights of a shard: fetches that are under way, and answers that wait for their pick-ups.
 //! Clauses see them by number, in order, and the next number.
 
-use crate::kept::{Kept, MAX_PICKS};
-use crate::kept_flights::{arrive, note_pick_up, picks, use_up};
+use crate::flight_state::{FlightState, MAX_PICKS};
+use crate::numbered_flights::{arrive, note_pick_up, picks, use_up};
 use edge_types::{Answer, NoMemory, PageUrl, SharedAnswer};
 use std::alloc::Global;
 use std::collections::BTreeMap;
@@ -63,10 +63,10 @@ pub enum Picked {
     Unknown,
 }
 
-// The flights that are kept.
+// The flights that the shard keeps.
 #[derive(Drop)]
 pub(crate) struct Flights {
-    kept: BTreeMap<u64, Kept>,
+    by_number: BTreeMap<u64, FlightState>,
     // The number of the flight that is under way for a URL.
     flying: BTreeMap<PageUrl, u64>,
     next: u64,
@@ -78,9 +78,9 @@ impl Model for Flights {
 
     ghost Value = { Airspace };
 
-    ghost view = { λ f. record { flights = f.kept.entries; next = f.next } };
+    ghost view = { λ f. record { flights = f.by_number.entries; next = f.next } };
 
-    ghost invariant = { λ f. Indexed f.flying f.kept.entries f.next };
+    ghost invariant = { λ f. Indexed f.flying f.by_number.entries f.next };
 }
 
 impl Flights {
@@ -88,7 +88,7 @@ impl Flights {
     ghost use Rattle.std.specs.Arc.{arc_value};
     ghost use Rattle.edge_types.specs.Answered.{failed};
     ghost use Rattle.fragment_cache.specs.Machine as machine;
-    ghost use Rattle.fragment_cache.specs.Machine.{kept_at, picks_at, flying_at, NoneFlies, changed, one_more, departed};
+    ghost use Rattle.fragment_cache.specs.Machine.{flight_at, picks_at, flying_at, NoneFlies, changed, one_more, departed};
     ghost use Rattle.fragment_cache.specs.Sound.{AreFlights};
     ghost use Rattle.fragment_cache.specs.Steps.{Arrives, PicksUp, IsFull, Departs};
     ghost use Rattle.fragment_cache.specs.Shown.{picked_answer};
@@ -97,7 +97,7 @@ impl Flights {
         ensures { result ≡ record { flights = []; next = 0 } }
     {
         Flights {
-            kept: BTreeMap::new(alloc),
+            by_number: BTreeMap::new(alloc),
             flying: BTreeMap::new(alloc),
             next: 0,
         }
@@ -107,7 +107,7 @@ impl Flights {
     pub(crate) fn sound(&self)
         ensures { AreFlights self.now.flights self.now.next }
     {
-        let _ = &self.kept;
+        let _ = &self.by_number;
     }
 
     // The number of the flight that is under way for a URL.
@@ -136,10 +136,10 @@ impl Flights {
             × (self.new ≡ record self.old { flights = changed number one_more self.old.flights }))
             ((picks_at self.old.flights number ≡ MAX_PICKS) × (self.new ≡ self.old)) }
     {
-        if picks(&self.kept, number) == MAX_PICKS {
+        if picks(&self.by_number, number) == MAX_PICKS {
             return false;
         }
-        note_pick_up(&mut self.kept, number);
+        note_pick_up(&mut self.by_number, number);
         true
     }
 
@@ -155,7 +155,7 @@ impl Flights {
             (λ lead. Departs self.old url.now lead.0 (arc_value lead.1) self.new)) }
         ensures err { OnErr result (self.new ≡ self.old) }
     {
-        if self.kept.len() >= MAX_FLIGHTS || self.next == u64::MAX {
+        if self.by_number.len() >= MAX_FLIGHTS || self.next == u64::MAX {
             return Ok(None);
         }
         Ok(Some(self.try_lead(alloc, url)?))
@@ -171,7 +171,7 @@ impl Flights {
         let number = self.next;
         let ready = Arc::new(alloc, Answer::failed(url.share()?))?;
         let own = url.share()?;
-        open(&mut self.flying, &mut self.kept, url, number)?;
+        open(&mut self.flying, &mut self.by_number, url, number)?;
         self.next = number + 1;
         Ok((Flight { number, url: own }, ready))
     }
@@ -180,7 +180,7 @@ impl Flights {
     pub(crate) fn pick_ups(&self, number: u64) -> u16
         ensures { result ≡ picks_at self.now.flights number }
     {
-        picks(&self.kept, number)
+        picks(&self.by_number, number)
     }
 
     // Lands a flight that is under way, with its pick-ups; it is gone if it has none, or if a second
@@ -192,7 +192,7 @@ impl Flights {
         ensures next { self.new.next ≡ self.old.next }
     {
         self.flying.remove(flight.url());
-        arrive(&mut self.kept, flight.number, answer);
+        arrive(&mut self.by_number, flight.number, answer);
     }
 
     // Uses up one pick-up of a flight that has landed.
@@ -200,14 +200,14 @@ impl Flights {
         ensures picks { PicksUp self.old.flights number (picked_answer result) self.new.flights }
         ensures next { self.new.next ≡ self.old.next }
     {
-        let landed = match self.kept.get(&number) {
+        let landed = match self.by_number.get(&number) {
             None => return Picked::Unknown,
             Some(flight) => match flight.landed() {
                 None => return Picked::Flying,
                 Some(landed) => landed.share(),
             },
         };
-        use_up(&mut self.kept, number);
+        use_up(&mut self.by_number, number);
         match landed {
             Ok(answer) => Picked::Here(answer.into_arc()),
             Err(NoMemory) => Picked::Unknown,
@@ -226,20 +226,20 @@ ghost use Rattle.fragment_cache.specs.Index.{Changes, HaveSameNumbers};
 // Adds a flight that has just left to both the index and the flights, or to neither.
 fn open(
     flying: &mut BTreeMap<PageUrl, u64>,
-    kept: &mut BTreeMap<u64, Kept>,
+    by_number: &mut BTreeMap<u64, FlightState>,
     url: &PageUrl,
     number: u64,
 ) -> Result<(), NoMemory>
     requires absent { get (slice_cmp nat_cmp) flying.old url.now ≡ None }
-    requires last { AllByRecursion (λ e. e.0 < number) kept.old.entries }
+    requires last { AllByRecursion (λ e. e.0 < number) by_number.old.entries }
     ensures index { OnOk result (Changes url.now (Some number) flying.old flying.new) }
-    ensures flights { OnOk result (kept.new.entries ≡ kept.old.entries ++ (number, departed url.now) ∷ []) }
+    ensures flights { OnOk result (by_number.new.entries ≡ by_number.old.entries ++ (number, departed url.now) ∷ []) }
     ensures index_stays { OnErr result (HaveSameNumbers flying.old flying.new) }
-    ensures flights_stay { OnErr result (kept.new.entries ≡ kept.old.entries) }
+    ensures flights_stay { OnErr result (by_number.new.entries ≡ by_number.old.entries) }
 {
-    let departed = Kept::departed(url.share()?);
+    let departed = FlightState::departed(url.share()?);
     flying.insert(url.share()?, number)?;
-    match kept.insert(number, departed) {
+    match by_number.insert(number, departed) {
         Ok(_) => Ok(()),
         Err(_) => {
             flying.remove(url);

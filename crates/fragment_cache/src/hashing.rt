@@ -15,7 +15,7 @@ const SEED: usize = 16;
 /// A way to hash URLs: with the hasher's own seed, which whoever chooses the URLs may know, or with a secret of the
 /// process.
 ///
-/// The hasher is fast, since a page takes several hashes of each of its kept fragments, and isn't cryptographic. Each
+/// The hasher is fast, since a page takes several hashes of each of its stored fragments, and isn't cryptographic. Each
 /// step multiplies its state with eight bytes of the URL, xor a constant that isn't ASCII. A URL is, so no factor is 0,
 /// and the secret stays in the state.
 #[derive(Clone, Copy)]

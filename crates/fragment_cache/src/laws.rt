@@ -4,8 +4,8 @@
 ghost use Rattle.std.specs.Prelude.{◌≡◌};
 ghost use Rattle.fragment_cache.specs.Law.{CacheLaw};
 
+use crate::flight_state::MAX_PICKS;
 use crate::flights::MAX_FLIGHTS;
-use crate::kept::MAX_PICKS;
 use crate::shard::MAX_CAPACITY;
 
 /// Over every list of calls of a new shard, in terms of the calls and their answers alone:

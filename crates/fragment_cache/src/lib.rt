@@ -3,18 +3,18 @@
 #![tactic(auto)]
 
 mod entries;
+mod flight_state;
 mod flights;
 mod hashing;
-mod kept;
-mod kept_flights;
 pub mod laws;
+mod numbered_flights;
 mod shard;
 mod tally;
 mod times;
 
+pub use flight_state::MAX_PICKS;
 pub use flights::{Flight, MAX_FLIGHTS, Picked};
 pub use hashing::UrlHashing;
-pub use kept::MAX_PICKS;
 pub use shard::{Begun, MAX_CAPACITY, Shard};
 pub use tally::CacheTally;
 pub use times::{is_failing, is_to_be_stored};

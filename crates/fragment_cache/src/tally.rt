@@ -11,11 +11,11 @@ use crate::shard::Begun;
 /// Our profile.
 #[derive(Clone, Copy, Debug, Drop, PartialEq, Eq)]
 pub struct CacheTally {
-    /// Answers that are kept.
+    /// Answers that are stored.
     pub entries: u64,
     /// The bytes of their bodies.
     pub bytes: u64,
-    /// Given by an answer that is kept.
+    /// Given by an answer that is stored.
     pub hits: u64,
     /// Given by a fetch that somebody else makes.
     pub joins: u64,
@@ -23,12 +23,12 @@ pub struct CacheTally {
     pub leads: u64,
     /// Given by a fetch for whoever asked alone, for want of room.
     pub bypasses: u64,
-    /// Answers that are kept and were given in place of a fetch that failed, or wasn't made in time.
+    /// Answers that are stored and were given in place of a fetch that failed, or wasn't made in time.
     pub bridges: u64,
 }
 
 impl CacheTally {
-    /// Nothing is kept, and nothing was asked for.
+    /// Nothing is stored, and nothing was asked for.
     pub fn new() -> CacheTally
         ensures { result ≡ spec.nothing }
     {

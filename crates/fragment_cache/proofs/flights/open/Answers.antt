@@ -1,5 +1,5 @@
 use Rattle.std.proofs.Common.{ℕ, List, ◌∷◌, [], ◌++◌, Some, ◌≡◌, ◌∙◌, ap, subst}
-use Rattle.fragment_cache.specs.Machine.{Kept, departed}
+use Rattle.fragment_cache.specs.Machine.{FlightState, departed}
 use Rattle.fragment_cache.specs.Index.{Changes}
 use Rattle.fragment_cache.proofs.FlightLemmas.{insert_entry-end, HaveSameNumbers-undone}
 use Rattle.fragment_cache.proofs.flights.open.Goals as goal
@@ -7,7 +7,7 @@ use Rattle.fragment_cache.proofs.flights.open.Goals as goal
 pub returns-in-Ok-clause-flights : goal.returns-in-Ok-clause-flights
 returns-in-Ok-clause-flights c =
     let same : c.departed-departed.result ≡ departed c.args.url.now = c.departed-departed.ensures ∙ ap departed c.in_ok-share.ensures in
-    c.in-Ok.ensures.entries ∙ insert_entry-end c.args.number c.departed-departed.result c.args.kept.now.entries c.requires.last ∙ ap (λ (f : Kept). c.args.kept.now.entries ++ (c.args.number, f) ∷ []) same
+    c.in-Ok.ensures.entries ∙ insert_entry-end c.args.number c.departed-departed.result c.args.by_number.now.entries c.requires.last ∙ ap (λ (f : FlightState). c.args.by_number.now.entries ++ (c.args.number, f) ∷ []) same
 
 pub returns-clause-index_stays : goal.returns-clause-index_stays
 returns-clause-index_stays c =

@@ -7,4 +7,4 @@ use Rattle.fragment_cache.proofs.flights.Flights.join.Goals as goal
 pub invariant_of-self : goal.invariant_of-self
 invariant_of-self c =
     subst (λ (fs : Flights). Indexed c.self.inside.flying fs c.self.inside.next) (sym c.note_pick_up.ensures)
-    (Indexed-picks c.self.inside.flying c.self.inside.kept.entries c.self.inside.next c.args.number one_more (λ f. refl) (λ f named. named) c.self.invariant)
+    (Indexed-picks c.self.inside.flying c.self.inside.by_number.entries c.self.inside.next c.args.number one_more (λ f. refl) (λ f named. named) c.self.invariant)

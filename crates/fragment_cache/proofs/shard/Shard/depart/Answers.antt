@@ -1,5 +1,5 @@
 use Rattle.std.proofs.Common.{◌≡◌, ℕ, Some, ◌∙◌, ap, subst}
-use Rattle.fragment_cache.specs.declared.kept.TheConstants.{MAX_PICKS}
+use Rattle.fragment_cache.specs.declared.flight_state.TheConstants.{MAX_PICKS}
 use Rattle.fragment_cache.specs.Machine.{Airspace, State, flying_at, picks_at}
 use Rattle.fragment_cache.proofs.FlightLemmas.{picks_at-full}
 use Rattle.fragment_cache.proofs.shard.Shard.depart.Goals as goal

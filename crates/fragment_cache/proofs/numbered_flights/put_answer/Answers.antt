@@ -1,7 +1,7 @@
 use Rattle.std.proofs.Common.{sym, ◌∙◌}
 use Rattle.fragment_cache.specs.Machine.{same_number, landed_with}
 use Rattle.fragment_cache.proofs.FlightLemmas.{set_value-changed}
-use Rattle.fragment_cache.proofs.kept_flights.put_answer.Goals as goal
+use Rattle.fragment_cache.proofs.numbered_flights.put_answer.Goals as goal
 
 pub returns : goal.returns
 returns c =

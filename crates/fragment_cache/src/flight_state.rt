@@ -8,30 +8,30 @@ pub const MAX_PICKS: u16 = u16::MAX;
 
 // A flight: its URL, the answer with which it landed (none while it is under way), the pick-ups left.
 #[derive(Drop)]
-pub(crate) struct Kept {
+pub(crate) struct FlightState {
     url: PageUrl,
     landed: Option<SharedAnswer>,
     picks: u16,
 }
 
-impl Model for Kept {
+impl Model for FlightState {
     ghost use Rattle.fragment_cache.specs.Machine as machine;
 
-    ghost Value = { machine.Kept };
+    ghost Value = { machine.FlightState };
 
     ghost view = { λ f. record { url = f.url; landed = f.landed; picks = f.picks } };
 }
 
-impl Kept {
+impl FlightState {
     ghost use Rattle.std.specs.Prelude.{◌≡◌, ◌<◌};
     ghost use Rattle.std.specs.Option.{option_copied};
     ghost use Rattle.fragment_cache.specs.Machine.{departed, one_more, one_fewer, landed_with};
 
     // A flight that has just left.
-    pub(crate) fn departed(url: PageUrl) -> Kept
+    pub(crate) fn departed(url: PageUrl) -> FlightState
         ensures { result ≡ departed url }
     {
-        Kept {
+        FlightState {
             url,
             landed: None,
             picks: 0,

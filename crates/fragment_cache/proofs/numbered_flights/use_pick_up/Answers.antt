@@ -1,7 +1,7 @@
 use Rattle.std.proofs.Common.{sym, ◌∙◌}
 use Rattle.fragment_cache.specs.Machine.{same_number, one_fewer}
 use Rattle.fragment_cache.proofs.FlightLemmas.{set_value-changed}
-use Rattle.fragment_cache.proofs.kept_flights.use_pick_up.Goals as goal
+use Rattle.fragment_cache.proofs.numbered_flights.use_pick_up.Goals as goal
 
 pub returns : goal.returns
 returns c =
