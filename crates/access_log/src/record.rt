@@ -84,11 +84,11 @@ pub struct RequestRecord {
     pub body: u64,
     /// The answers that the page asked the source for, its own among them; 0 for a refusal.
     pub answers: u64,
-    /// Those of them that were kept.
+    /// Those of them that were stored.
     pub hits: u64,
     /// Those that came by a fetch which another page had begun.
     pub joined: u64,
-    /// Those that were kept, and stood in for one that failed or would have come too late.
+    /// Those that were stored, and stood in for one that failed or would have come too late.
     pub bridged: u64,
     /// Those that didn't come.
     pub failed: u64,

@@ -12,14 +12,14 @@ way_told Failed by = way.Failed
 way_told (Got head control body) by = by
 
 abbrev pub no_way : WayCounts
-no_way = record { kept = 0; joined = 0; bridged = 0; fetched = 0; failed = 0 }
+no_way = record { stored = 0; joined = 0; bridged = 0; fetched = 0; failed = 0 }
 
 abbrev pub one_more : ℕ → ℕ
 one_more count = min (count + 1) (2 ^ 64 - 1)
 
 -- one answer more, which came by this way
 abbrev pub counted : Way → WayCounts → WayCounts
-counted way.Kept counts = record counts { kept = one_more counts.kept }
+counted way.Stored counts = record counts { stored = one_more counts.stored }
 counted way.Joined counts = record counts { joined = one_more counts.joined }
 counted way.Bridged counts = record counts { bridged = one_more counts.bridged }
 counted way.Fetched counts = record counts { fetched = one_more counts.fetched }

@@ -13,11 +13,11 @@ use std::sync::Arc;
 /// Our profile.
 #[derive(Clone, Copy, Debug, Drop, PartialEq, Eq)]
 pub enum Way {
-    /// It was kept.
-    Kept,
+    /// It was stored.
+    Stored,
     /// By a fetch that somebody else made.
     Joined,
-    /// It was kept, and is given in place of an answer that failed, or would have come too late.
+    /// It was stored, and is given in place of an answer that failed, or would have come too late.
     Bridged,
     /// By a fetch for whoever asked.
     Fetched,
@@ -39,8 +39,8 @@ pub struct Given {
 /// Our profile.
 #[derive(Clone, Copy, Debug, Drop, PartialEq, Eq)]
 pub struct WayCounts {
-    /// By `Way::Kept`.
-    pub kept: u64,
+    /// By `Way::Stored`.
+    pub stored: u64,
     /// By `Way::Joined`.
     pub joined: u64,
     /// By `Way::Bridged`.
@@ -87,7 +87,7 @@ impl WayCounts {
         ensures { result ≡ no_way }
     {
         WayCounts {
-            kept: 0,
+            stored: 0,
             joined: 0,
             bridged: 0,
             fetched: 0,
@@ -100,7 +100,7 @@ impl WayCounts {
         ensures { result ≡ counted way self }
     {
         match way {
-            Way::Kept => self.kept = self.kept.saturating_add(1),
+            Way::Stored => self.stored = self.stored.saturating_add(1),
             Way::Joined => self.joined = self.joined.saturating_add(1),
             Way::Bridged => self.bridged = self.bridged.saturating_add(1),
             Way::Fetched => self.fetched = self.fetched.saturating_add(1),

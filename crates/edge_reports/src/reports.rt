@@ -39,8 +39,8 @@ impl<R> Journal<R> for Reports
 where
     R: AllocGlobal + Clock + Eprint + Wait,
 {
-    fn is_kept(&self) -> bool {
-        self.measures.is_some() || self.log.is_kept()
+    fn is_enabled(&self) -> bool {
+        self.measures.is_some() || self.log.is_enabled()
     }
 
     fn served(&self, rt: &R, record: &RequestRecord) {

@@ -46,7 +46,7 @@ impl AccessLog {
     }
 
     /// Whether there is one.
-    pub(crate) fn is_kept(&self) -> bool
+    pub(crate) fn is_enabled(&self) -> bool
         ensures { result ≡ is_some self.now.format }
     {
         self.format.is_some()

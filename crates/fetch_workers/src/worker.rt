@@ -91,7 +91,7 @@ impl<'a, R: Wait, S: Source<R>, G: Gate<R>, D: Shared<R>> Worker<'a, R, S, G, D>
         ensures { OnOk result (AllOwn (S.gives self.now.source.now) mine.new.items) }
     {
         match self.source.ready(self.rt, self.alloc, ticket.url()) {
-            Ok(Some(answer)) => self.post(ticket, Given::new(answer, Way::Kept), mine),
+            Ok(Some(answer)) => self.post(ticket, Given::new(answer, Way::Stored), mine),
             Ok(None) => {
                 self.shared.set_aside(self.rt, ticket)?;
                 Ok(())

@@ -8,7 +8,7 @@ use Rattle.edge_types.specs.declared.outcome.PageFault.{PageFault}
 
 -- a text as it is, or nothing where there is no memory for it
 abbrev pub IsCopyOrEmpty : List ℕ → List ℕ → Type 0
-IsCopyOrEmpty text kept = (kept ≡ text) ⊎ (kept ≡ [])
+IsCopyOrEmpty text copy = (copy ≡ text) ⊎ (copy ≡ [])
 
 -- the status of a page, or its fault
 abbrev pub status_of : Outcome → Result ℕ PageFault

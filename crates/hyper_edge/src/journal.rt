@@ -28,7 +28,7 @@ use std::time::{Clock, Duration, Instant};
 /// Our profile.
 pub trait Journal<R> {
     /// Whether requests are to be reported. If not, no record is made.
-    fn is_kept(&self) -> bool;
+    fn is_enabled(&self) -> bool;
 
     /// A request was answered, and its response has been written or its connection has ended.
     fn served(&self, rt: &R, record: &RequestRecord);
@@ -68,7 +68,7 @@ pub trait Journal<R> {
 pub struct NoJournal;
 
 impl<R> Journal<R> for NoJournal {
-    fn is_kept(&self) -> bool {
+    fn is_enabled(&self) -> bool {
         false
     }
 
@@ -109,7 +109,7 @@ pub(crate) fn record_of<R, J: Journal<R>, B>(
     ensures status { result.status ≡ (sent responded.now.response).status }
     ensures body { result.body ≡ length (joined (sent responded.now.response).frames) }
     ensures answers { result.answers ≡ length responded.now.log.items }
-    ensures hits { result.hits ≡ responded.now.ways.kept }
+    ensures hits { result.hits ≡ responded.now.ways.stored }
     ensures joined { result.joined ≡ responded.now.ways.joined }
     ensures bridged { result.bridged ≡ responded.now.ways.bridged }
     ensures failed { result.failed ≡ responded.now.ways.failed }
@@ -124,7 +124,7 @@ pub(crate) fn record_of<R, J: Journal<R>, B>(
         status: responded.response.status().as_u16(),
         body: responded.response.body().size_hint().exact().unwrap_or(0),
         answers: responded.log.len() as u64,
-        hits: responded.ways.kept,
+        hits: responded.ways.stored,
         joined: responded.ways.joined,
         bridged: responded.ways.bridged,
         failed: responded.ways.failed,

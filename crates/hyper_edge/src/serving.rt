@@ -259,7 +259,7 @@ where
     /// Reports that this client was refused by the HTTP library, if it was.
     pub(crate) fn report_refusal(&self, client: Option<IpAddr>, refusal: Option<u16>) {
         if let Some(status) = refusal {
-            if self.journal.is_kept() {
+            if self.journal.is_enabled() {
                 let record = refused_head(self.service.alloc(), client, status);
                 self.journal.served(self.rt, &record);
             }

@@ -147,7 +147,7 @@ where
         F: Future<Output = hyper::Result<()>>,
     {
         let serving = self.serving;
-        let begun = match serving.journal.is_kept() {
+        let begun = match serving.journal.is_enabled() {
             true => Instant::now(serving.rt).ok(),
             false => None,
         };

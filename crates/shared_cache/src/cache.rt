@@ -244,7 +244,7 @@ impl<R: Wait, S: Source<R>, C: Clock<R>> Source<R> for Cache<S, C> {
         let shard = self.shards.of(url);
         match shard.begin(rt, url, self.clock.now(rt), self.most_waiting) {
             None => self.crowded_out(rt, alloc, url),
-            Some(Begun::Hit(answer)) => Ok(Given::new(answer, Way::Kept)),
+            Some(Begun::Hit(answer)) => Ok(Given::new(answer, Way::Stored)),
             Some(Begun::Join(number)) => self.join(rt, alloc, shard, url, number),
             Some(Begun::Lead(flight, ready)) => self.lead(rt, alloc, shard, flight, ready),
             Some(Begun::Bypass) => self.source.fetch(rt, alloc, url),

@@ -252,7 +252,7 @@ struct Counting {
 }
 
 impl<R> Journal<R> for Counting {
-    fn is_kept(&self) -> bool {
+    fn is_enabled(&self) -> bool {
         true
     }
 

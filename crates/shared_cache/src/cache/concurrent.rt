@@ -260,7 +260,9 @@ where
         let landings = shard.landings();
         match shard.begin(rt, url, self.clock.now(rt), self.most_waiting) {
             None => Ok(in_flight.here.push(self.crowded_out(rt, alloc, url)?)?),
-            Some(Begun::Hit(answer)) => { Ok(in_flight.here.push(Given::new(answer, Way::Kept))?) }
+            Some(Begun::Hit(answer)) => {
+                Ok(in_flight.here.push(Given::new(answer, Way::Stored))?)
+            }
             Some(Begun::Join(number)) => {
                 let joined = Joined {
                     url: own,
