@@ -7,8 +7,8 @@ ghost use Rattle.shared_cache.specs.declared.placing.Placing.TheVariants.{BySum,
 
 mod concurrent;
 
-use crate::kept_plans::KeptPlans;
 use crate::placing::Placing;
+use crate::plan_shelves::PlanShelves;
 use crate::shards::Shards;
 use crate::shared_shard::SharedShard;
 use answer_sources::{Clock, Found, Given, OnBehalf, Source, Way};
@@ -34,7 +34,7 @@ pub struct Cache<S, C> {
     // Shared with the caches over sources that are asked on behalf of requests that have passed other edges.
     pub(crate) shards: Arc<Shards>,
     // Shared in the same way.
-    plans: Arc<KeptPlans>,
+    plans: Arc<PlanShelves>,
     // How many may wait for one flight, where that is bounded.
     most_waiting: Option<u32>,
 }
@@ -110,7 +110,7 @@ impl<S: Drop, C: Drop> Cache<S, C> {
             source,
             clock,
             shards: Arc::new(alloc, shards)?,
-            plans: Arc::new(alloc, KeptPlans::new(alloc, capacity, placing)?)?,
+            plans: Arc::new(alloc, PlanShelves::new(alloc, capacity, placing)?)?,
             most_waiting: None,
         })
     }

@@ -3,9 +3,9 @@
 
 mod cache;
 mod cache_flights;
-mod kept_plans;
 pub mod laws;
 mod placing;
+mod plan_shelves;
 mod shards;
 mod shared_shard;
 mod upkeep;

@@ -247,7 +247,7 @@ impl SharedShard {
     // Lands a flight with the failed answer of its leader, unless somebody else waits for it: then it comes back. Those who
     // have left it may have bells there yet.
     pub(crate) fn land_unless_awaited<R: Wait>(&self, rt: &R, led: Led, now: u64) -> Option<Led>
-        ensures { IfSome result (λ kept. kept.flight ≡ led.flight) }
+        ensures { IfSome result (λ back. back.flight ≡ led.flight) }
     {
         let mut shelf = self.lock(rt);
         if shelf.waiting(led.flight.number()) > 0 {

@@ -7,7 +7,7 @@ use std::sync::Wait;
 
 impl<S, C> Cache<S, C> {
     /// Forgets the answer of a URL, which then neither answers nor bridges until the URL is fetched again. Returns whether
-    /// there was one. A fetch that is under way is kept once it has come, though it may have begun before.
+    /// there was one. A fetch that is under way is stored once it has come, though it may have begun before.
     ///
     /// Our profile.
     pub fn purge<R: Wait>(&self, rt: &R, url: &PageUrl) -> bool {
@@ -28,7 +28,7 @@ impl<S, C> Cache<S, C> {
         Ok(count)
     }
 
-    /// What is kept, and what was asked for since the cache was made.
+    /// What is stored, and what was asked for since the cache was made.
     ///
     /// Our profile.
     pub fn tally<R: Wait>(&self, rt: &R) -> CacheTally {

@@ -1,4 +1,4 @@
-//! What a cache made of the answers that it keeps. Each call locks, makes one call and unlocks; nothing is read or
+//! What a cache made of the answers that it stores. Each call locks, makes one call and unlocks; nothing is read or
 //! compiled under a lock.
 
 ghost use Rattle.std.specs.Prelude.{◌≡◌, ◌≤◌, ◌<◌, [], bytes_eq, IfOk, IfSome, IsTrue, OnOk, OnErr};
@@ -19,12 +19,12 @@ use std::array;
 use std::num::NonZeroUsize;
 use std::sync::{Arc, Mutex, Wait};
 
-// The most steps and parts of texts that a plan which is kept can have: about as much memory as the longest body.
+// The most steps and parts of texts that a plan on a shelf can have: about as much memory as the longest body.
 //
 // Our profile.
-const MAX_KEPT_PARTS: usize = 2048;
+const MAX_PLAN_PARTS: usize = 2048;
 
-// What is kept of the answers of a shard, that of the latest use first.
+// What was made of the answers of a shard, that of the latest use first.
 #[derive(Drop)]
 struct PlanShelf {
     plans: LruCache<PageUrl, Prepared, UrlHashing>,
@@ -44,13 +44,13 @@ impl PlanShelf {
         Ok(PlanShelf { plans })
     }
 
-    // A second owner of what is kept for a URL, which becomes the newest.
+    // A second owner of what stands there for a URL, which becomes the newest.
     fn find(&mut self, url: &PageUrl) -> Result<Option<Prepared>, NoMemory>
         ensures found { IfOk result (λ found. found ≡ lookup (bytes_eq url.now) self.old.plans.entries) }
         ensures shelf { self.new.plans ≡ lru_cache (promoted (bytes_eq url.now) self.old.plans.entries) self.old.plans.cap }
     {
         match self.plans.get(url) {
-            Some(kept) => Ok(Some(kept.share()?)),
+            Some(prepared) => Ok(Some(prepared.share()?)),
             None => Ok(None),
         }
     }
@@ -72,20 +72,20 @@ impl PlanShelf {
 /// What a cache made of its answers: of the latest one of each URL that is processed and to be stored, since the others
 /// cost nothing to make ready or aren't asked for again. In each shard there are no more of them than of answers.
 #[derive(Drop)]
-pub(crate) struct KeptPlans {
+pub(crate) struct PlanShelves {
     placing: Placing,
     shelves: [Mutex<PlanShelf>; SHARDS],
 }
 
-// Whether what is made of an answer is kept.
-fn is_to_be_kept(answer: &Answer) -> bool {
+// Whether what is made of an answer is put on its shelf.
+fn is_to_be_shelved(answer: &Answer) -> bool {
     answer.processed() && is_to_be_stored(answer)
 }
 
 // Whether there is room for what a body is.
 fn is_small(form: &Form) -> bool {
     match form {
-        Form::Planned(plan) => parts_of(plan) <= MAX_KEPT_PARTS,
+        Form::Planned(plan) => parts_of(plan) <= MAX_PLAN_PARTS,
         Form::Plain | Form::BadAt(_) => true,
     }
 }
@@ -111,13 +111,13 @@ fn parts_in(step: &Step) -> usize {
     }
 }
 
-impl KeptPlans {
-    /// Nothing is kept yet, and then of at most so many answers in each shard.
+impl PlanShelves {
+    /// Empty shelves, each with room for what is made of so many answers.
     pub(crate) fn new(
         alloc: Global,
         capacity: usize,
         placing: Placing,
-    ) -> Result<KeptPlans, NoMemory>
+    ) -> Result<PlanShelves, NoMemory>
         requires { 1 ≤ capacity }
         ensures { IfOk result (λ plans. plans.placing ≡ placing) }
     {
@@ -129,16 +129,16 @@ impl KeptPlans {
         let shelves: [Mutex<PlanShelf>; SHARDS] = array::try_from_fn(|_| empty_shelf(
             alloc, capacity, hashing,
         ))?;
-        Ok(KeptPlans { placing, shelves })
+        Ok(PlanShelves { placing, shelves })
     }
 
-    // Where what is made of the answers of a URL is kept.
+    // Where what is made of the answers of a URL is put.
     fn shelf_of(&self, url: &PageUrl) -> &Mutex<PlanShelf> {
         &self.shelves[self.placing.shard_of(url)]
     }
 
-    /// The answer, made ready: what is kept of this very answer, or what is made of it now, and then kept where that is
-    /// worth it.
+    /// The answer, made ready: what was made of this very answer, or what is made of it now, and then put on its shelf
+    /// where that is worth it.
     pub(crate) fn prepared<R: Wait>(
         &self,
         rt: &R,
@@ -147,23 +147,24 @@ impl KeptPlans {
     ) -> Result<Prepared, NoMemory>
         ensures { IfOk result (λ prepared. prepared ≡ arc_value answer) }
     {
-        if !is_to_be_kept(&answer) {
+        if !is_to_be_shelved(&answer) {
             return Prepared::of(alloc, answer);
         }
-        if let Some(kept) = self.kept(rt, &answer) {
-            return Ok(kept);
+        if let Some(found) = self.find(rt, &answer) {
+            return Ok(found);
         }
         let prepared = Prepared::of(alloc, answer)?;
         if is_small(prepared.form()) {
-            // Without memory for it nothing is kept.
-            let _ = self.keep(rt, &prepared);
+            // Without memory for it nothing is put there.
+            let _ = self.put(rt, &prepared);
         }
         Ok(prepared)
     }
 
-    /// Makes an answer ready for those who will ask for that, where it is kept. Without memory for it nothing is.
+    /// Makes an answer ready for those who will ask for that, where it is put on its shelf. Without memory for it
+    /// nothing is.
     pub(crate) fn prepare<R: Wait>(&self, rt: &R, alloc: Global, answer: &Arc<Answer>) {
-        if !is_to_be_kept(answer) {
+        if !is_to_be_shelved(answer) {
             return;
         }
         if let Ok(own) = Arc::try_clone(answer) {
@@ -171,19 +172,20 @@ impl KeptPlans {
         }
     }
 
-    // What is kept of this very answer. The answers are compared once the lock is left.
-    fn kept<R: Wait>(&self, rt: &R, answer: &Answer) -> Option<Prepared>
-        ensures { IfSome result (λ kept. kept ≡ answer.now) }
+    // What was made of this very answer. The answers are compared once the lock is left.
+    fn find<R: Wait>(&self, rt: &R, answer: &Answer) -> Option<Prepared>
+        ensures { IfSome result (λ found. found ≡ answer.now) }
     {
         let found = self.shelf_of(answer.url()).lock(rt).find(answer.url());
         match found {
-            Ok(Some(kept)) if same_answer(kept.answer(), answer) => Some(kept),
+            Ok(Some(found)) if same_answer(found.answer(), answer) => Some(found),
             _ => None,
         }
     }
 
-    // Keeps this for its URL, in place of what was kept for it. What it pushes out is dropped once the lock is left.
-    fn keep<R: Wait>(&self, rt: &R, prepared: &Prepared) -> Result<(), NoMemory> {
+    // Puts this on the shelf of its URL, in place of what stood there for it. What it pushes out is dropped once the
+    // lock is left.
+    fn put<R: Wait>(&self, rt: &R, prepared: &Prepared) -> Result<(), NoMemory> {
         let (url, own) = (prepared.url().share()?, prepared.share()?);
         let _pushed_out = self.shelf_of(prepared.url()).lock(rt).put(url, own)?;
         Ok(())
