@@ -314,7 +314,7 @@ where
         }
     }
 
-    // Parks a connection. Without room for that, it ends.
+    // Parks a connection. Without room for that, it ends, and what is to be reported of it is.
     fn park_connection(&self, session: Session<F, R, S>, pause: Pause) {
         let rt = self.serving.rt;
         let waiting = Waiting::Connection(session);
@@ -328,10 +328,11 @@ where
         });
         match parked {
             Ok(()) => self.roster.parked(rt),
-            Err(left) => {
-                drop(left);
+            Err(Some(Waiting::Connection(session))) => {
+                self.serving.end(session);
                 self.ended();
             }
+            Err(_) => self.ended(),
         }
     }
 
