@@ -1,5 +1,5 @@
 -- What the edge takes in, as a test and as a fact.
-use Rattle.std.proofs.Common.{◌≡◌, ℕ, ◌<◌, ◌≤◌, List, length, refl, sym, ◌∙◌, ap, Option, Some, None, IfSome, arith, leb}
+use Rattle.std.proofs.Common.{◌≡◌, ℕ, ◌<◌, ◌≤◌, List, [], length, refl, sym, ◌∙◌, ap, Option, Some, None, IfSome, arith, leb}
 use Rattle.std.proofs.lemmas.Bool.{leb-true, le-leb, cond-true, cond-false, false_from_ne_true, false≢true}
 use Rattle.std.proofs.lemmas.Bool.Decides.{Decides-and, Decides-like, Decides-by_and}
 use Rattle.std.specs.Bool.{Decides}
@@ -10,6 +10,7 @@ use Rattle.edge_types.specs.declared.answer.TheConstants.{MAX_BODY}
 use Rattle.edge_types.specs.declared.head.TheConstants.{MIN_STATUS, MAX_STATUS, MAX_CONTENT_TYPE}
 use Rattle.edge_types.specs.Answered.{Answered, IsAcceptable, got}
 use Rattle.edge_types.specs.Head.{IsPrintable, head_of}
+use Rattle.edge_types.specs.HeadFields.{AreHeadFields}
 use Rattle.edge_types.specs.declared.control.Control.{Control}
 use Rattle.surrogate_headers.specs.Control.{control_of}
 use Rattle.edge_case.specs.Case.{device}
@@ -24,12 +25,16 @@ printable-decides b = Decides-and (leb 32 b) (leb b 126) (le-decides 32 b) (le-d
 printables-decide : (text : List ℕ) → Decides (list_all is_printable text) (All IsPrintable text)
 printables-decide text = Decides-by_and is_printable IsPrintable (list_all is_printable) printable-decides refl (λ x xs. refl) text
 
+-- no further fields are always taken in
+no_fields : AreHeadFields []
+no_fields = record { valid = λ k d within. absurd (omega arith); short = omega arith }
+
 pub acceptable-decides : (status : ℕ) (content_type body : List ℕ) → Decides (is_acceptable status content_type body) (IsAcceptable (head_of status content_type) body)
 unfolding is_acceptable
 acceptable-decides status content_type body =
     Decides-like (is_acceptable status content_type body)
     (λ h. record {
-      head = record { status_from = h.0; status_to = h.1.0; content_type = record { short = h.1.1.1.0; printable = h.1.1.1.1 } };
+      head = record { status_from = h.0; status_to = h.1.0; content_type = record { short = h.1.1.1.0; printable = h.1.1.1.1 }; fields = no_fields };
       body_length = h.1.1.0;
     })
     (λ h. (h.head.status_from, (h.head.status_to, (h.body_length, (h.head.content_type.short, h.head.content_type.printable)))))

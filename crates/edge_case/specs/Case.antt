@@ -9,7 +9,7 @@ use Rattle.edge_types.specs.Head.{head_of}
 use Rattle.edge_types.specs.Query.{query_of}
 use Rattle.edge_types.specs.Table.{IsTable}
 use Rattle.surrogate_headers.specs.Control.{control_of}
-use Rattle.surrogate_headers.specs.Token.{own_device}
+use Rattle.surrogate_headers.specs.Capability.{own_device}
 use Rattle.edge_case.specs.declared.case_text.Case.{Case}
 use Rattle.edge_case.specs.declared.case_text.TheConstants.{MAX_CASE}
 use Rattle.edge_case.specs.Document.{Heading, Entry, Failed, Got, Document, IsDocument, spelling}

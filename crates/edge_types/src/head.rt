@@ -1,8 +1,9 @@
 //! What the head of an answer says, and that of a page.
 
-ghost use Rattle.std.specs.Prelude.{◌≡◌, ◌↔◌, IsTrue, IfOk};
+ghost use Rattle.std.specs.Prelude.{◌≡◌, ◌↔◌, ◌≤◌, IsTrue, IfOk};
 ghost use Rattle.edge_types.specs.Head.{HeadLimits, IsContentType, head_of, is_success};
 
+use crate::head_fields::HeadFields;
 use crate::no_memory::NoMemory;
 use crate::octets::Octets;
 use std::alloc::Global;
@@ -22,6 +23,8 @@ pub struct Head {
     pub status: u16,
     /// The `Content-Type` field; empty if absent.
     pub content_type: Octets,
+    /// Further fields for the page's reader, in the order in which he gets them.
+    pub fields: HeadFields,
 }
 
 impl Head {
@@ -32,26 +35,36 @@ impl Head {
         Head {
             status,
             content_type,
+            fields: HeadFields::none(),
         }
     }
 
-    /// Copies the head.
+    /// Copies the head; its fields get one more owner.
     pub fn copy(&self, alloc: Global) -> Result<Head, NoMemory>
         ensures { IfOk result (λ copy. copy ≡ self.now) }
     {
         Ok(Head {
             status: self.status,
             content_type: self.content_type.copy(alloc)?,
+            fields: self.fields.share()?,
         })
     }
 
-    /// Whether the edge accepts an answer with this head: the status is `MIN_STATUS` to `MAX_STATUS`, and the content
-    /// type is one. Takes no memory.
+    /// Whether the edge accepts an answer with this head: the status is `MIN_STATUS` to `MAX_STATUS`, the content type
+    /// is one, and so are the fields. Takes no memory.
     pub fn is_acceptable(&self) -> bool
         ensures { IsTrue result ↔ HeadLimits self.now }
     {
-        (MIN_STATUS..=MAX_STATUS).contains(&self.status)
+        self.has_status()
             && is_content_type(self.content_type.as_bytes())
+            && self.fields.are_acceptable()
+    }
+
+    /// Whether an answer may have the status: it is `MIN_STATUS` to `MAX_STATUS`. Takes no memory.
+    pub fn has_status(&self) -> bool
+        ensures { IsTrue result ↔ (200 ≤ self.now.status) × (self.now.status ≤ 599) }
+    {
+        (MIN_STATUS..=MAX_STATUS).contains(&self.status)
     }
 
     /// Whether the status is one of success, 200 to 299. Takes no memory.

@@ -1,5 +1,5 @@
 //! The values that every layer of the edge speaks of: URLs, answers, requests, tables and outcomes; and the small readers
-//! of bytes that several layers share: white space, blanks, and the first place of a byte.
+//! of bytes that several layers share: white space, blanks, tokens, and the first place of a byte.
 #![tactic(auto)]
 
 mod answer;
@@ -8,6 +8,7 @@ mod compare;
 mod control;
 mod halves;
 mod head;
+mod head_fields;
 pub mod laws;
 mod no_memory;
 mod octets;
@@ -18,6 +19,7 @@ mod request;
 mod shared_answer;
 mod shared_bytes;
 mod table;
+mod token;
 mod white_space;
 
 pub use answer::{Answer, MAX_BODY, Reply};
@@ -25,6 +27,7 @@ pub use blanks::{is_blank, skip_blanks, trimmed};
 pub use control::Control;
 pub use halves::{around, find_byte};
 pub use head::{Head, MAX_CONTENT_TYPE, MAX_STATUS, MIN_STATUS, is_content_type};
+pub use head_fields::{HeadField, HeadFields, MAX_FIELDS};
 pub use no_memory::NoMemory;
 pub use octets::Octets;
 pub use outcome::{Outcome, PageFault};
@@ -34,4 +37,5 @@ pub use request::{Request, RequestField, SaysFields, query_of};
 pub use shared_answer::SharedAnswer;
 pub use shared_bytes::SharedBytes;
 pub use table::{InsertFault, Table};
+pub use token::is_token;
 pub use white_space::{after_ws, is_ws, ws_len};

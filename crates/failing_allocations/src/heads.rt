@@ -4,7 +4,8 @@ use crate::values::print_request;
 use allocation_tools::printing::{answers, bytes, calls, number, out_of_memory, word};
 use bytes::Bytes;
 use edge_types::{
-    Head, NoMemory, Octets, Outcome, PageBody, PageFault, PageUrl, Request, SharedBytes,
+    Head, HeadField, HeadFields, NoMemory, Octets, Outcome, PageBody, PageFault, PageUrl, Request,
+    SharedBytes,
 };
 use futures::task::{Context, Poll};
 use futures::{Future, FutureExt};
@@ -82,15 +83,20 @@ pub fn passed_edges(rt: &HostRuntime, name: &str) -> Option<()> {
     }
 }
 
-// A page of one piece.
+// A page of one piece, with a field of its own.
 fn page(alloc: Global) -> Option<Arc<Outcome>> {
     let mut body = PageBody::new(alloc);
     body.push(SharedBytes::copy_of(alloc, b"A").ok()?).ok()?;
-    let page = Outcome::Page {
-        head: Head::of(200, Octets::copy_of(alloc, b"text/html").ok()?),
-        body,
-    };
-    Arc::new(alloc, page).ok()
+    let mut head = Head::of(200, Octets::copy_of(alloc, b"text/html").ok()?);
+    let mut fields = Vec::new(alloc);
+    fields
+        .push(HeadField {
+            name: Octets::copy_of(alloc, b"x-page").ok()?,
+            value: Octets::copy_of(alloc, b"1").ok()?,
+        })
+        .ok()?;
+    head.fields = HeadFields::of(alloc, fields).ok()?;
+    Arc::new(alloc, Outcome::Page { head, body }).ok()
 }
 
 pub fn page_response(rt: &HostRuntime, name: &str) -> Option<()> {

@@ -4,10 +4,10 @@ use allocation_tools::printing::{answers, bytes, calls, number, out_of_memory, w
 use allocation_tools::values::{answer, processed, request, url};
 use edge_types::{
     Answer, Control, InsertFault, NoMemory, PageBody, PageUrl, Request, RequestField, SharedAnswer,
-    SharedBytes, Table,
+    SharedBytes, Table, is_token,
 };
 use std::sync::Arc;
-use surrogate_headers::{is_token, own_device};
+use surrogate_headers::own_device;
 
 /// Prints the fields that a request has, and its query.
 pub fn print_request(rt: &HostRuntime, request: &Request) -> Option<()> {

@@ -1,10 +1,12 @@
 -- What is sent to a client.
-use Rattle.std.specs.Prelude.{◌≡◌, ◌⊎◌, ℕ, ◌≤◌, Bool, ◌||◌, ◌==◌, List, [], ◌∷◌, codes, if◌then◌else◌}
+use Rattle.std.specs.Prelude.{◌≡◌, ◌⊎◌, ℕ, ◌≤◌, Bool, ◌||◌, ◌==◌, List, [], ◌∷◌, map, All, codes, if◌then◌else◌}
 use Rattle.http.specs.declared.response.Response.{Response}
 use Rattle.http.specs.Response.{head_of, body_of}
 use Rattle.http_header.specs.FieldValue.{FieldValue, plain_value, IsFieldValue}
-use Rattle.http_header.specs.HeaderMap.{Entry, Entries}
+use Rattle.http_header.specs.FieldName.{IsHeaderName}
+use Rattle.http_header.specs.HeaderMap.{Entry, Entries, append_all}
 use Rattle.edge_types.specs.declared.head.Head.{Head}
+use Rattle.edge_types.specs.declared.head_fields.HeadField.{HeadField}
 use Rattle.edge_types.specs.declared.outcome.Outcome.{Outcome}
 use Rattle.edge_types.specs.declared.outcome.Outcome.TheVariants.{Page, Fault}
 
@@ -52,20 +54,34 @@ refusal status =
 abbrev pub is_bodiless : ℕ → Bool
 is_bodiless status = status == 204 || status == 205 || status == 304
 
--- a page: the status and the type of its head, and a frame for each piece of its body
+-- the name and the value of a further field
+abbrev pub line_of : HeadField → List ℕ × FieldValue
+line_of field = (field.name, plain_value field.value)
+
+-- the fields of a page: its type, and a line for each further one, in order
+abbrev pub page_fields : Head → Entries FieldValue
+page_fields head = append_all (type_field head.content_type) (map line_of head.fields)
+
+-- a page: the status and the fields of its head, and a frame for each piece of its body
 abbrev pub page : Head → List (List ℕ) → Sent
 page head pieces = record {
   status = head.status;
-  fields = type_field head.content_type;
+  fields = page_fields head;
   frames = if is_bodiless head.status then [] else pieces;
 }
 
--- HTTP carries the status as a final one, and the type as a field's value (RFC 9110, sections 15
+-- HTTP carries the field (RFC 9110, sections 5.1 and 5.5)
+pub record IsLine (field : HeadField) : Type 0 where
+  pub name : IsHeaderName field.name
+  pub value : IsFieldValue field.value
+
+-- HTTP carries the status as a final one, the type as a field's value, and each further field (RFC 9110, sections 15
 -- and 5.5): so it does for each answer that the edge accepts
 pub record IsSendable (head : Head) : Type 0 where
   pub status_from : 200 ≤ head.status
   pub status_to : head.status ≤ 599
   pub type_value : IsFieldValue head.content_type
+  pub lines : All IsLine head.fields
 
 -- a response reports an outcome: a page as it is, and a fault as there being no page. What
 -- HTTP can't carry counts as a fault

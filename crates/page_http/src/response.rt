@@ -1,25 +1,30 @@
 //! What is sent for an outcome, and for a request that doesn't ask for a page.
-ghost use Rattle.std.specs.Prelude.{◌≡◌, ◌∷◌, [], IfOk, MatchOption, codes, ◌≤◌};
+ghost use Rattle.std.specs.Prelude.{◌≡◌, ◌∷◌, [], All, IfOk, MatchOption, codes, map, ◌≤◌};
 ghost use Rattle.std.specs.Arc.{arc_value};
+ghost use Rattle.http_header.specs.FieldName.{IsHeaderName};
+ghost use Rattle.http_header.specs.FieldValue.{plain_value, IsFieldValue};
+ghost use Rattle.http_header.specs.HeaderMap.{append, append_all};
 ghost use Rattle.page_http.specs.Sent as spec;
 
 use crate::body::EdgeBody;
-use edge_types::{Head, MAX_STATUS, MIN_STATUS, NoMemory, Outcome};
-use http::header::{ALLOW, CONTENT_TYPE, HeaderValue, HeaderValueError};
+use edge_types::{Head, HeadField, MAX_STATUS, MIN_STATUS, NoMemory, Outcome};
+use http::header::{
+    ALLOW, CONTENT_TYPE, HeaderName, HeaderNameError, HeaderValue, HeaderValueError,
+};
 use http::response::Parts;
-use http::{Response, StatusCode};
+use http::{HeaderMap, Response, StatusCode};
 use std::alloc::Global;
 use std::sync::Arc;
 
 /// Makes the response for an outcome.
 ///
-/// A page has its status, its content type if that isn't empty, and a frame for each piece of
-/// its body; with 204, 205 and 304 none. A fault is sent as 502 with a text of the edge's own, and so
-/// is a page whose status isn't 200 to 599 or whose content type isn't valid in a field.
+/// A page has its status, its content type if that isn't empty, its head's further fields, and a frame for each piece of
+/// its body; with 204, 205 and 304 none. A fault is sent as 502 with a text of the edge's own, and so is a page whose
+/// status isn't 200 to 599, or whose content type or fields aren't valid in HTTP.
 ///
 /// The only refusal is out of memory; the outcome is dropped then.
 ///
-/// Source: RFC 9110, "Status Codes" and "Field Values"; our profile.
+/// Source: RFC 9110, "Status Codes", "Field Names" and "Field Values"; our profile.
 pub fn response_of(alloc: Global, outcome: Arc<Outcome>) -> Result<Response<EdgeBody>, NoMemory>
     ensures { IfOk result (λ response. spec.Tells (arc_value outcome) (spec.sent response)) }
 {
@@ -109,26 +114,106 @@ fn own_head(alloc: Global, status: StatusCode) -> Result<Parts, NoMemory>
 fn page_parts(alloc: Global, head: &Head) -> Result<Option<Parts>, NoMemory>
     ensures { IfOk result (λ parts. MatchOption parts (¬ (spec.IsSendable head.now))
         (λ parts. spec.IsSendable head.now × (parts.status ≡ head.now.status)
-        × (parts.headers ≡ spec.type_field head.now.content_type))) }
+        × (parts.headers ≡ spec.page_fields head.now))) }
 {
     let Some(status) = final_status(head.status) else {
         return Ok(None);
     };
+    let Some(typed) = type_field(alloc, head.content_type.as_bytes())? else {
+        return Ok(None);
+    };
+    let Some(headers) = with_lines(alloc, typed, head.fields.as_slice())? else {
+        return Ok(None);
+    };
     let mut parts = Parts::new(alloc);
     parts.status = status;
-    let content_type = head.content_type.as_bytes();
+    parts.headers = headers;
+    Ok(Some(parts))
+}
+
+// The field of a content type, if there is one; `None` if HTTP can't carry it.
+fn type_field(
+    alloc: Global,
+    content_type: &[u8],
+) -> Result<Option<HeaderMap<HeaderValue>>, NoMemory>
+    ensures { IfOk result (λ made. MatchOption made (¬ (IsFieldValue content_type.now))
+        (λ fields. IsFieldValue content_type.now × (fields ≡ spec.type_field content_type.now))) }
+{
+    let mut fields = HeaderMap::new(alloc);
     if content_type.is_empty() {
-        return Ok(Some(parts));
+        return Ok(Some(fields));
     }
-    let value = match HeaderValue::from_bytes(alloc, content_type) {
-        Ok(value) => value,
-        Err(HeaderValueError::Invalid) => return Ok(None),
-        Err(HeaderValueError::OutOfMemory) => return Err(NoMemory),
+    let Some(value) = value_of(alloc, content_type)? else {
+        return Ok(None);
     };
-    if parts.headers.insert(CONTENT_TYPE, value).is_err() {
+    if fields.insert(CONTENT_TYPE, value).is_err() {
         return Err(NoMemory);
     }
-    Ok(Some(parts))
+    Ok(Some(fields))
+}
+
+// These fields with further ones behind them; `None` if HTTP can't carry one of those.
+fn with_lines(
+    alloc: Global,
+    mut fields: HeaderMap<HeaderValue>,
+    mut lines: &[HeadField],
+) -> Result<Option<HeaderMap<HeaderValue>>, NoMemory>
+    ensures { IfOk result (λ made. MatchOption made (¬ (All spec.IsLine lines.now))
+        (λ all. All spec.IsLine lines.now × (all ≡ append_all fields (map spec.line_of lines.now)))) }
+{
+    while let [first, rest @ ..] = lines {
+        let Some(more) = with_line(alloc, fields, first)? else {
+            return Ok(None);
+        };
+        fields = more;
+        lines = rest;
+    }
+    Ok(Some(fields))
+}
+
+// These fields with a further one behind them; `None` if HTTP can't carry it.
+fn with_line(
+    alloc: Global,
+    mut fields: HeaderMap<HeaderValue>,
+    line: &HeadField,
+) -> Result<Option<HeaderMap<HeaderValue>>, NoMemory>
+    ensures { IfOk result (λ made. MatchOption made (¬ (spec.IsLine line.now))
+        (λ all. spec.IsLine line.now × (all ≡ append fields line.now.name (plain_value line.now.value)))) }
+{
+    let Some(name) = name_of(alloc, line.name.as_bytes())? else {
+        return Ok(None);
+    };
+    let Some(value) = value_of(alloc, line.value.as_bytes())? else {
+        return Ok(None);
+    };
+    if fields.append(name, value).is_err() {
+        return Err(NoMemory);
+    }
+    Ok(Some(fields))
+}
+
+// A field's name; `None` if it isn't one in lower case.
+fn name_of(alloc: Global, bytes: &[u8]) -> Result<Option<HeaderName>, NoMemory>
+    ensures { IfOk result (λ made. MatchOption made (¬ (IsHeaderName bytes.now))
+        (λ name. IsHeaderName bytes.now × (name ≡ bytes.now))) }
+{
+    match HeaderName::from_lowercase(alloc, bytes) {
+        Ok(name) => Ok(Some(name)),
+        Err(HeaderNameError::Invalid) => Ok(None),
+        Err(HeaderNameError::OutOfMemory) => Err(NoMemory),
+    }
+}
+
+// A field's value; `None` if HTTP can't carry it.
+fn value_of(alloc: Global, bytes: &[u8]) -> Result<Option<HeaderValue>, NoMemory>
+    ensures { IfOk result (λ made. MatchOption made (¬ (IsFieldValue bytes.now))
+        (λ value. IsFieldValue bytes.now × (value ≡ plain_value bytes.now))) }
+{
+    match HeaderValue::from_bytes(alloc, bytes) {
+        Ok(value) => Ok(Some(value)),
+        Err(HeaderValueError::Invalid) => Ok(None),
+        Err(HeaderValueError::OutOfMemory) => Err(NoMemory),
+    }
 }
 
 // A status that ends an exchange.

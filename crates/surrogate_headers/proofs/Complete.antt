@@ -13,7 +13,7 @@ use Rattle.surrogate_headers.specs.declared.directive.Name.{Name}
 use Rattle.surrogate_headers.specs.declared.directive.Name.TheVariants as name
 use Rattle.surrogate_headers.specs.declared.directive.Asks.{Asks}
 use Rattle.surrogate_headers.specs.declared.directive.Asks.TheVariants.{NoStore, MaxAge, Content}
-use Rattle.surrogate_headers.specs.Token.{is_token_byte, is_token}
+use Rattle.edge_types.specs.Token.{is_token_byte, is_token}
 use Rattle.edge_types.specs.Blanks.{is_blank, skip_blanks}
 use Rattle.edge_types.specs.WhiteSpace.{is_ws}
 use Rattle.edge_types.specs.Halves.{around}

@@ -13,7 +13,7 @@ use Rattle.surrogate_headers.specs.declared.directive.Name.{Name}
 use Rattle.surrogate_headers.specs.declared.directive.Name.TheVariants as name
 use Rattle.surrogate_headers.specs.declared.directive.Asks.{Asks}
 use Rattle.surrogate_headers.specs.declared.directive.Asks.TheVariants.{NoStore, MaxAge, Content}
-use Rattle.surrogate_headers.specs.Token.{is_token}
+use Rattle.edge_types.specs.Token.{is_token}
 use Rattle.edge_types.specs.Blanks.{is_blank, skip_blanks}
 use Rattle.edge_types.specs.Halves.{around}
 use Rattle.surrogate_headers.specs.Parameter.{ends_value, bare_value, value_after_equals, value_at, seconds_of, age, age_around, age_of, names_esi}

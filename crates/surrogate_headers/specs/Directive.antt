@@ -3,7 +3,7 @@ use Rattle.std.specs.Prelude.{ℕ, Bool, ◌||◌, ◌==◌, List, [], ◌∷◌
 use Rattle.std.specs.List.{position_or_len}
 use Rattle.std.specs.Borrow.{Bor}
 use Rattle.std.specs.Str.{byte, str_eq_ignore_ascii_case}
-use Rattle.surrogate_headers.specs.Token.{is_token}
+use Rattle.edge_types.specs.Token.{is_token}
 use Rattle.edge_types.specs.Blanks.{is_blank, skip_blanks}
 use Rattle.surrogate_headers.specs.Parameter.{◌>>=◌, value_at, age_of, names_esi}
 use Rattle.surrogate_headers.specs.declared.directive.Name.{Name}

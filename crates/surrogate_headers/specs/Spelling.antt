@@ -7,7 +7,7 @@ use Rattle.std.specs.Str.Parse.{digits_value}
 use Rattle.surrogate_headers.specs.declared.parameter.Age.{Age}
 use Rattle.surrogate_headers.specs.declared.directive.Asks.{Asks}
 use Rattle.surrogate_headers.specs.declared.directive.Asks.TheVariants.{NoStore, MaxAge, Content}
-use Rattle.surrogate_headers.specs.Token.{is_token}
+use Rattle.edge_types.specs.Token.{is_token}
 use Rattle.edge_types.specs.Blanks.{is_blank}
 use Rattle.surrogate_headers.specs.Parameter.{ends_value, max_seconds, names_esi}
 use Rattle.surrogate_headers.specs.Directive.{Target, Every, Device, Directive, directive_of}

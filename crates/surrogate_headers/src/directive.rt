@@ -8,8 +8,7 @@ ghost use Rattle.surrogate_headers.specs.Directive as spec;
 ghost use Rattle.surrogate_headers.specs.Directive.{name_of, asked_by, token_behind, target_of, directive_of, shown_asked, shown_target, shown_directive};
 
 use crate::parameter::{Age, age_of, names_esi, value_at};
-use crate::token::is_token;
-use edge_types::{is_blank, skip_blanks};
+use edge_types::{is_blank, is_token, skip_blanks};
 
 // The names that count; `no-store-remote` counts as `no-store`.
 #[derive(Clone, Copy, Drop)]
@@ -65,7 +64,7 @@ fn name_len(part: &[u8]) -> usize
     part.len()
 }
 
-fn is_named(text: &[u8], name: &[u8]) -> bool
+pub(crate) fn is_named(text: &[u8], name: &[u8]) -> bool
     ensures { result ≡ str_eq_ignore_ascii_case text.now name.now }
 {
     text.eq_ignore_ascii_case(name)

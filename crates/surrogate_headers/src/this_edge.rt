@@ -2,7 +2,7 @@
 //! what it can do.
 
 ghost use Rattle.std.specs.Prelude.{◌≡◌, codes};
-ghost use Rattle.surrogate_headers.specs.Token.{capability_of, own_device};
+ghost use Rattle.surrogate_headers.specs.Capability.{capability_of, own_device};
 
 /// Returns the token of this edge, for which it reads `Surrogate-Control`.
 ///

@@ -5,8 +5,8 @@ use Rattle.std.proofs.Common.{arith, ◌<◌}
 use Rattle.std.proofs.lemmas.Bool.Decides.{nat_tests}
 use Rattle.std.proofs.lemmas.Iterator.{YieldsList-from_slice}
 use Rattle.std.proofs.lemmas.Iterator.Search.{all_from_yields_List}
-use Rattle.surrogate_headers.specs.Token.{is_token_byte, is_token}
-use Rattle.surrogate_headers.proofs.token.is_token.Goals as goal
+use Rattle.edge_types.specs.Token.{is_token_byte, is_token}
+use Rattle.edge_types.proofs.token.is_token.Goals as goal
 
 pub returns-then-not-is_empty : goal.returns-then-not-is_empty
 unfolding is_token
