@@ -3,7 +3,7 @@
 use crate::row::{Line, number, pair};
 use crate::values::fault_of;
 use bytes::Bytes;
-use edge_types::{Head, Octets, Outcome, PageBody, SharedBytes, around};
+use edge_types::{Head, HeadField, HeadFields, Octets, Outcome, PageBody, SharedBytes, around};
 use futures::FutureExt;
 use futures::future::poll_fn;
 use http::Response;
@@ -85,6 +85,44 @@ fn next_frame(rt: &HostRuntime, body: &mut EdgeBody) -> Option<Bytes> {
     let next = poll_fn(|cx| body.poll_frame(cx));
     let frame = next.now_or_never(rt).ok()???;
     frame.ok()?.into_data().ok()
+}
+
+/// A row is fields with a bar between, each a name and, after a space, a value: whether an answer may have them, and
+/// what is sent of a page with them.
+pub fn fields(rt: &HostRuntime, row: &[u8], line: &mut Line) -> Option<()> {
+    let mut head = Head::of(200, Octets::empty(rt.alloc()));
+    head.fields = head_fields(rt.alloc(), row)?;
+    line.push(if head.is_acceptable() {
+        "accepted, "
+    } else {
+        "refused, "
+    });
+    let body = PageBody::new(rt.alloc());
+    let outcome = Arc::new(rt.alloc(), Outcome::Page { head, body }).ok()?;
+    let response = page_http::response_of(rt.alloc(), outcome).ok()?;
+    line.display(&response.status().as_u16());
+    push_fields(line, &response);
+    Some(())
+}
+
+fn head_fields(alloc: Global, row: &[u8]) -> Option<HeadFields> {
+    let mut fields = Vec::new(alloc);
+    for field in str::from_utf8(row).ok()?.split('|') {
+        let (name, value) = pair(field.as_bytes());
+        let name = Octets::copy_of(alloc, name).ok()?;
+        let value = Octets::copy_of(alloc, value).ok()?;
+        fields.push(HeadField { name, value }).ok()?;
+    }
+    HeadFields::of(alloc, fields).ok()
+}
+
+fn push_fields(line: &mut Line, response: &Response<EdgeBody>) {
+    for (name, value) in response.headers().iter() {
+        line.push(", ");
+        line.push(name.as_str());
+        line.push(": ");
+        line.show(value.as_bytes());
+    }
 }
 
 /// A row is a status with which the edge refuses a request.

@@ -1,4 +1,4 @@
-pub mod Token
+pub mod Capability
 pub mod Cut
 pub mod Parameter
 pub mod Directive
@@ -6,3 +6,4 @@ pub mod Control
 pub mod Found
 pub mod Spelling
 pub mod Parting
+pub mod CacheControl

@@ -79,7 +79,7 @@ pub(crate) fn value_at(after: &[u8]) -> Option<(&[u8], &[u8])>
 
 // The number that the digits write.
 #[tactic(auto, unfolding(crate::specs::Parameter::seconds_of))]
-fn seconds_of(digits: &[u8]) -> Option<u32>
+pub(crate) fn seconds_of(digits: &[u8]) -> Option<u32>
     ensures { result ≡ seconds_of digits.now }
 {
     if digits.is_empty() {
