@@ -1,2 +1,3 @@
+pub mod SameLemmas
 mod Replies
 pub mod Crossings
