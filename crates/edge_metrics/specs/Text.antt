@@ -183,6 +183,7 @@ refused authority counts =
     failed authority fault.TooLong counts.too_long
     ++ failed authority fault.Coded counts.coded
     ++ failed authority fault.Status counts.status
+    ++ failed authority fault.Fields counts.fields
 
 unfoldable pub from_origin : OriginTally → List ℕ
 from_origin origin =

@@ -79,7 +79,8 @@ fn push_refused(text: &mut Vec<u8>, authority: &[u8], counts: &FetchTally) -> Re
 {
     push_failed(text, authority, FetchFault::TooLong, counts.too_long)?;
     push_failed(text, authority, FetchFault::Coded, counts.coded)?;
-    push_failed(text, authority, FetchFault::Status, counts.status)
+    push_failed(text, authority, FetchFault::Status, counts.status)?;
+    push_failed(text, authority, FetchFault::Fields, counts.fields)
 }
 
 // The fetches that ended by a fault.

@@ -79,12 +79,13 @@ esi_edge_fetches_total{origin=\"www.example.com\",outcome=\"cut\"} 5
 esi_edge_fetches_total{origin=\"www.example.com\",outcome=\"too_long\"} 6
 esi_edge_fetches_total{origin=\"www.example.com\",outcome=\"coded\"} 7
 esi_edge_fetches_total{origin=\"www.example.com\",outcome=\"status\"} 8
+esi_edge_fetches_total{origin=\"www.example.com\",outcome=\"fields\"} 9
 # HELP esi_edge_fetches_without_origin_total Fetches for which there is no origin.
 # TYPE esi_edge_fetches_without_origin_total counter
 esi_edge_fetches_without_origin_total 4
 # HELP esi_edge_strays_total Times that an origin sent bytes unasked.
 # TYPE esi_edge_strays_total counter
-esi_edge_strays_total{origin=\"www.example.com\"} 9
+esi_edge_strays_total{origin=\"www.example.com\"} 10
 ";
 
 const LOG: &str = "# HELP esi_edge_log_lines_lost_total Lines of the log that were lost.
@@ -138,8 +139,9 @@ fn one_origin(alloc: Global) -> Option<OriginTally> {
             too_long: 6,
             coded: 7,
             status: 8,
+            fields: 9,
         },
-        strays: 9,
+        strays: 10,
     })
 }
 

@@ -4,7 +4,7 @@ use allocation_tools::printing::{answers, bytes, calls, out_of_memory, word};
 use allocation_tools::values::{answer, processed, stored, url};
 use answer_sources::{Clock as Seconds, Given, OnBehalf, Source, TableSource};
 use edge_connections::ServerRuntime;
-use edge_types::{NoMemory, PageUrl, Table};
+use edge_types::{NoMemory, PageUrl, SharedBytes, Table};
 use fragment_cache::UrlHashing;
 use hyper_source::{EdgeName, HyperSource, Origin};
 use shared_cache::Cache;
@@ -230,6 +230,9 @@ where
     R: ServerRuntime + Net<Stream = TcpStream> + Print,
 {
     let limit = Duration::from_secs(LIMIT);
-    let source = HyperSource::new(rt, rt.alloc(), origins, Some(limit)).ok()?;
+    let source = HyperSource::new(rt, rt.alloc(), origins, Some(limit))
+        .ok()?
+        .passing(SharedBytes::copy_of(rt.alloc(), b"x-a").ok()?)
+        .heeding_cache_control();
     fetch(rt, name, &source, "/x")
 }

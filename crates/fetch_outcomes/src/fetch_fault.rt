@@ -26,6 +26,8 @@ pub enum FetchFault {
     Coded,
     /// No answer may have the status of the response.
     Status,
+    /// The fields for the page's reader are more than an answer may have.
+    Fields,
 }
 
 impl FetchFault {
@@ -43,6 +45,7 @@ impl FetchFault {
             FetchFault::TooLong => "too_long",
             FetchFault::Coded => "coded",
             FetchFault::Status => "status",
+            FetchFault::Fields => "fields",
         }
     }
 }

@@ -23,4 +23,6 @@ pub struct FetchTally {
     pub coded: u64,
     /// As `FetchFault::Status`.
     pub status: u64,
+    /// As `FetchFault::Fields`.
+    pub fields: u64,
 }

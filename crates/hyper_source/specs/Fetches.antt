@@ -1,19 +1,24 @@
 -- What a fetch results in.
-use Rattle.std.specs.Prelude.{◌≡◌, ℕ, ◌<◌, ◌⊎◌, ⊤, true, false, List, [], codes, Option, Some, None, Result, IfOk, IsErr, MatchOption}
+use Rattle.std.specs.Prelude.{◌≡◌, ℕ, ◌<◌, ◌≤◌, ◌⊎◌, ⊤, Bool, true, false, ◌&&◌, List, [], codes, Option, Some, None, is_some, Result, IfOk, IsErr, MatchOption, if◌then◌else◌}
 use Rattle.std.specs.List.{join_by}
 use Rattle.edge_types.specs.Answered.{failed}
-use Rattle.edge_types.specs.Head.{IsContentType}
+use Rattle.edge_types.specs.Head.{IsContentType, is_success}
+use Rattle.edge_types.specs.HeadFields.{AreHeadFields}
 use Rattle.edge_types.specs.declared.head.Head.{Head}
+use Rattle.edge_types.specs.declared.head_fields.HeadField.{HeadField}
 use Rattle.edge_types.specs.declared.answer.Reply.{Reply}
 use Rattle.edge_types.specs.declared.answer.Reply.TheVariants.{Failed, Got}
 use Rattle.edge_types.specs.declared.control.Control.{Control}
+use Rattle.surrogate_headers.specs.CacheControl.{heeded}
 use Rattle.surrogate_headers.specs.Control.{control_of}
 use Rattle.http.specs.declared.response.Parts.{Parts}
 use Rattle.http_header.specs.FieldValue.{FieldValue}
 use Rattle.http_header.specs.HeaderMap.{Entries, get, get_all}
 use Rattle.hyper_source.specs.declared.gathered.Lost.{Lost}
 use Rattle.hyper_source.specs.declared.gathered.Lost.TheVariants.{Fault, NoMemory}
-use Rattle.hyper_source.specs.Heads.{is_coded}
+use Rattle.hyper_source.specs.declared.head_rules.HeadRules.{HeadRules}
+use Rattle.hyper_source.specs.Heads.{EndsByClose, is_coded}
+use Rattle.hyper_source.specs.Passing.{fields_passed}
 use Rattle.hyper_source.specs.declared.answers.Fetched.{Fetched}
 use Rattle.fetch_outcomes.specs.declared.fetch_fault.FetchFault.{FetchFault}
 
@@ -45,34 +50,61 @@ abbrev pub SaysType : Option FieldValue → List ℕ → Type 0
 SaysType None said = said ≡ []
 SaysType (Some value) said = (IsContentType value.bytes × (said ≡ value.bytes)) ⊎ (¬ (IsContentType value.bytes) × (said ≡ []))
 
--- what the head of a response says to a page's reader
-pub record SaysHead (parts : Parts) (head : Head) : Type 0 where
-  pub status : head.status ≡ parts.status
-  pub content_type : SaysType (get parts.headers (codes "content-type")) head.content_type
-
--- a reply with what this head says, or a failure
-abbrev pub HasHead : Reply → Parts → Type 0
-HasHead Failed parts = ⊤
-HasHead (Got head control body) parts = SaysHead parts head
-
--- all lines of the field as one, separated by `, ` (RFC 9110, section 5.3)
-abbrev pub control_value : Entries FieldValue → List ℕ
-control_value fields = join_by (λ (line : FieldValue). line.bytes) (codes ", ") (get_all fields (codes "surrogate-control"))
+-- all lines of a field as one, separated by `, ` (RFC 9110, section 5.3)
+abbrev pub value_of : List ℕ → Entries FieldValue → List ℕ
+value_of name fields = join_by (λ (line : FieldValue). line.bytes) (codes ", ") (get_all fields name)
 
 -- what the origin asks of a device
 abbrev pub control_asked : Entries FieldValue → List ℕ → Control
-control_asked fields device = control_of (control_value fields) device
+control_asked fields device = control_of (value_of (codes "surrogate-control") fields) device
+
+-- the response sets a cookie (RFC 6265, section 4.1)
+abbrev pub sets_cookies : Entries FieldValue → Bool
+sets_cookies fields = is_some (get fields (codes "set-cookie"))
+
+-- the same, and what it asks of every cache, where that counts (RFC 9111, section 5.2)
+abbrev pub control_heeded : HeadRules → Entries FieldValue → Control
+control_heeded rules fields =
+    if rules.heeds_cache_control
+    then heeded (control_asked fields rules.device.now) (value_of (codes "cache-control") fields) (sets_cookies fields)
+    else control_asked fields rules.device.now
 
 -- the same, but nothing is kept
 abbrev pub never_stored : Control → Control
 never_stored control = record control { no_store = true }
 
--- a reply with this control, or a failure
-abbrev pub HasControl : Reply → Control → Type 0
-HasControl Failed asked = ⊤
-HasControl (Got head control body) asked = control ≡ asked
+-- how an answer with this head may be kept: never where nothing tells whether its body is whole
+pub record IsControlFor (rules : HeadRules) (parts : Parts) (control : Control) : Type 0 where
+  pub framed : ¬ (EndsByClose parts) → control ≡ control_heeded rules parts.headers
+  pub unframed : EndsByClose parts → control ≡ never_stored (control_heeded rules parts.headers)
 
--- a reply that isn't to be kept
-abbrev pub IsNotStored : Reply → Type 0
-IsNotStored Failed = ⊤
-IsNotStored (Got head control body) = control.no_store ≡ true
+-- the body is a template
+abbrev pub is_template : HeadRules → Parts → Bool
+is_template rules parts = is_success parts.status && (control_heeded rules parts.headers).esi
+
+-- the fields that a page's reader gets
+abbrev pub fields_for : HeadRules → Parts → List HeadField
+fields_for rules parts = fields_passed rules.passed.now (is_template rules parts) parts.headers
+
+-- what the head of a response says to a page's reader
+pub record SaysHead (rules : HeadRules) (parts : Parts) (head : Head) : Type 0 where
+  pub status : head.status ≡ parts.status
+  pub content_type : SaysType (get parts.headers (codes "content-type")) head.content_type
+  pub fields : head.fields ≡ fields_for rules parts
+
+-- a reply with what this head says, or a failure
+abbrev pub HasHead : HeadRules → Reply → Parts → Type 0
+HasHead rules Failed parts = ⊤
+HasHead rules (Got head control body) parts = SaysHead rules parts head
+
+-- a reply that may be kept as this head asks, or a failure
+abbrev pub HasControl : HeadRules → Reply → Parts → Type 0
+HasControl rules Failed parts = ⊤
+HasControl rules (Got head control body) parts = IsControlFor rules parts control
+
+-- an answer may have the status, but not the fields
+pub record IsOverfull (rules : HeadRules) (parts : Parts) : Type 0 where
+  pub plain : is_coded parts.headers ≡ false
+  pub status_from : 200 ≤ parts.status
+  pub status_to : parts.status ≤ 599
+  pub fields : ¬ (AreHeadFields (fields_for rules parts))

@@ -1,6 +1,7 @@
 pub mod Origins
 pub mod Names
 pub mod Heads
+pub mod Passing
 pub mod Fetches
 pub mod Bounded
 pub mod Intake

@@ -1,6 +1,7 @@
 -- The name by which origins and other edges know this edge.
 use Rattle.std.specs.Prelude.{◌≡◌, ℕ, ◌≤◌, true, List, [], ◌∷◌, ◌++◌, length, codes, Option, Some, None}
-use Rattle.surrogate_headers.specs.Token.{is_token, own_device}
+use Rattle.edge_types.specs.Token.{is_token}
+use Rattle.surrogate_headers.specs.Capability.{own_device}
 
 -- a token of at most 64 characters (RFC 9110, "Tokens"; the most is our profile)
 pub record IsName (text : List ℕ) : Type 0 where

@@ -2,13 +2,13 @@
 
 ghost use Rattle.std.specs.Prelude.{◌≡◌, None, IsTrue, IfOk, IfErr};
 ghost use Rattle.fetch_outcomes.specs.declared.fetch_fault.FetchFault.TheVariants as faults;
-ghost use Rattle.hyper_source.specs.Fetches.{AnswersLost, HasControl, HasHead, IsNotStored, IsRefused, NamesFault, control_asked, lost_with};
+ghost use Rattle.hyper_source.specs.Fetches.{AnswersLost, HasControl, HasHead, IsOverfull, IsRefused, NamesFault, lost_with};
 ghost use Rattle.hyper_source.specs.Heads as heads;
-ghost use Rattle.hyper_source.specs.Heads.{EndsByClose};
 
 use crate::fields::{control_for, head_of};
 use crate::gathered::Lost;
 use crate::head::is_coded;
+use crate::head_rules::HeadRules;
 use crate::round_trip::Response;
 use edge_types::{Answer, NoMemory, PageUrl, SharedBytes};
 use fetch_outcomes::FetchFault;
@@ -44,22 +44,24 @@ impl Fetched {
     }
 }
 
-/// What a fetch results in, for a device: a failed answer if it got no response.
+/// What a fetch results in: a failed answer if it got no response.
 pub(crate) fn answered(
     alloc: Global,
     url: &PageUrl,
-    device: &[u8],
+    rules: HeadRules<'_>,
     came: Response,
 ) -> Result<Fetched, NoMemory>
     ensures url { IfOk result (λ fetched. fetched.answer.url ≡ url.now) }
     ensures fault { IfOk result NamesFault }
     ensures coded { IfOk came (λ page. IsTrue (heads.is_coded page.0.headers) → IfOk result (λ fetched. fetched ≡ lost_with faults.Coded url.now)) }
     ensures status { IfOk came (λ page. IsRefused page.0 → IfOk result (λ fetched. fetched ≡ lost_with faults.Status url.now)) }
-    ensures head { IfOk came (λ page. IfOk result (λ fetched. HasHead fetched.answer.reply page.0)) }
+    ensures overfull { IfOk came (λ page. IsOverfull rules.entry page.0 → IfOk result (λ fetched. fetched ≡ lost_with faults.Fields url.now)) }
+    ensures head { IfOk came (λ page. IfOk result (λ fetched. HasHead rules.entry fetched.answer.reply page.0)) }
+    ensures control { IfOk came (λ page. IfOk result (λ fetched. HasControl rules.entry fetched.answer.reply page.0)) }
     ensures lost { IfErr came (λ lost. AnswersLost lost url.now result) }
 {
     match came {
-        Ok((parts, body)) => answer_of(alloc, url, device, &parts, body),
+        Ok((parts, body)) => answer_of(alloc, url, rules, &parts, body),
         Err(Lost::Fault(fault)) => Fetched::failed(url, fault),
         Err(Lost::NoMemory) => Err(NoMemory),
     }
@@ -69,7 +71,7 @@ pub(crate) fn answered(
 fn answer_of(
     alloc: Global,
     url: &PageUrl,
-    device: &[u8],
+    rules: HeadRules<'_>,
     parts: &Parts,
     body: Vec<u8>,
 ) -> Result<Fetched, NoMemory>
@@ -77,20 +79,19 @@ fn answer_of(
     ensures fault { IfOk result NamesFault }
     ensures coded { IsTrue (heads.is_coded parts.now.headers) → IfOk result (λ fetched. fetched ≡ lost_with faults.Coded url.now) }
     ensures status { IsRefused parts.now → IfOk result (λ fetched. fetched ≡ lost_with faults.Status url.now) }
-    ensures head { IfOk result (λ fetched. HasHead fetched.answer.reply parts.now) }
-    ensures framed { ¬ (EndsByClose parts.now) → IfOk result (λ fetched. HasControl fetched.answer.reply (control_asked parts.now.headers device.now)) }
-    ensures unframed { EndsByClose parts.now → IfOk result (λ fetched. IsNotStored fetched.answer.reply) }
+    ensures overfull { IsOverfull rules.entry parts.now → IfOk result (λ fetched. fetched ≡ lost_with faults.Fields url.now) }
+    ensures head { IfOk result (λ fetched. HasHead rules.entry fetched.answer.reply parts.now) }
+    ensures control { IfOk result (λ fetched. HasControl rules.entry fetched.answer.reply parts.now) }
 {
     if is_coded(&parts.headers) {
         return Fetched::failed(url, FetchFault::Coded);
     }
-    let got = Answer::of_head(
-        url.share()?,
-        head_of(alloc, parts)?,
-        control_for(alloc, parts, device)?,
-        SharedBytes::of(body)?,
-    );
-    match got {
+    let control = control_for(alloc, rules, parts)?;
+    let head = head_of(alloc, rules, parts, control)?;
+    if head.has_status() && !head.fields.are_acceptable() {
+        return Fetched::failed(url, FetchFault::Fields);
+    }
+    match Answer::of_head(url.share()?, head, control, SharedBytes::of(body)?) {
         Some(answer) => Ok(Fetched::got(answer)),
         None => Fetched::failed(url, FetchFault::Status),
     }

@@ -1,13 +1,13 @@
 //! The name of an edge.
 
 ghost use Rattle.std.specs.Prelude.{◌≡◌, IfOk};
-ghost use Rattle.surrogate_headers.specs.Token.{capability_of};
+ghost use Rattle.surrogate_headers.specs.Capability.{capability_of};
 ghost use Rattle.hyper_source.specs.Names as spec;
 
-use edge_types::NoMemory;
+use edge_types::{NoMemory, is_token};
 use std::alloc::Global;
 use std::marker::Model;
-use surrogate_headers::{capability, is_token, own_capability, own_device};
+use surrogate_headers::{capability, own_capability, own_device};
 
 /// The most characters that a name may have.
 pub const MAX_NAME: usize = 64;
@@ -25,7 +25,7 @@ pub struct EdgeName {
 
 impl Model for EdgeName {
     ghost use Rattle.std.specs.Prelude.{◌≡◌, List, ℕ};
-    ghost use Rattle.surrogate_headers.specs.Token.{capability_of};
+    ghost use Rattle.surrogate_headers.specs.Capability.{capability_of};
     ghost use Rattle.hyper_source.specs.Names.{IsName};
 
     ghost Value = { List ℕ };
@@ -37,10 +37,10 @@ impl Model for EdgeName {
 
 impl EdgeName {
     ghost use Rattle.std.specs.Prelude.{◌≡◌, ◌↔◌, IsSome, IfOk, IfSome};
-    ghost use Rattle.surrogate_headers.specs.Token.{capability_of};
+    ghost use Rattle.surrogate_headers.specs.Capability.{capability_of};
     ghost use Rattle.hyper_source.specs.Names.{IsName};
 
-    /// The name that a text is. `None` if it isn't a token (`surrogate_headers::is_token`), or longer than `MAX_NAME`.
+    /// The name that a text is. `None` if it isn't a token (`edge_types::is_token`), or longer than `MAX_NAME`.
     ///
     /// Source: RFC 9110, "Tokens"; the length: our profile.
     pub fn of(alloc: Global, text: &[u8]) -> Result<Option<EdgeName>, NoMemory>

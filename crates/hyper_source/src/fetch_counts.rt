@@ -15,6 +15,7 @@ pub(crate) struct FetchCounts {
     too_long: AtomicU64,
     coded: AtomicU64,
     status: AtomicU64,
+    fields: AtomicU64,
 }
 
 impl FetchCounts {
@@ -30,6 +31,7 @@ impl FetchCounts {
             too_long: AtomicU64::new(0),
             coded: AtomicU64::new(0),
             status: AtomicU64::new(0),
+            fields: AtomicU64::new(0),
         }
     }
 
@@ -48,6 +50,7 @@ impl FetchCounts {
             FetchFault::TooLong => Some(&self.too_long),
             FetchFault::Coded => Some(&self.coded),
             FetchFault::Status => Some(&self.status),
+            FetchFault::Fields => Some(&self.fields),
         }
     }
 
@@ -63,6 +66,7 @@ impl FetchCounts {
             too_long: self.too_long.load(Ordering::SeqCst),
             coded: self.coded.load(Ordering::SeqCst),
             status: self.status.load(Ordering::SeqCst),
+            fields: self.fields.load(Ordering::SeqCst),
         }
     }
 }

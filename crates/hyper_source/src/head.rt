@@ -85,8 +85,8 @@ fn asks_to_close(fields: &HeaderMap<HeaderValue>) -> bool
     lines.any(|line| names(line.as_bytes(), b"close"))
 }
 
-// Whether a list has this element.
-fn names(list: &[u8], word: &[u8]) -> bool
+/// Whether a list has this element, without regard to case.
+pub(crate) fn names(list: &[u8], word: &[u8]) -> bool
     ensures { result ≡ spec.names word.now list.now }
 {
     list.split(|byte| is_comma(*byte))

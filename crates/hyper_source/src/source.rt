@@ -2,7 +2,7 @@
 
 ghost use Rattle.std.specs.Prelude.{◌≡◌, IfOk, IsSomeAnd, Some};
 ghost use Rattle.std.specs.Arc.{arc_value};
-ghost use Rattle.hyper_source.specs.Names.{way_through};
+ghost use Rattle.hyper_source.specs.Names.{device_of, way_through};
 
 mod concurrent;
 
@@ -15,6 +15,7 @@ use crate::exchange_end::ExchangeEnd;
 use crate::executors::IdleExecutors;
 use crate::gate::Bounds;
 use crate::gathered::Lost;
+use crate::head_rules::HeadRules;
 use crate::intake::BodyCount;
 use crate::notes::FetchNotes;
 use crate::origin::{Chosen, Origin, origin_for};
@@ -27,7 +28,7 @@ use crate::request::request_of;
 use crate::round_trip::{CountedStream, Response, round_trip};
 use answer_sources::{Given, OnBehalf, Source};
 use bytes::Bytes;
-use edge_types::{Answer, NoMemory, PageUrl};
+use edge_types::{Answer, NoMemory, PageUrl, SharedBytes};
 use fetch_outcomes::FetchFault;
 use http::Request;
 use http_body_util::Empty;
@@ -46,7 +47,8 @@ use std::time::{Clock, Duration};
 ///
 /// An answer can't be fetched, and is a failed one, if no origin has the URL's authority, if the
 /// socket or HTTP fails (also by the time limit), if the body ends before its length, is coded or
-/// longer than `MAX_BODY`, and if no answer may have the status.
+/// longer than `MAX_BODY`, and if no answer may have the status, or the fields that are to reach a page's reader
+/// (`passing`).
 ///
 /// Each fetch is noted at its end, by the origin that was asked (`notes`).
 ///
@@ -67,6 +69,9 @@ pub struct HyperSource {
     pool: Pool,
     // Of each address, where fetches are bounded.
     gates: Arc<Vec<OriginGate>>,
+    // The names of the fields that readers get.
+    passed: SharedBytes,
+    heeds_cache_control: bool,
 }
 
 // What sources for other requests use too.
@@ -106,6 +111,8 @@ impl HyperSource {
             way: None,
             pool,
             gates: Arc::new(alloc, Vec::new(alloc))?,
+            passed: SharedBytes::new(),
+            heeds_cache_control: false,
         })
     }
 
@@ -143,6 +150,39 @@ impl HyperSource {
         Ok(source)
     }
 
+    /// The same source, whose answers have in their heads the lines of these fields, as they came: names, with commas
+    /// between and blanks around them, in any case. Those that describe the bytes of a template (`etag`, `last-modified`,
+    /// `accept-ranges`, `content-md5`, `digest`, `content-digest`, `repr-digest`) are left out where the body is one. An
+    /// answer whose names and values have more than `MAX_FIELDS` bytes is a failed one.
+    pub fn passing(self, names: SharedBytes) -> HyperSource {
+        let mut source = self;
+        source.passed = names;
+        source
+    }
+
+    /// The same source, for which `s-maxage` and `stale-if-error` of `Cache-Control` count where `Surrogate-Control` says
+    /// neither `max-age` nor `no-store`.
+    ///
+    /// Source: RFC 9111, "s-maxage"; RFC 5861, "The stale-if-error Cache-Control Extension".
+    pub fn heeding_cache_control(self) -> HyperSource {
+        let mut source = self;
+        source.heeds_cache_control = true;
+        source
+    }
+
+    // How this source reads the heads of responses.
+    fn rules(&self) -> HeadRules<'_>
+        ensures device { result.device.now ≡ device_of self.now.name }
+        ensures passed { result.passed.now ≡ self.now.passed }
+        ensures heeds { result.heeds_cache_control ≡ self.now.heeds_cache_control }
+    {
+        HeadRules {
+            device: device_of(&self.name),
+            passed: self.passed.as_bytes(),
+            heeds_cache_control: self.heeds_cache_control,
+        }
+    }
+
     /// One more owner of what this source, and all that are made of it `on_behalf` of others, note of their fetches.
     ///
     /// `NoMemory` if one more owner can't be made.
@@ -158,6 +198,7 @@ impl HyperSource {
         ensures way { IfOk result (λ source. IsSomeAnd source.way (λ way. way.items ≡ way_through passed.now name.now)) }
         ensures pool { IfOk result (λ source. (source.pool.most ≡ self.now.pool.most) × (arc_value source.pool.kept ≡ arc_value self.now.pool.kept)) }
         ensures gates { IfOk result (λ source. arc_value source.gates ≡ arc_value self.now.gates) }
+        ensures heads { IfOk result (λ source. (source.passed ≡ self.now.passed) × (source.heeds_cache_control ≡ self.now.heeds_cache_control)) }
     {
         Ok(HyperSource {
             shared: Arc::try_clone(&self.shared)?,
@@ -167,6 +208,8 @@ impl HyperSource {
             way: Some(way_through(alloc, passed, name.as_bytes())?),
             pool: self.pool.share()?,
             gates: Arc::try_clone(&self.gates)?,
+            passed: self.passed.share()?,
+            heeds_cache_control: self.heeds_cache_control,
         })
     }
 
@@ -331,7 +374,7 @@ impl HyperSource {
     ) -> Result<Arc<Answer>, NoMemory>
         ensures { IfOk result (λ answer. (arc_value answer).url ≡ url.now) }
     {
-        let Fetched { answer, fault } = answered(alloc, url, device_of(&self.name), came)?;
+        let Fetched { answer, fault } = answered(alloc, url, self.rules(), came)?;
         let answer = Arc::new(alloc, answer)?;
         let place = origin.map(|origin| origin.place);
         self.shared.notes.note(rt, url, place, fault);

@@ -1,0 +1,54 @@
+//! The fields of a response that a page's reader gets.
+
+ghost use Rattle.std.specs.Prelude.{◌≡◌, IfOk};
+ghost use Rattle.hyper_source.specs.Passing as spec;
+
+use crate::head::names;
+use edge_types::{HeadField, HeadFields, NoMemory, Octets};
+use http::HeaderMap;
+use http::header::{HeaderName, HeaderValue};
+use std::alloc::Global;
+
+// The fields that describe the very bytes of a body.
+const DESCRIBING: &str =
+    "etag,last-modified,accept-ranges,content-md5,digest,content-digest,repr-digest";
+
+/// The lines of the fields that a list names, as they came. Those that describe the bytes of a template say nothing of a
+/// page that is made of it, and so are left out.
+///
+/// Source: RFC 9110, "Field Names", "Validator Fields" and "Accept-Ranges"; RFC 9530; our profile.
+#[tactic(auto, unfolding(crate::specs::Passing::fields_passed))]
+pub(crate) fn fields_passed(
+    alloc: Global,
+    list: &[u8],
+    is_template: bool,
+    fields: &HeaderMap<HeaderValue>,
+) -> Result<HeadFields, NoMemory>
+    ensures { IfOk result (λ passed. passed ≡ spec.fields_passed list.now is_template fields.now) }
+{
+    let mut passed = Vec::new(alloc);
+    for (name, value) in fields.iter() {
+        if is_passed(list, is_template, name) {
+            passed.push(field_of(alloc, name, value)?)?;
+        }
+    }
+    HeadFields::of(alloc, passed)
+}
+
+// Whether a reader gets the field.
+fn is_passed(list: &[u8], is_template: bool, name: &HeaderName) -> bool
+    ensures { result ≡ spec.is_passed list.now is_template name.now }
+{
+    let name = name.as_bytes();
+    names(list, name) && !(is_template && names(DESCRIBING.as_bytes(), name))
+}
+
+// A line of a field.
+fn field_of(alloc: Global, name: &HeaderName, value: &HeaderValue) -> Result<HeadField, NoMemory>
+    ensures { IfOk result (λ field. field ≡ spec.field_of (name.now, value.now)) }
+{
+    Ok(HeadField {
+        name: Octets::copy_of(alloc, name.as_bytes())?,
+        value: Octets::copy_of(alloc, value.as_bytes())?,
+    })
+}
