@@ -61,6 +61,7 @@ def usage_is_told():
         ["--admin", "127.0.0.1:0", "--admin-host", "a b"], ["--admin", "127.0.0.1:0", "--admin-host", "edge.internal:9081"],
         ["--admin", "127.0.0.1:0", "--admin-host", "*"], ["--admin", "127.0.0.1:0", "--admin-host", "a", "--admin-host", "b"],
         ["--forwarded", ""], ["--forwarded", "a b"], ["--forwarded", "f" * 65],
+        ["--pass-fields"], ["--pass-fields", "a", "--pass-fields", "b"], ["--cache-control", "x"], ["--cache-control=yes"], ["--cache-control", "--cache-control"],
     )]
     for words in rows:
         status, printed, said = ended(*words)
@@ -106,6 +107,27 @@ def what_an_origin_is_instead_is_told():
     same("twice", (2, b"", b"error: --origin takes each authority once\n"), ended("--listen", "127.0.0.1:0", *twice))
 
 
+# Which fields can't be passed: those of a connection, and those that the edge writes or reads itself.
+NOT_PASSED = (
+    "connection", "keep-alive", "proxy-authenticate", "proxy-authorization", "proxy-connection", "te", "trailer", "transfer-encoding", "upgrade",
+    "content-encoding", "content-length", "content-type", "date", "set-cookie", "surrogate-capability", "surrogate-control",
+)
+
+
+def names_of_fields_that_are_not_passed_are_told():
+    """No names, an empty one, one that is no token or too long, and those of fields that can't be passed, whatever the case of their
+    letters and wherever they stand: status 2, and a line. Other names are taken, with blanks around them."""
+    said = b"error: --pass-fields takes field names with commas between, as location,cache-control, none of a connection, of a body's length, type or coding, nor set-cookie\n"
+    words = ["", " ", "\t", ",", "a,", ",a", "a,,b", "a, ,b", "a b", "a\n", "a:", "a\u00e9", "n" * 65, "a," + "n" * 65]
+    for name in NOT_PASSED:
+        words += [name, name.title(), name.upper() + ",location", "location ,\t%s " % name]
+    for word in words:
+        same(repr(word), (2, b"", said), ended("--listen", "127.0.0.1:0", "--pass-fields=" + word))
+    for word in ("location", " location ,\tX-A\t", "n" * 64, "!#$%&'*+-.^_`|~", *("x" + name for name in NOT_PASSED)):
+        status, printed, _ = ended("--listen", "127.0.0.1:0", "--pass-fields=" + word, "--accept", "0")
+        same(repr(word), (0, True), (status, printed.startswith(b"listening on ")))
+
+
 def the_name_of_a_host_is_looked_up():
     """An origin by the name of its host: `127.1` is no address by std's grammar, and any system knows it. One that
     the system doesn't know: status 5, and its name."""
@@ -136,7 +158,7 @@ def connections_that_no_files_are_left_for_are_told():
 
 def limits_are_taken():
     """The largest and the smallest of each number, an address of IPv6, and a thousand origins."""
-    most = [word for it in numbers() for word in ("--" + it.name, it.most)] + ["--name", "n" * 64, "--head", "--abort-on-close"]
+    most = [word for it in numbers() for word in ("--" + it.name, it.most)] + ["--name", "n" * 64, "--pass-fields", "n" * 64, "--head", "--abort-on-close", "--cache-control"]
     # A server that accepts nobody answers nobody.
     least = [word for it in numbers() if it.name != "accept" for word in ("--" + it.name, it.least)] + ["--name", "~"]
     many = [word for at in range(1000) for word in ("--origin", "%d.test=127.0.0.1:80" % at)]
@@ -187,6 +209,7 @@ TESTS = (
     numbers_beyond_their_limits_are_told,
     help_says_what_the_document_says,
     what_an_origin_is_instead_is_told,
+    names_of_fields_that_are_not_passed_are_told,
     the_name_of_a_host_is_looked_up,
     connections_that_no_files_are_left_for_are_told,
     limits_are_taken,

@@ -101,3 +101,4 @@ pub record AreAskedBy (setup : Setup) (options : ServerOptions) : Type 0 where
   pub log_is : options.log ≡ setup.log
   pub forwarded_is : options.forwarded ≡ setup.forwarded
   pub hosts_are : options.admin_hosts ≡ setup.admin_hosts
+  pub fields_are : options.pass_fields ≡ setup.pass_fields

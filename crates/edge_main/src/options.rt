@@ -158,6 +158,7 @@ pub(crate) fn options_of(setup: Setup) -> ServerOptions
         name,
         forwarded,
         admin_hosts,
+        pass_fields,
     } = setup;
     ServerOptions {
         addresses,
@@ -177,5 +178,6 @@ pub(crate) fn options_of(setup: Setup) -> ServerOptions
         log,
         forwarded,
         admin_hosts,
+        pass_fields,
     }
 }

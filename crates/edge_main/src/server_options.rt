@@ -54,6 +54,8 @@ pub(crate) struct ServerOptions {
     pub forwarded: Option<Vec<u8>>,
     /// The names of hosts by which its operator may ask, with commas between, where there are some.
     pub admin_hosts: Option<Vec<u8>>,
+    /// The names of the fields of a page's own answer that reach its reader, with commas between, where there are some.
+    pub pass_fields: Option<Vec<u8>>,
     ghost some_capacity: { 1 ≤ capacity },
     ghost few_capacity: { capacity ≤ 1024 },
 }

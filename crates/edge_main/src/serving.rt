@@ -7,7 +7,7 @@ use edge_commands::Status;
 use edge_connections::{ServeEnd, ServerRuntime, Sockets};
 use edge_reports::{AccessLog, Connections, EndOfInput, Kept, Measures, MonotonicSeconds, Reports};
 use edge_setup::{Flag, Origin, Place};
-use edge_types::NoMemory;
+use edge_types::{NoMemory, SharedBytes};
 use failed_answers::{SharedFailures, SparingSource};
 use fragment_cache::UrlHashing;
 use hyper_edge::{EdgeService, Journal, serve_accepts};
@@ -35,6 +35,7 @@ where
     let origins = mem::replace(&mut options.origins, Vec::new(rt.alloc()));
     let source = source_of(rt, origins, options.fetches)?;
     let source = named(rt, source, options.name.as_ref())?;
+    let source = heeding(rt, source, options)?;
     let notes = source.notes()?;
     let cache = cache_of(rt, source, options)?;
     let service = service_of(rt, owner_of(&cache)?, options)?;
@@ -264,6 +265,22 @@ fn named(
         Some(name) => Ok(source.named(name)),
         None => Ok(source),
     }
+}
+
+// The same, which reads of answers what the options ask for: fields for readers of pages, and how long caches may keep them.
+fn heeding(
+    rt: &impl AllocGlobal,
+    source: HyperSource,
+    options: &ServerOptions,
+) -> Result<HyperSource, NoMemory> {
+    let mut source = source;
+    if let Some(names) = &options.pass_fields {
+        source = source.passing(SharedBytes::copy_of(rt.alloc(), names.as_slice())?);
+    }
+    if options.flags.has(Flag::CacheControl) {
+        source = source.heeding_cache_control();
+    }
+    Ok(source)
 }
 
 // What is stored, over this source, of which URLs that failed rest.

@@ -5,6 +5,8 @@ pub mod Said
 pub mod Command
 pub mod Case
 pub mod OriginWord
+pub mod Lists
+pub mod PassedNames
 pub mod Words
 pub mod Origins
 pub mod Check

@@ -1,5 +1,5 @@
 -- What the options of `serve` mean, by the rows of `clap`'s matches.
-use Rattle.std.specs.Prelude.{◌≡◌, ◌⊎◌, ℕ, ◌<◌, Bool, true, false, ◌&&◌, ◌||◌, bytes_eq, nat_le, List, [], ◌∷◌, map, take, length, get_or, codes, Option, Some, None, option_map, is_some, ◌==◌, IsSome, MatchOption, if◌then◌else◌}
+use Rattle.std.specs.Prelude.{◌≡◌, ◌⊎◌, ℕ, ◌<◌, Bool, true, false, ◌&&◌, ◌||◌, bytes_eq, nat_le, List, [], ◌∷◌, map, take, length, get_or, codes, Option, Some, None, option_map, is_some, IsSome, MatchOption, if◌then◌else◌}
 use Rattle.std.specs.Str.{byte}
 use Rattle.std.specs.List.{list_all, list_any, slice_split}
 use Rattle.std.specs.Net.Grammar.{IsSocketText}
@@ -8,12 +8,14 @@ use Rattle.clap.specs.Words.{Row, Text}
 use Rattle.access_log.specs.declared.format.LogFormat.{LogFormat}
 use Rattle.access_log.specs.declared.format.LogFormat.TheVariants as format
 use Rattle.edge_types.specs.Halves.{around}
+use Rattle.edge_setup.specs.Lists.{is_comma}
 use Rattle.edge_setup.specs.Numbers.{all_said, numbers, place_of, row_of, said_of}
 use Rattle.edge_setup.specs.Options.{all_words_said, is_flag_set, word_said}
 use Rattle.edge_setup.specs.Said.{SaysFlags, SaysNumbers}
-use Rattle.surrogate_headers.specs.Token.{is_token}
+use Rattle.edge_types.specs.Token.{is_token}
 use Rattle.edge_setup.specs.OriginWord.{is_authority, is_name, IsFaultOf, IsPlace}
 use Rattle.edge_setup.specs.OriginWord.{refusal_of as origin_refusal}
+use Rattle.edge_setup.specs.PassedNames.{are_passed}
 use Rattle.edge_setup.specs.declared.origin.OriginFault.{OriginFault}
 use Rattle.edge_setup.specs.declared.origin.OriginFault.TheVariants as origin_fault
 use Rattle.edge_setup.specs.declared.origin.Place.{Place}
@@ -53,9 +55,6 @@ token_of (Some word) = if is_token word && nat_le (length word) 64 then Some (So
 
 -- ---- the operator's hosts
 
-abbrev pub is_comma : ℕ → Bool
-is_comma b = b == byte ","
-
 -- names of hosts, with commas between
 unfoldable pub are_hosts : Text → Bool
 are_hosts text = list_all is_name (slice_split is_comma text)
@@ -68,6 +67,13 @@ hosts_of has_admin (Some word) = if has_admin && are_hosts word then Some (Some 
 -- the names that the options give
 abbrev pub hosts_said : List Row → Option (Option Text)
 hosts_said rows = hosts_of (is_some (word_said word.Admin rows)) (word_said word.AdminHost rows)
+
+-- ---- the fields that are passed
+
+-- the names of fields that a word writes; without a word there are none
+abbrev pub fields_of : Option Text → Option (Option Text)
+fields_of None = Some None
+fields_of (Some word) = if are_passed word then Some (Some word) else None
 
 -- ---- addresses
 
@@ -141,11 +147,12 @@ pub record SaysAddresses (rows : List Row) (addresses : Addresses) : Type 0 wher
   pub listen_is : IsAddress (word_said word.Listen rows) addresses.listen
   pub admin_is : IsAdmin (word_said word.Admin rows) addresses.admin
 
--- the names of the edge, of the field by which a proxy names clients, and of the operator's hosts
+-- the names of the edge, of the field by which a proxy names clients, of the operator's hosts, and of the fields that are passed
 pub record SaysTokens (rows : List Row) (tokens : Tokens) : Type 0 where
   pub name_is : token_of (word_said word.Name rows) ≡ Some (option_map (λ name. name.now) tokens.name)
   pub forwarded_is : token_of (word_said word.Forwarded rows) ≡ Some (option_map (λ field. field.now) tokens.forwarded)
   pub hosts_are : hosts_said rows ≡ Some (option_map (λ hosts. hosts.now) tokens.hosts)
+  pub fields_are : fields_of (word_said word.PassFields rows) ≡ Some (option_map (λ fields. fields.now) tokens.fields)
 
 -- what the options ask for
 pub record SaysSetup (rows : List Row) (setup : Setup) : Type 0 where
@@ -157,6 +164,7 @@ pub record SaysSetup (rows : List Row) (setup : Setup) : Type 0 where
   pub name_is : token_of (word_said word.Name rows) ≡ Some (option_map (λ name. name.items) setup.name)
   pub forwarded_is : token_of (word_said word.Forwarded rows) ≡ Some (option_map (λ field. field.items) setup.forwarded)
   pub hosts_are : hosts_said rows ≡ Some (option_map (λ hosts. hosts.items) setup.admin_hosts)
+  pub fields_are : fields_of (word_said word.PassFields rows) ≡ Some (option_map (λ fields. fields.items) setup.pass_fields)
 
 -- the value of an option is invalid
 abbrev pub IsWrong : List Row → Named → Type 0
@@ -168,6 +176,7 @@ IsWrong rows named.LogFormat = log_said rows ≡ None
 IsWrong rows named.Name = token_of (word_said word.Name rows) ≡ None
 IsWrong rows named.Forwarded = token_of (word_said word.Forwarded rows) ≡ None
 IsWrong rows named.AdminHost = hosts_said rows ≡ None
+IsWrong rows named.PassFields = fields_of (word_said word.PassFields rows) ≡ None
 
 -- the values of these options are valid
 abbrev pub HasListen : List Row → Type 0
@@ -197,8 +206,11 @@ HasForwarded rows = IsSome (token_of (word_said word.Forwarded rows))
 abbrev pub HasHosts : List Row → Type 0
 HasHosts rows = IsSome (hosts_said rows)
 
+abbrev pub HasFields : List Row → Type 0
+HasFields rows = IsSome (fields_of (word_said word.PassFields rows))
+
 abbrev pub HasTokens : List Row → Type 0
-HasTokens rows = HasName rows × HasForwarded rows × HasHosts rows
+HasTokens rows = HasName rows × HasForwarded rows × HasHosts rows × HasFields rows
 
 -- the values of the options that are read before this one are valid
 abbrev pub AreValidBefore : List Row → Named → Type 0
@@ -209,6 +221,7 @@ AreValidBefore rows named.LogFormat = HasAddresses rows × HasNumbers rows
 AreValidBefore rows named.Name = HasAddresses rows × HasNumbers rows × HasLog rows
 AreValidBefore rows named.Forwarded = HasAddresses rows × HasNumbers rows × HasLog rows × HasName rows
 AreValidBefore rows named.AdminHost = HasAddresses rows × HasNumbers rows × HasLog rows × HasName rows × HasForwarded rows
+AreValidBefore rows named.PassFields = HasAddresses rows × HasNumbers rows × HasLog rows × HasName rows × HasForwarded rows × HasHosts rows
 AreValidBefore rows (named.Origin fault) = HasAddresses rows × HasNumbers rows × HasLog rows × HasTokens rows
 
 -- this is the first option, in the order of reading, whose value is invalid
@@ -226,6 +239,7 @@ refusal_of named.LogFormat = codes "error: --log-format takes line, combined or 
 refusal_of named.Name = codes "error: --name takes 1 to 64 letters, digits and marks of a token, as edge-1"
 refusal_of named.Forwarded = codes "error: --forwarded takes the name of a field, as x-forwarded-for"
 refusal_of named.AdminHost = codes "error: --admin-host takes names of hosts with commas between, as edge.internal,edge-1, beside --admin"
+refusal_of named.PassFields = codes "error: --pass-fields takes field names with commas between, as location,cache-control, none of a connection, of a body's length, type or coding, nor set-cookie"
 
 -- why the options are refused
 abbrev pub IsRefusedBy : List Row → SetupFault → Type 0

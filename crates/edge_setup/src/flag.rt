@@ -16,6 +16,8 @@ pub enum Flag {
     Head,
     /// A client that has ended its input has left.
     AbortOnClose,
+    /// Answers are kept as `Cache-Control` asks where `Surrogate-Control` says nothing of it.
+    CacheControl,
     /// The server stops once standard input has ended.
     StopWithInput,
     /// Each request is reported on standard error.
@@ -44,6 +46,11 @@ const ABORT_ON_CLOSE: FlagRow = FlagRow {
     help: "Fetches nothing more for a client that has ended its input",
 };
 
+const CACHE_CONTROL: FlagRow = FlagRow {
+    name: "cache-control",
+    help: "Keeps answers as Cache-Control asks where Surrogate-Control doesn't say for how long",
+};
+
 const STOP_WITH_INPUT: FlagRow = FlagRow {
     name: "stop-with-input",
     help: "Stops once standard input has ended: accepts nobody more, and ends what is under way",
@@ -61,9 +68,10 @@ const PRINT_CONFIG: FlagRow = FlagRow {
 
 impl Flag {
     /// All of them, in the order of the options.
-    pub const ALL: [Flag; 5] = [
+    pub const ALL: [Flag; 6] = [
         Flag::Head,
         Flag::AbortOnClose,
+        Flag::CacheControl,
         Flag::StopWithInput,
         Flag::Log,
         Flag::PrintConfig,
@@ -83,6 +91,7 @@ impl Flag {
         match self {
             Flag::Head => HEAD,
             Flag::AbortOnClose => ABORT_ON_CLOSE,
+            Flag::CacheControl => CACHE_CONTROL,
             Flag::StopWithInput => STOP_WITH_INPUT,
             Flag::Log => LOG,
             Flag::PrintConfig => PRINT_CONFIG,

@@ -49,6 +49,9 @@ pub struct Setup {
     pub forwarded: Option<Vec<u8>>,
     /// The names of hosts by which the operator may ask, with commas between, where there are some.
     pub admin_hosts: Option<Vec<u8>>,
+    /// The names of the fields of a page's own answer that reach its reader, with commas between and blanks around them, where
+    /// there are some.
+    pub pass_fields: Option<Vec<u8>>,
 }
 
 /// The options of `serve` whose values may be invalid.
@@ -70,6 +73,8 @@ pub enum Named {
     Forwarded,
     /// `--admin-host`: not names of hosts, or nowhere to ask by them.
     AdminHost,
+    /// `--pass-fields`: not names of fields that may be passed.
+    PassFields,
 }
 
 impl Named {
@@ -88,6 +93,8 @@ impl Named {
             Named::Forwarded => "error: --forwarded takes the name of a field, as x-forwarded-for",
             Named::AdminHost =>
                 "error: --admin-host takes names of hosts with commas between, as edge.internal,edge-1, beside --admin",
+            Named::PassFields =>
+                "error: --pass-fields takes field names with commas between, as location,cache-control, none of a connection, of a body's length, type or coding, nor set-cookie",
         }
     }
 }

@@ -26,6 +26,8 @@ pub(crate) enum Word {
     Forwarded,
     /// The edge's name among others.
     Name,
+    /// The names of the fields of a page's own answer that reach its reader.
+    PassFields,
     /// The file of further options.
     Config,
 }
@@ -104,6 +106,13 @@ const NAME: WordRow = WordRow {
     help: "The edge's name: a request that has passed it before is refused",
 };
 
+const PASS_FIELDS: WordRow = WordRow {
+    name: "pass-fields",
+    occurs: Occurrence::AtMostOnce,
+    value: "NAMES",
+    help: "Names of fields, with commas between, that a page's reader gets from the answer of the page itself",
+};
+
 const CONFIG: WordRow = WordRow {
     name: "config",
     occurs: Occurrence::AtMostOnce,
@@ -113,7 +122,7 @@ const CONFIG: WordRow = WordRow {
 
 impl Word {
     /// All of them, in the order of the options.
-    pub const ALL: [Word; 8] = [
+    pub const ALL: [Word; 9] = [
         Word::Listen,
         Word::Origin,
         Word::Admin,
@@ -121,6 +130,7 @@ impl Word {
         Word::LogFormat,
         Word::Forwarded,
         Word::Name,
+        Word::PassFields,
         Word::Config,
     ];
 
@@ -136,6 +146,7 @@ impl Word {
             Word::LogFormat => LOG_FORMAT,
             Word::Forwarded => FORWARDED,
             Word::Name => NAME,
+            Word::PassFields => PASS_FIELDS,
             Word::Config => CONFIG,
         }
     }

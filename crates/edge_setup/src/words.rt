@@ -3,20 +3,22 @@ ghost use Rattle.std.specs.Prelude.{◌≡◌, option_map, IfOk, MatchOption, Ma
 ghost use Rattle.std.specs.declared.net.socket_addr.SocketAddr.{SocketAddr};
 ghost use Rattle.clap.specs.Words.{first_of, found_of, rows_of};
 ghost use Rattle.edge_setup.specs.Rules.{is_set};
-ghost use Rattle.edge_setup.specs.Words.{are_hosts, hosts_of, hosts_said, is_comma, log_of, log_said, token_of, IsAddress, IsAdmin, IsNoAdmin, HasAddresses, HasLog, HasNumbers, IsFirstWrong, IsRefusedBy, SaysAddresses, SaysSetup, SaysTokens};
+ghost use Rattle.edge_setup.specs.Words.{are_hosts, fields_of, hosts_of, hosts_said, log_of, log_said, token_of, IsAddress, IsAdmin, IsNoAdmin, HasAddresses, HasLog, HasNumbers, IsFirstWrong, IsRefusedBy, SaysAddresses, SaysSetup, SaysTokens};
 
 use crate::flag::Flag;
 use crate::flags::Flags;
+use crate::lists::is_comma;
 use crate::numbers::Numbers;
 use crate::origin::is_name;
 use crate::origins::origins_of;
+use crate::passed_names::are_passed;
 use crate::setup::{Addresses, Named, Setup, SetupFault};
 use crate::word::Word;
 use access_log::LogFormat;
 use clap::ArgMatches;
+use edge_types::is_token;
 use std::alloc::{AllocError, Global};
 use std::net::SocketAddr;
-use surrogate_headers::is_token;
 
 /// The value of an option.
 pub(crate) fn word_of<'a>(matches: &ArgMatches<'a>, name: &str) -> Option<&'a str>
@@ -25,8 +27,8 @@ pub(crate) fn word_of<'a>(matches: &ArgMatches<'a>, name: &str) -> Option<&'a st
     matches.get_str(name)
 }
 
-// The longest name of an edge or of a field.
-const MAX_TOKEN: usize = 64;
+/// The longest name of an edge or of a field.
+pub(crate) const MAX_TOKEN: usize = 64;
 
 // The token that a word writes, where there is one; `None` if it isn't one.
 fn token_of(word: Option<&str>) -> Option<Option<&str>>
@@ -50,12 +52,6 @@ fn copy_of(alloc: Global, token: Option<&str>) -> Result<Option<Vec<u8>>, AllocE
         Some(token) => Ok(Some(token.as_bytes().to_vec(alloc)?)),
         None => Ok(None),
     }
-}
-
-fn is_comma(byte: u8) -> bool
-    ensures { result ≡ is_comma byte }
-{
-    byte == b','
 }
 
 // Whether a text is names of hosts, with commas between.
@@ -85,6 +81,20 @@ fn hosts_said<'a>(matches: &ArgMatches<'a>) -> Option<Option<&'a str>>
 {
     let has_admin = Word::Admin.said(matches).is_some();
     hosts_of(has_admin, Word::AdminHost.said(matches))
+}
+
+// The names of fields that a word writes, where there is one; `None` if one of them may not be passed.
+fn fields_of(word: Option<&str>) -> Option<Option<&str>>
+    ensures { option_map (λ fields. option_map (λ f. f.now) fields) result ≡ fields_of (option_map (λ w. w.now) word.entry) }
+{
+    let Some(fields) = word else {
+        return Some(None);
+    };
+    if are_passed(fields.as_bytes()) {
+        Some(Some(fields))
+    } else {
+        None
+    }
 }
 
 // The address that a word writes.
@@ -167,12 +177,14 @@ fn reported_of(matches: &ArgMatches<'_>) -> Result<Option<LogFormat>, Named>
     log_said(matches).ok_or(Named::LogFormat)
 }
 
-/// What the options name: the edge, the field by which a proxy names clients, and the hosts by which the operator may ask.
+/// What the options name: the edge, the field by which a proxy names clients, the hosts by which the operator may ask, and the
+/// fields that are passed.
 #[derive(Clone, Copy)]
 pub(crate) struct Tokens<'a> {
     name: Option<&'a str>,
     forwarded: Option<&'a str>,
     hosts: Option<&'a str>,
+    fields: Option<&'a str>,
 }
 
 // What the options name.
@@ -184,6 +196,7 @@ fn tokens_of<'a>(matches: &ArgMatches<'a>) -> Result<Tokens<'a>, Named>
         name: token_of(Word::Name.said(matches)).ok_or(Named::Name)?,
         forwarded: token_of(Word::Forwarded.said(matches)).ok_or(Named::Forwarded)?,
         hosts: hosts_said(matches).ok_or(Named::AdminHost)?,
+        fields: fields_of(Word::PassFields.said(matches)).ok_or(Named::PassFields)?,
     })
 }
 
@@ -211,5 +224,6 @@ pub fn setup_of(alloc: Global, matches: &ArgMatches<'_>) -> Result<Setup, SetupF
         name: copy_of(alloc, tokens.name)?,
         forwarded: copy_of(alloc, tokens.forwarded)?,
         admin_hosts: copy_of(alloc, tokens.hosts)?,
+        pass_fields: copy_of(alloc, tokens.fields)?,
     })
 }

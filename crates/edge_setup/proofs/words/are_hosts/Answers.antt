@@ -2,7 +2,8 @@ use Rattle.std.proofs.Common.{rules, tests}
 use Rattle.std.proofs.lemmas.Iterator.Splits.{YieldsList-from_slice_split}
 use Rattle.std.proofs.lemmas.Iterator.Search.{all_from_yields_List}
 use Rattle.edge_setup.specs.OriginWord.{is_name}
-use Rattle.edge_setup.specs.Words.{are_hosts, is_comma}
+use Rattle.edge_setup.specs.Lists.{is_comma}
+use Rattle.edge_setup.specs.Words.{are_hosts}
 use Rattle.edge_setup.proofs.words.are_hosts.Goals as goal
 
 pub returns : goal.returns
