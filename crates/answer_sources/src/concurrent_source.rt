@@ -3,9 +3,9 @@
 ghost use Rattle.std.specs.Prelude.{IfOk, IfSome};
 ghost use Rattle.std.specs.Arc.{arc_value};
 
+use crate::answers::Answers;
 use crate::bell::Bell;
 use crate::given::Given;
-use crate::source::Source;
 use edge_types::{NoMemory, PageUrl};
 use std::alloc::Global;
 use std::os::fd::RawFd;
@@ -26,7 +26,7 @@ pub struct Awaited {
 /// A source that makes several fetches at once for one page, which goes on with whichever ends first.
 ///
 /// Each fetch that was begun ends once: `next` gives its answer, or it is given up with all that are in flight.
-pub trait ConcurrentSource<R>: Source<R> {
+pub trait ConcurrentSource<R>: Answers<R> {
     /// What one page has in flight. One thread at a time has it, not always the same one. It can't be dropped: `give_up`
     /// takes it.
     type InFlight;

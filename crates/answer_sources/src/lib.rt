@@ -1,6 +1,8 @@
-//! Where answers come from: a `Source` gives them, and a `ConcurrentSource` several at once to one page.
+//! Where answers come from: a `Source` gives one after another, and a `ConcurrentSource` several at once to one page.
 #![tactic(auto)]
 
+mod alone;
+mod answers;
 mod bell;
 mod clock;
 mod concurrent_source;
@@ -12,6 +14,8 @@ mod same;
 mod source;
 mod table_source;
 
+pub use alone::{fetch_alone, fetch_or_fail, let_go};
+pub use answers::{Answers, Found};
 pub use bell::Bell;
 pub use clock::Clock;
 pub use concurrent_source::{Arrival, Awaited, ConcurrentSource};
@@ -20,5 +24,5 @@ pub use given::{Given, Way, WayCounts};
 pub use on_behalf::OnBehalf;
 pub use one_by_one::OneByOne;
 pub use same::same_answer;
-pub use source::{Found, Source};
+pub use source::Source;
 pub use table_source::TableSource;

@@ -3,12 +3,12 @@
 ghost use Rattle.std.specs.Prelude.{ℕ, List, IfOk, IfSome};
 ghost use Rattle.edge_types.specs.Answered.{Answered};
 
-use crate::source::Source;
+use crate::answers::Answers;
 use edge_types::NoMemory;
 use std::alloc::Global;
 
 /// A source that may tell those whom it asks which edges a request has passed, so that a circle of several edges ends.
-pub trait OnBehalf<R>: Source<R> {
+pub trait OnBehalf<R>: Answers<R> {
     /// What is asked instead of this source for requests that have passed these edges, a list as in `CDN-Loop`; by
     /// default nothing is, so that this source is asked for all. It shares what this one keeps, and gives nothing that
     /// this one couldn't give.

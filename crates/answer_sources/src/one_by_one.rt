@@ -2,9 +2,9 @@
 
 ghost use Rattle.std.specs.Prelude.{◌≡◌};
 
+use crate::answers::{Answers, Found};
 use crate::concurrent_source::{Arrival, ConcurrentSource};
-use crate::given::Given;
-use crate::source::{Found, Source};
+use crate::source::Source;
 use edge_types::{Answer, NoMemory, PageUrl};
 use plan_compiler::Prepared;
 use std::alloc::Global;
@@ -19,14 +19,10 @@ pub struct OneByOne<'a, S> {
     pub source: &'a S,
 }
 
-impl<'a, R, S: Source<R>> Source<R> for OneByOne<'a, S> {
+impl<'a, R, S: Source<R>> Answers<R> for OneByOne<'a, S> {
     ghost gives = { λ it url answer. S.gives it.source.now url answer };
 
     ghost names_url = { λ it url answer given. S.names_url it.source.now url answer given };
-
-    fn fetch(&self, rt: &R, alloc: Global, url: &PageUrl) -> Result<Given, NoMemory> {
-        self.source.fetch(rt, alloc, url)
-    }
 
     fn ready(&self, rt: &R, alloc: Global, url: &PageUrl) -> Found {
         self.source.ready(rt, alloc, url)
@@ -61,7 +57,7 @@ impl<'a, R, S: Source<R>> ConcurrentSource<R> for OneByOne<'a, S> {
 
     fn next(&self, rt: &R, alloc: Global, in_flight: &mut VecDeque<PageUrl>) -> Arrival {
         match in_flight.pop_front() {
-            Some(url) => Ok(Some(self.fetch(rt, alloc, &url)?)),
+            Some(url) => Ok(Some(self.source.fetch(rt, alloc, &url)?)),
             None => Ok(None),
         }
     }

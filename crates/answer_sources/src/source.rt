@@ -1,55 +1,17 @@
-//! Where answers come from.
+//! Sources that are asked for one answer after another.
 
-ghost use Rattle.std.specs.Prelude.{◌≡◌, ℕ, List, IfOk, IfSome};
+ghost use Rattle.std.specs.Prelude.{IfOk};
 ghost use Rattle.std.specs.Arc.{arc_value};
-ghost use Rattle.edge_types.specs.Answered.{Answered};
 
+use crate::answers::Answers;
 use crate::given::Given;
-use edge_types::{Answer, NoMemory, PageUrl};
-use plan_compiler::Prepared;
+use edge_types::{NoMemory, PageUrl};
 use std::alloc::Global;
-use std::sync::Arc;
 
-/// The answer of a URL, if there is one; `NoMemory` if an allocation failed.
-pub type Found = Result<Option<Arc<Answer>>, NoMemory>;
-
-/// What gives the answers of URLs, to any number of threads at once. An implementation takes from its
-/// runtime what it needs.
-///
-/// `gives` says which answers it may give for a URL; at the least, they name the URL.
-pub trait Source<R> {
-    ghost gives: { Self → List ℕ → Answered → Type 0 };
-
+/// What gives the answer of a URL to a thread that waits for it.
+pub trait Source<R>: Answers<R> {
     /// Asks for the answer of a URL, and waits for it. What can't be fetched is a failed answer;
     /// `NoMemory` if an allocation fails.
     fn fetch(&self, rt: &R, alloc: Global, url: &PageUrl) -> Result<Given, NoMemory>
-        ensures { IfOk result (λ given. gives self.now url.now (arc_value given.answer)) };
-
-    /// The answer of a URL, if it is there without waiting; by default a source has none. Whoever gets it
-    /// doesn't fetch, so a page's gate isn't called.
-    fn ready(&self, _rt: &R, _alloc: Global, _url: &PageUrl) -> Found
-        ensures { IfOk result (λ found. IfSome found (λ answer. gives self.now _url.now (arc_value answer))) }
-    {
-        Ok(None)
-    }
-
-    /// The answer that would bridge a failing origin for a URL, if it is there without waiting; by default a source
-    /// has none. Nothing is fetched for it.
-    fn bridging(&self, _rt: &R, _alloc: Global, _url: &PageUrl) -> Found
-        ensures { IfOk result (λ found. IfSome found (λ answer. gives self.now _url.now (arc_value answer))) }
-    {
-        Ok(None)
-    }
-
-    /// An answer, made ready. By default it is read and compiled here; a source that keeps answers may keep what it made of
-    /// them, too.
-    ///
-    /// `NoMemory` if an allocation fails; the answer is dropped then.
-    fn prepared(&self, _rt: &R, alloc: Global, answer: Arc<Answer>) -> Result<Prepared, NoMemory>
-        ensures { IfOk result (λ prepared. prepared ≡ arc_value answer) }
-    {
-        Prepared::of(alloc, answer)
-    }
-
-    ghost names_url: { (source : Self) (url : List ℕ) (answer : Answered) → gives source url answer → answer.url ≡ url };
+        ensures { IfOk result (λ given. Self.gives self.now url.now (arc_value given.answer)) };
 }

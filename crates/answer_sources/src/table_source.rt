@@ -2,6 +2,7 @@
 
 ghost use Rattle.std.specs.Prelude.{◌≡◌};
 
+use crate::answers::Answers;
 use crate::concurrent_source::{Arrival, ConcurrentSource};
 use crate::given::Given;
 use crate::on_behalf::OnBehalf;
@@ -38,14 +39,16 @@ impl TableSource {
     }
 }
 
-impl<R> Source<R> for TableSource {
+impl<R> Answers<R> for TableSource {
     ghost use Rattle.std.proofs.Common.{ap};
     ghost use Rattle.answer_sources.specs.Given.{GivenByTable};
 
     ghost gives = { GivenByTable };
 
     ghost names_url = { λ table url answer given. ap (λ a. a.url) given };
+}
 
+impl<R> Source<R> for TableSource {
     fn fetch(&self, _rt: &R, alloc: Global, url: &PageUrl) -> Result<Given, NoMemory> {
         match self.table.get(url) {
             Some(answer) => Ok(Given::fetched(Arc::try_clone(answer)?)),

@@ -4,7 +4,7 @@ ghost use Rattle.std.specs.Prelude.{◌≡◌, IfOk};
 
 use crate::shared_failures::SharedFailures;
 use answer_sources::{
-    Arrival, Awaited, Bell, Clock, ConcurrentSource, Found, Given, OnBehalf, Source,
+    Answers, Arrival, Awaited, Bell, Clock, ConcurrentSource, Found, Given, OnBehalf,
 };
 use edge_types::{Answer, NoMemory, PageUrl};
 use std::alloc::Global;
@@ -52,19 +52,10 @@ impl<S, C: Copy> SparingSource<S, C> {
     }
 }
 
-impl<R: Wait, S: Source<R>, C: Clock<R>> Source<R> for SparingSource<S, C> {
+impl<R, S: Answers<R>, C> Answers<R> for SparingSource<S, C> {
     ghost gives = { λ _ url answer. answer.url ≡ url };
 
     ghost names_url = { λ _ _ _ named. named };
-
-    fn fetch(&self, rt: &R, alloc: Global, url: &PageUrl) -> Result<Given, NoMemory> {
-        if let Some(answer) = self.failures.failing(rt, &self.clock, url)? {
-            return Ok(Given::fetched(answer));
-        }
-        let given = self.source.fetch(rt, alloc, url)?;
-        self.failures.note(rt, &self.clock, &given.answer);
-        Ok(given)
-    }
 
     fn ready(&self, rt: &R, alloc: Global, url: &PageUrl) -> Found {
         self.source.ready(rt, alloc, url)
@@ -76,7 +67,7 @@ impl<R: Wait, S: Source<R>, C: Clock<R>> Source<R> for SparingSource<S, C> {
 }
 
 // It remembers the same failures, since 508, by which a source would say what the request has passed, isn't one.
-impl<R: Wait, S: OnBehalf<R> + Drop, C: Clock<R> + Copy> OnBehalf<R> for SparingSource<S, C> {
+impl<R, S: OnBehalf<R> + Drop, C: Copy> OnBehalf<R> for SparingSource<S, C> {
     fn on_behalf(
         &self,
         alloc: Global,

@@ -61,14 +61,14 @@ where
 /// Assembles by two threads through a cache, from which one of the page's fragments is then fetched once more.
 pub fn assemble_through_cache<R>(rt: &R, name: &str) -> Option<()>
 where
-    R: Wait + Threads + AllocGlobal + Print + Sync,
+    R: Wait + Threads + Clock + AllocGlobal + Print + Sync,
 {
     assemble_and_fetch(rt, name, &cache(rt.alloc())?)
 }
 
 fn assemble_and_fetch<R, S>(rt: &R, name: &str, source: &S) -> Option<()>
 where
-    R: Wait + Threads + AllocGlobal + Print + Sync,
+    R: Wait + Threads + Clock + AllocGlobal + Print + Sync,
     S: Source<R> + Sync,
 {
     assemble_from(rt, name, source, Assembling::new(AHEAD, 2, LEVELS))?;

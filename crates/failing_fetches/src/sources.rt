@@ -2,7 +2,7 @@
 
 use allocation_tools::printing::{answers, bytes, calls, out_of_memory, word};
 use allocation_tools::values::{answer, processed, stored, url};
-use answer_sources::{Clock as Seconds, Given, OnBehalf, Source, TableSource};
+use answer_sources::{Answers, Clock as Seconds, Given, OnBehalf, OneByOne, Source, TableSource};
 use edge_connections::ServerRuntime;
 use edge_types::{NoMemory, PageUrl, SharedBytes, Table};
 use fragment_cache::UrlHashing;
@@ -14,7 +14,7 @@ use std::net::{Net, SocketAddr, TcpStream};
 use std::random::RandomSource;
 use std::sync::Wait;
 use std::sync::atomic::{AtomicBool, Ordering};
-use std::time::Duration;
+use std::time::{Clock, Duration};
 
 // How many answers a shard of a cache may keep.
 const CAPACITY: usize = 2;
@@ -39,13 +39,15 @@ struct Forgetful {
     is_asked: AtomicBool,
 }
 
-impl<R> Source<R> for Forgetful {
+impl<R> Answers<R> for Forgetful {
     ghost use Rattle.std.specs.Prelude.{◌≡◌};
 
     ghost gives = { λ forgetful url answer. answer.url ≡ url };
 
     ghost names_url = { λ forgetful url answer given. given };
+}
 
+impl<R> Source<R> for Forgetful {
     fn fetch(&self, rt: &R, alloc: Global, url: &PageUrl) -> Result<Given, NoMemory> {
         if self.is_asked.swap(true, Ordering::SeqCst) {
             self.table.fetch(rt, alloc, url)
@@ -112,7 +114,7 @@ where
     print_fetched(rt, &source.fetch(rt, rt.alloc(), &url))
 }
 
-pub fn new_cache<R: Wait + AllocGlobal + Print>(rt: &R, name: &str) -> Option<()> {
+pub fn new_cache<R: Wait + Clock + AllocGlobal + Print>(rt: &R, name: &str) -> Option<()> {
     let source = TableSource::new(table(rt.alloc())?);
     calls(rt, name)?;
     let made = Cache::new(rt.alloc(), source, Still, CAPACITY);
@@ -122,7 +124,7 @@ pub fn new_cache<R: Wait + AllocGlobal + Print>(rt: &R, name: &str) -> Option<()
 
 pub fn hashed_cache<R>(rt: &R, name: &str) -> Option<()>
 where
-    R: Wait + AllocGlobal + RandomSource + Print,
+    R: Wait + Clock + AllocGlobal + RandomSource + Print,
 {
     let source = TableSource::new(table(rt.alloc())?);
     let hashing = UrlHashing::secret(rt).ok()?;
@@ -135,7 +137,7 @@ where
 // What a cache that was made answers first.
 fn print_made<R>(rt: &R, made: &Result<Cache<TableSource, Still>, NoMemory>) -> Option<()>
 where
-    R: Wait + AllocGlobal + Print,
+    R: Wait + Clock + AllocGlobal + Print,
 {
     match made {
         Ok(cache) => print_again(rt, cache, "/x"),
@@ -183,13 +185,13 @@ where
 /// Fetches what isn't stored yet, or, where the table has no answer, never is.
 pub fn fetch_through_cache<R>(rt: &R, name: &str, path: &str) -> Option<()>
 where
-    R: Wait + AllocGlobal + Print,
+    R: Wait + Clock + AllocGlobal + Print,
 {
     fetch_twice(rt, name, &cache(rt.alloc())?, path)
 }
 
 /// Fetches what is stored.
-pub fn fetch_from_cache<R: Wait + AllocGlobal + Print>(rt: &R, name: &str) -> Option<()> {
+pub fn fetch_from_cache<R: Wait + Clock + AllocGlobal + Print>(rt: &R, name: &str) -> Option<()> {
     fetch_stored(rt, name, &cache(rt.alloc())?)
 }
 
@@ -203,11 +205,15 @@ where
 }
 
 /// Fetches where the source runs out of memory whether or not an allocation fails.
-pub fn fetch_from_forgetful<R: Wait + AllocGlobal + Print>(rt: &R, name: &str) -> Option<()> {
-    let source = Forgetful {
+pub fn fetch_from_forgetful<R: Wait + Clock + AllocGlobal + Print>(
+    rt: &R,
+    name: &str,
+) -> Option<()> {
+    let forgetful = Forgetful {
         table: TableSource::new(table(rt.alloc())?),
         is_asked: AtomicBool::new(false),
     };
+    let source = OneByOne { source: &forgetful };
     let cache = Cache::new(rt.alloc(), source, Still, CAPACITY).ok()?;
     fetch_twice(rt, name, &cache, "/x")
 }

@@ -9,6 +9,7 @@ use plan_compiler::{Form, Prepared};
 use std::alloc::{AllocGlobal, Global};
 use std::io::Print;
 use std::sync::{Arc, Wait};
+use std::time::Clock;
 
 const TEMPLATE: &str = "A<esi:include src='/x'/>";
 
@@ -22,12 +23,12 @@ fn template(alloc: Global) -> Option<Arc<Answer>> {
 }
 
 /// Makes ready what isn't kept yet.
-pub fn prepare_by_cache<R: Wait + AllocGlobal + Print>(rt: &R, name: &str) -> Option<()> {
+pub fn prepare_by_cache<R: Wait + Clock + AllocGlobal + Print>(rt: &R, name: &str) -> Option<()> {
     prepare_twice(rt, name, &cache(rt.alloc())?)
 }
 
 /// Makes ready what is kept.
-pub fn prepare_from_cache<R: Wait + AllocGlobal + Print>(rt: &R, name: &str) -> Option<()> {
+pub fn prepare_from_cache<R: Wait + Clock + AllocGlobal + Print>(rt: &R, name: &str) -> Option<()> {
     prepare_kept(rt, name, &cache(rt.alloc())?)
 }
 

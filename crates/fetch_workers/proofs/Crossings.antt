@@ -7,7 +7,7 @@ use Rattle.std.proofs.MapsCrossing
 use Rattle.edge_types.proofs.page_url.PageUrl.TheSendSync as PageUrl
 use Rattle.edge_types.proofs.request.Request.TheSendSync as Request
 use Rattle.answer_sources.proofs.Crossings.{prepared_send}
-use Rattle.answer_sources.specs.declared.source.Source.{Ghosts}
+use Rattle.answer_sources.specs.declared.answers.Answers.{Ghosts}
 use Rattle.answer_board.specs.contracts.board.Board as board
 use Rattle.plan_runner.proofs.advance.Progress.TheSendSync as Progress
 use Rattle.plan_runner.proofs.page.Stage.TheSendSync as Stage

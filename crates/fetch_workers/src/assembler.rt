@@ -21,7 +21,7 @@ use crate::page_in_progress::PageInProgress;
 use crate::shared_desk::SharedDesk;
 use crate::wanted_page::WantedPage;
 use crate::worker::Worker;
-use answer_sources::{ConcurrentSource, Gate, OneByOne, OpenGate, Source, WayCounts};
+use answer_sources::{Answers, ConcurrentSource, Gate, OneByOne, OpenGate, Source, WayCounts};
 use edge_types::{Answer, NoMemory, Outcome, PageUrl, Request};
 use plan_runner::{Page, State};
 use std::alloc::Global;
@@ -323,7 +323,7 @@ impl Assembling {
 }
 
 // The page that was worked for, if it is the one that its workers' answers make, all of which the source gave.
-pub(crate) fn put_together<R, S: Source<R>>(
+pub(crate) fn put_together<R, S: Answers<R>>(
     alloc: Global,
     _source: &S,
     mut page: Page,

@@ -10,7 +10,7 @@ use crate::log::Own;
 use crate::shared_desk::Shared;
 use crate::worker::Worker;
 use answer_board::Ticket;
-use answer_sources::{ConcurrentSource, Gate};
+use answer_sources::{ConcurrentSource, Gate, let_go};
 use edge_types::{NoMemory, PageUrl};
 use std::alloc::Global;
 use std::sync::Wait;
@@ -52,25 +52,10 @@ impl<'a, R: Wait, S: ConcurrentSource<R>, G: Gate<R>, D: Shared<R>> Worker<'a, R
         let mut flights = self.nothing_in_flight();
         let worked = self.keep_working(most, &mut flights, &mut mine);
         let mut fetches = flights.into_fetches();
-        self.let_go(&mut fetches);
+        let_go(self.source, self.rt, self.alloc, &mut fetches);
         self.source.give_up(self.rt, self.alloc, fetches);
         worked?;
         Ok(mine)
-    }
-
-    // Waits until nobody else waits for what is in flight.
-    fn let_go(&self, fetches: &mut S::InFlight) {
-        for _ in self.rt.forever() {
-            if self.source.let_go(self.rt, self.alloc, fetches)
-                || self
-                    .source
-                    .wait(self.rt, self.alloc, fetches, None)
-                    .is_err()
-            {
-                return;
-            }
-        }
-        unreachable!()
     }
 
     fn keep_working(

@@ -9,7 +9,7 @@ use crate::fault::AssembleFault;
 use crate::log::Own;
 use crate::shared_desk::Shared;
 use crate::worker::Worker;
-use answer_sources::{Gate, Source};
+use answer_sources::{Answers, ConcurrentSource, Gate};
 use std::marker::PhantomData;
 use std::sync::Wait;
 use std::thread;
@@ -30,14 +30,14 @@ impl<'a, R, S> Drop for GivenBy<'a, R, S> {
     }
 }
 
-impl<'a, R, S: Source<R>> Promise<Result<Vec<Own>, AssembleFault>> for GivenBy<'a, R, S> {
+impl<'a, R, S: Answers<R>> Promise<Result<Vec<Own>, AssembleFault>> for GivenBy<'a, R, S> {
     ghost kept_by = { λ promise result. IfOk result (λ own. AllOwn (S.gives promise.source.now) own.items) };
 }
 
 impl<'s, R, S, G, D> Worker<'s, R, S, G, D>
 where
     R: Wait + Threads + Sync,
-    S: Source<R> + Sync,
+    S: ConcurrentSource<R> + Sync,
     G: Gate<R> + Sync,
     D: Shared<R> + Sync,
 {
@@ -116,7 +116,7 @@ where
 }
 
 // What both posted, or the first of their faults; out of memory if there is no room for what both posted.
-fn both<R, S: Source<R>>(
+fn both<R, S: Answers<R>>(
     _source: &S,
     one: Result<Vec<Own>, AssembleFault>,
     other: Result<Vec<Own>, AssembleFault>,

@@ -12,7 +12,7 @@ use crate::owed_fetches::{OwedFetches, Owing};
 use crate::shared_desk::SharedDesk;
 use crate::wanted_page::WantedPage;
 use crate::worker::Worker;
-use answer_sources::{Awaited, ConcurrentSource, OpenGate, Source};
+use answer_sources::{Answers, Awaited, ConcurrentSource, OpenGate};
 use edge_types::NoMemory;
 use plan_runner::Page;
 use std::alloc::Global;
@@ -39,14 +39,14 @@ pub struct Ended<R: Wait + Drop, S: ConcurrentSource<R> + Drop> {
 }
 
 // A source, and what was posted of its answers.
-struct Posted<R, S: Source<R>> {
+struct Posted<R, S: Answers<R>> {
     source: S,
     own: Vec<Own>,
     runtime: PhantomData<R>,
     ghost given: { ∥ AreGiven (S.gives source) own.items ∥₁ },
 }
 
-impl<R, S: Source<R>> Posted<R, S> {
+impl<R, S: Answers<R>> Posted<R, S> {
     // States that the source gave what was posted. Does nothing.
     fn known(&self)
         ensures { AreGiven (S.gives self.now.source) self.now.own.items }

@@ -10,7 +10,7 @@ use crate::fault::AssembleFault;
 use crate::log::Own;
 use crate::shared_desk::Shared;
 use answer_board::{Receipt, Ticket};
-use answer_sources::{Gate, Given, Source, Way};
+use answer_sources::{ConcurrentSource, Gate, Given, Way, fetch_alone};
 use edge_types::{Answer, NoMemory, SharedAnswer};
 use plan_compiler::Prepared;
 use std::alloc::Global;
@@ -27,7 +27,7 @@ pub(crate) struct Worker<'a, R, S, G, D> {
     pub shared: &'a D,
 }
 
-impl<'a, R: Wait, S: Source<R>, G: Gate<R>, D: Shared<R>> Worker<'a, R, S, G, D> {
+impl<'a, R: Wait, S: ConcurrentSource<R>, G: Gate<R>, D: Shared<R>> Worker<'a, R, S, G, D> {
     // The receipt from a ticket and the answer of its URL, which the source makes ready, and a second handle to the
     // answer. If memory runs out the ticket is given up.
     fn receipt_of(
@@ -113,8 +113,12 @@ impl<'a, R: Wait, S: Source<R>, G: Gate<R>, D: Shared<R>> Worker<'a, R, S, G, D>
             return Err(AssembleFault::NoMemory);
         }
         self.gate.before_fetch(self.rt, ticket.url());
-        match self.source.fetch(self.rt, self.alloc, ticket.url()) {
-            Ok(given) => self.post(ticket, given, mine),
+        match fetch_alone(self.source, self.rt, self.alloc, ticket.url()) {
+            Ok(Some(given)) => self.post(ticket, given, mine),
+            Ok(None) => {
+                ticket.give_up();
+                Err(AssembleFault::Torn)
+            }
             Err(NoMemory) => {
                 ticket.give_up();
                 Err(AssembleFault::NoMemory)

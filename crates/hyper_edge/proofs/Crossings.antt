@@ -11,7 +11,7 @@ use Rattle.std.specs.contracts.impls.GlobalAllocator.TheImpl.{ghosts}
 use Rattle.std.specs.contracts.option.Option as option
 use Rattle.futures.specs.declared.future.Future as future
 use Rattle.fetch_workers.proofs.Crossings.{page_in_progress_send}
-use Rattle.answer_sources.specs.declared.source.Source.{Ghosts}
+use Rattle.answer_sources.specs.declared.answers.Answers.{Ghosts}
 use Rattle.edge_connections.proofs.connection.Connection.TheSendSync as Connection
 use Rattle.hyper_edge.proofs.journal.Unreported.TheSendSync as Unreported
 use Rattle.hyper_edge.specs.declared.page_time.WithinTime.{WithinTime}

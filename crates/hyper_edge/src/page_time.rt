@@ -7,7 +7,7 @@ ghost use Rattle.std.specs.Time.{instant_nanos};
 ghost use Rattle.hyper_edge.specs.Departure.{is_over};
 ghost use Rattle.hyper_edge.specs.PageTime.{GivesInTime, earlier_of, names_url};
 
-use answer_sources::{Arrival, Awaited, Bell, ConcurrentSource, Given, Source, Way};
+use answer_sources::{Answers, Arrival, Awaited, Bell, ConcurrentSource, Given, Way};
 use edge_connections::ClientWatch;
 use edge_types::{Answer, NoMemory, PageUrl};
 use plan_compiler::Prepared;
@@ -107,7 +107,7 @@ impl<S> WithinTime<S> {
     // What is given for a URL that isn't waited for: what would bridge its failing origin, else a failed answer.
     fn too_late<R>(&self, rt: &R, alloc: Global, url: &PageUrl) -> Result<Given, NoMemory>
     where
-        S: Source<R>,
+        S: Answers<R>,
         ensures given { IfOk result (λ given. GivesInTime (S.gives (arc_value self.now.source)) url.now (arc_value given.answer)) }
         ensures named { IfOk result (λ given. (arc_value given.answer).url ≡ url.now) }
     {
@@ -138,17 +138,10 @@ impl<F> FetchesInTime<F> {
     }
 }
 
-impl<R: Clock, S: Source<R>> Source<R> for WithinTime<S> {
+impl<R, S: Answers<R>> Answers<R> for WithinTime<S> {
     ghost gives = { λ it. GivesInTime (S.gives (arc_value it.source)) };
 
     ghost names_url = { λ it. names_url (S.gives (arc_value it.source)) (S.names_url (arc_value it.source)) };
-
-    fn fetch(&self, rt: &R, alloc: Global, url: &PageUrl) -> Result<Given, NoMemory> {
-        if self.is_over(rt) {
-            return self.too_late(rt, alloc, url);
-        }
-        self.source.fetch(rt, alloc, url)
-    }
 
     fn ready(&self, rt: &R, alloc: Global, url: &PageUrl) -> Result<Option<Arc<Answer>>, NoMemory> {
         self.source.ready(rt, alloc, url)

@@ -2,7 +2,7 @@
 use Rattle.std.specs.Prelude.{◌≡◌, Bool, true, false, List, Any}
 use Rattle.std.specs.declared.net.socket_addr.SocketAddr.{SocketAddr}
 use Rattle.std.specs.declared.io.ErrorKind.{ErrorKind}
-use Rattle.std.specs.declared.io.ErrorKind.TheVariants.{ConnectionRefused, ConnectionReset, HostUnreachable, NetworkUnreachable, TimedOut, WouldBlock}
+use Rattle.std.specs.declared.io.ErrorKind.TheVariants.{ConnectionRefused, ConnectionReset, HostUnreachable, NetworkUnreachable, TimedOut}
 use Rattle.hyper_source.specs.declared.bounded.OriginGate.{OriginGate}
 use Rattle.hyper_source.specs.declared.gathered.Lost.{Lost}
 use Rattle.hyper_source.specs.declared.gathered.Lost.TheVariants.{Fault, NoMemory}
@@ -20,7 +20,6 @@ fault_of ConnectionReset = faults.Connect
 fault_of HostUnreachable = faults.Connect
 fault_of NetworkUnreachable = faults.Connect
 fault_of TimedOut = faults.Timeout
-fault_of WouldBlock = faults.Timeout
 fault_of _ = faults.Cut
 
 -- a body that is longer than it may be, or that broke off

@@ -6,10 +6,9 @@ ghost use Rattle.hyper_source.specs.Fetches.{AnswersLost, HasControl, HasHead, I
 ghost use Rattle.hyper_source.specs.Heads as heads;
 
 use crate::fields::{control_for, head_of};
-use crate::gathered::Lost;
+use crate::gathered::{Lost, Response};
 use crate::head::is_coded;
 use crate::head_rules::HeadRules;
-use crate::round_trip::Response;
 use edge_types::{Answer, NoMemory, PageUrl, SharedBytes};
 use fetch_outcomes::FetchFault;
 use http::response::Parts;

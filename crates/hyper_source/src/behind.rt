@@ -3,8 +3,8 @@
 ghost use Rattle.std.specs.Prelude.{IfOk};
 ghost use Rattle.hyper_source.specs.Behind.{FollowsHead};
 
+use crate::gathered::Response;
 use crate::head::stays_open;
-use crate::round_trip::Response;
 use hyper::client;
 
 /// What is left of a connection behind a response.

@@ -5,32 +5,25 @@ ghost use Rattle.std.specs.declared.net.socket_addr.SocketAddr.{SocketAddr};
 ghost use Rattle.origin_health.specs.declared.standing.FetchEnd.TheVariants as ends;
 ghost use Rattle.hyper_source.specs.Bounded as spec;
 
-use crate::deadline::Deadline;
-use crate::gate::{Bounds, Called, Caller, Chance, Gate};
+use crate::gate::{Bounds, Chance, Gate};
 use crate::gathered::Lost;
 use crate::origin::Origin;
+use answer_sources::Bell;
 use edge_types::NoMemory;
 use fetch_outcomes::FetchFault;
 use origin_health::{FetchEnd, Permit};
 use origin_queue::Place;
 use std::alloc::Global;
 use std::net::SocketAddr;
-use std::sync::{Arc, Condvar, CondvarTimeouts, Mutex, Wait};
-use std::time::{Clock, Duration};
+use std::sync::{Arc, Mutex, Wait};
+use std::time::Clock;
 
 /// What fetches to one address ask before they begin, and tell when they have ended. Nobody holds its lock while
 /// fetching.
 #[derive(Drop)]
 pub(crate) struct OriginGate {
     address: SocketAddr,
-    shared: Arc<SharedGate>,
-}
-
-#[derive(Drop)]
-struct SharedGate {
-    gate: Mutex<Gate>,
-    // Somebody was called.
-    called: Condvar,
+    shared: Arc<Mutex<Gate>>,
 }
 
 impl OriginGate {
@@ -47,74 +40,28 @@ impl OriginGate {
         }
     }
 
-    /// Leave to make a fetch, for which the thread waits, no longer than so; or why none may be made.
-    pub(crate) fn permit<R: Wait + Clock>(&self, rt: &R, until: Deadline) -> Result<Permit, Lost> {
-        let mut chance = self.ask(rt, Caller::Thread);
-        for _ in rt.forever() {
-            chance = match chance {
-                Chance::Granted(permit) => return Ok(permit),
-                Chance::Lost(lost) => return Err(lost),
-                Chance::Waits(place) => match until.left(rt) {
-                    Ok(left) => self.waited(rt, place, left),
-                    Err(_) => {
-                        self.leave(rt, place);
-                        Chance::Lost(Lost::Fault(FetchFault::TooMany))
-                    }
-                },
-            };
-        }
-        unreachable!()
-    }
-
-    // What a fetch is told for which a thread waits, at once or once somebody was called, or this time is over. It looks
-    // under the lock that the wait gives up, so that no call comes between.
-    fn waited<R: Wait + Clock>(&self, rt: &R, place: Place, left: Option<Duration>) -> Chance {
-        let mut gate = self.shared.gate.lock(rt);
-        let (chance, called) = gate.look(millis(rt), place);
-        match (&chance, left) {
-            (Chance::Waits(_), Some(left)) => {
-                let _ = self.shared.called.wait_timeout(rt, gate, left);
-            }
-            (Chance::Waits(_), None) => {
-                let _ = self.shared.called.wait(rt, gate);
-            }
-            (Chance::Granted(_) | Chance::Lost(_), _) => drop(gate),
-        }
-        self.shared.call(called);
-        chance
-    }
-
     /// Whether a fetch may be made now, or waits until it is called so.
-    pub(crate) fn ask<R: Wait + Clock>(&self, rt: &R, caller: Caller) -> Chance {
-        self.shared.gate.lock(rt).ask(millis(rt), caller)
+    pub(crate) fn ask<R: Wait + Clock>(&self, rt: &R, bell: Bell) -> Chance {
+        self.shared.lock(rt).ask(millis(rt), bell)
     }
 
     /// The same of a fetch that waits at a place.
     pub(crate) fn look<R: Wait + Clock>(&self, rt: &R, place: Place) -> Chance {
-        let (chance, called) = self.shared.gate.lock(rt).look(millis(rt), place);
-        self.shared.call(called);
+        let (chance, called) = self.shared.lock(rt).look(millis(rt), place);
+        called.ring();
         chance
     }
 
     /// A fetch that waits at a place isn't made.
     pub(crate) fn leave<R: Wait>(&self, rt: &R, place: Place) {
-        let called = self.shared.gate.lock(rt).leave(place);
-        self.shared.call(called);
+        let called = self.shared.lock(rt).leave(place);
+        called.ring();
     }
 
     /// The fetch has ended.
     pub(crate) fn ended<R: Wait + Clock>(&self, rt: &R, permit: Permit, end: FetchEnd) {
-        let called = self.shared.gate.lock(rt).ended(permit, end, millis(rt));
-        self.shared.call(called);
-    }
-}
-
-impl SharedGate {
-    // Wakes those who are called: which of the threads that wait these are, each finds out by itself.
-    fn call(&self, called: Called) {
-        if called.ring() {
-            self.called.notify_all();
-        }
+        let called = self.shared.lock(rt).ended(permit, end, millis(rt));
+        called.ring();
     }
 }
 
@@ -141,18 +88,14 @@ fn add_gate(
     bounds: Bounds,
 ) -> Result<(), NoMemory>
     ensures added { IfOk result (λ _. spec.HasGate gates.new.items address) }
-    ensures kept { (other : SocketAddr) → spec.HasGate gates.old.items other → spec.HasGate gates.new.items other }
+    ensures others { (other : SocketAddr) → spec.HasGate gates.old.items other → spec.HasGate gates.new.items other }
 {
     if gate_of(gates.as_slice(), address).is_some() {
         return Ok(());
     }
-    let shared = SharedGate {
-        gate: Mutex::new(Gate::new(alloc, bounds)),
-        called: Condvar::new(),
-    };
     gates.push(OriginGate {
         address,
-        shared: Arc::new(alloc, shared)?,
+        shared: Arc::new(alloc, Mutex::new(Gate::new(alloc, bounds)))?,
     })?;
     Ok(())
 }

@@ -4,8 +4,7 @@ ghost use Rattle.std.specs.Prelude.{IfOk};
 ghost use Rattle.hyper_source.specs.Behind.{FollowsHead};
 
 use crate::behind::Behind;
-use crate::gathered::Lost;
-use crate::round_trip::Response;
+use crate::gathered::{Lost, Response};
 use fetch_outcomes::FetchFault;
 
 /// How an exchange has ended.

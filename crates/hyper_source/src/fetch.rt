@@ -6,11 +6,11 @@ ghost use Rattle.hyper_source.specs.Behind.{FollowsHead};
 use crate::behind::Behind;
 use crate::deadline::Deadline;
 use crate::errand::Errand;
+use crate::exchange::{Exchange, ExchangeStep};
 use crate::exchange_end::ExchangeEnd;
 use crate::gathered::Lost;
 use crate::origin::Chosen;
 use crate::origin_socket::OriginSocket;
-use crate::polled_exchange::{ExchangeStep, PolledExchange};
 use crate::poller::{Poller, Watched};
 use crate::reach::{Reach, lost_by};
 use crate::stream_signals::Need;
@@ -41,7 +41,7 @@ pub(crate) struct Fetch {
 #[derive(Drop)]
 pub(crate) struct Attempt {
     /// What goes over the connection.
-    pub(crate) exchange: PolledExchange,
+    pub(crate) exchange: Exchange,
     /// Whether the connection was kept from an earlier fetch.
     pub(crate) is_kept: bool,
     /// What is told of its socket.

@@ -46,42 +46,23 @@ pub(crate) enum Called {
     /// Nobody.
     Nobody,
     /// Whoever waited first.
-    Next(Caller),
+    Next(Bell),
     /// All who waited: they have failed.
-    All(BTreeMap<u64, Caller>),
-}
-
-/// By what one who waits is called.
-#[derive(Drop)]
-pub(crate) enum Caller {
-    /// A page that holds no thread, by its bell.
-    Page(Bell),
-    /// A thread, which waits for the gate itself.
-    Thread,
-}
-
-impl Caller {
-    // A thread is woken by whoever has the gate.
-    fn ring(&self) {
-        if let Caller::Page(bell) = self {
-            bell.ring();
-        }
-    }
+    All(BTreeMap<u64, Bell>),
 }
 
 impl Called {
-    /// Rings those who are called; whether there are any.
-    pub(crate) fn ring(self) -> bool {
+    /// Rings those who are called.
+    pub(crate) fn ring(self) {
         match self {
-            Called::Nobody => return false,
-            Called::Next(caller) => caller.ring(),
-            Called::All(callers) => {
-                for caller in callers.values() {
-                    caller.ring();
+            Called::Nobody => {}
+            Called::Next(bell) => bell.ring(),
+            Called::All(bells) => {
+                for bell in bells.values() {
+                    bell.ring();
                 }
             }
         }
-        true
     }
 }
 
@@ -91,7 +72,7 @@ pub(crate) struct Gate {
     health: OriginHealth,
     queue: OriginQueue,
     // Of those who wait, by the numbers of their places. Whoever has none there waits no longer.
-    callers: BTreeMap<u64, Caller>,
+    bells: BTreeMap<u64, Bell>,
     alloc: Global,
 }
 
@@ -109,13 +90,13 @@ impl Gate {
         Gate {
             health: OriginHealth::new(of_health),
             queue: OriginQueue::new(alloc, of_queue),
-            callers: BTreeMap::new(alloc),
+            bells: BTreeMap::new(alloc),
             alloc,
         }
     }
 
     /// Whether a fetch may be made at this millisecond; one that has to wait is called so.
-    pub(crate) fn ask(&mut self, now: u64, caller: Caller) -> Chance
+    pub(crate) fn ask(&mut self, now: u64, bell: Bell) -> Chance
         ensures { Asks self.old now result self.new }
     {
         if self.health.rests(now) {
@@ -123,7 +104,7 @@ impl Gate {
         }
         match self.queue.ask() {
             Ok(Ruling::Goes) => self.goes(now),
-            Ok(Ruling::Waits(place)) => self.waits(place, caller),
+            Ok(Ruling::Waits(place)) => self.waits(place, bell),
             Ok(Ruling::Full) => Chance::Lost(Lost::Fault(FetchFault::TooMany)),
             Err(AllocError) => Chance::Lost(Lost::NoMemory),
         }
@@ -142,10 +123,10 @@ impl Gate {
         }
     }
 
-    fn waits(&mut self, place: Place, caller: Caller) -> Chance
+    fn waits(&mut self, place: Place, bell: Bell) -> Chance
         ensures { Joins self.old place result self.new }
     {
-        match self.callers.insert(place.number(), caller) {
+        match self.bells.insert(place.number(), bell) {
             Ok(_) => Chance::Waits(place),
             Err(_) => {
                 let _ = self.queue.leave(place);
@@ -186,7 +167,7 @@ impl Gate {
     fn look_waiting(&self, place: Place) -> Chance
         ensures { LooksWaiting place result }
     {
-        if self.callers.contains_key(&place.number()) {
+        if self.bells.contains_key(&place.number()) {
             Chance::Waits(place)
         } else {
             Chance::Lost(Lost::Fault(FetchFault::AtRest))
@@ -197,7 +178,7 @@ impl Gate {
     pub(crate) fn leave(&mut self, place: Place) -> Called
         ensures { Leaves self.old place self.new }
     {
-        let _ = self.callers.remove(&place.number());
+        let _ = self.bells.remove(&place.number());
         let next = self.queue.leave(place);
         self.call(next)
     }
@@ -225,7 +206,7 @@ impl Gate {
             return Called::Nobody;
         }
         self.queue.dismiss();
-        Called::All(mem::replace(&mut self.callers, BTreeMap::new(self.alloc)))
+        Called::All(mem::replace(&mut self.bells, BTreeMap::new(self.alloc)))
     }
 
     fn call(&mut self, next: Option<Place>) -> Called
@@ -235,7 +216,7 @@ impl Gate {
         let Some(place) = next else {
             return Called::Nobody;
         };
-        match self.callers.remove(&place.number()) {
+        match self.bells.remove(&place.number()) {
             Some(caller) => Called::Next(caller),
             None => Called::Nobody,
         }

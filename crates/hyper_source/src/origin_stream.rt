@@ -1,131 +1,86 @@
-//! A socket to an origin, whose polls block for as long as the fetch may still take.
+//! A socket to an origin, whose polls never block.
 
 ghost use Rattle.std.specs.Prelude.{◌≡◌, ◌↔◌, ⊤, IsTrue, IsErrAnd};
-ghost use Rattle.std.specs.Io.{ReadsAtMost, WritesAtMost};
 ghost use Rattle.std.specs.IoError.{error_kind};
 
-use crate::deadline::Deadline;
 use crate::intake::{BodyCount, Intake};
 use crate::origin_socket::OriginSocket;
-use crate::reach::Reach;
+use crate::stream_signals::{Need, StreamSignals};
 use futures::task::{Context, Poll};
 use std::io;
 use std::io::{ErrorKind, Write};
-use std::net::{Net, SocketAddr, TcpStream};
-use std::sync::atomic::{AtomicBool, Ordering};
-use std::sync::{Arc, Wait};
-use std::time::Clock;
+use std::sync::Arc;
 use tokio::io::{AsyncRead, AsyncWrite};
 
-/// A connection to an origin, for one fetch. Past its deadline, where it has one, each read and write fails.
+/// A connection to an origin, for one fetch, on a socket that doesn't block. A read or write that would
+/// block says so by the stream's signals.
 ///
 /// A client reads before it writes: until something was written, a read asks to be polled again.
 #[derive(Drop)]
-pub(crate) struct OriginStream<R> {
+pub(crate) struct OriginStream {
     socket: OriginSocket,
-    clock: R,
-    deadline: Deadline,
-    has_written: bool,
+    stage: Stage,
     intake: Intake,
-    // Told as soon as a byte has come.
-    heard: Option<Arc<AtomicBool>>,
-    // Told of each read and write.
-    reach: Option<Reach>,
+    signals: Arc<StreamSignals>,
 }
 
-impl<R: Wait + Net<Stream = TcpStream> + Clock + Clone> OriginStream<R> {
-    /// A new connection, for an answer whose body is counted so.
-    pub(crate) fn connected(
-        rt: &R,
-        address: SocketAddr,
-        deadline: Deadline,
-        body: BodyCount,
-    ) -> io::Result<OriginStream<R>> {
-        for _ in rt.forever() {
-            let socket = OriginSocket::connected(rt, address, deadline);
-            if !was_interrupted(&socket) {
-                return OriginStream::over(rt, socket?, deadline, body, None);
-            }
-        }
-        unreachable!()
-    }
+// How far the exchange is.
+#[derive(Clone, Copy, Debug, PartialEq, Eq)]
+enum Stage {
+    // Nothing was written, nor tried to be.
+    Fresh,
+    // Nothing was written, since that would block.
+    Delayed,
+    // Something was written by the first call, so no response can have come yet.
+    Asked,
+    // A response may have come.
+    Answered,
 }
 
-impl<R: Clock + Clone> OriginStream<R> {
-    /// A further fetch over a connection. As soon as a byte has come, that is told.
+impl OriginStream {
+    /// A connection, made or still being made, over a socket that doesn't block, for an answer whose body is counted so.
     pub(crate) fn over(
-        rt: &R,
         socket: OriginSocket,
-        deadline: Deadline,
         body: BodyCount,
-        heard: Option<Arc<AtomicBool>>,
-    ) -> io::Result<OriginStream<R>> {
-        Ok(OriginStream {
+        signals: Arc<StreamSignals>,
+    ) -> OriginStream {
+        OriginStream {
             socket,
-            clock: rt.clone()?,
-            deadline,
-            has_written: false,
+            stage: Stage::Fresh,
             intake: Intake::new(body),
-            heard,
-            reach: None,
-        })
+            signals,
+        }
     }
-}
 
-impl<R: Drop> OriginStream<R> {
     /// The connection, for a further fetch.
     pub(crate) fn into_socket(self) -> OriginSocket {
         self.socket
     }
 
-    // Tells that bytes have come, if any have.
-    fn hears(&self, read: &io::Result<usize>) {
-        if let Some(heard) = &self.heard
-            && matches!(read, Ok(1..))
-        {
-            heard.store(true, Ordering::SeqCst);
-        }
+    // Goes on after a write that was done or would block.
+    fn has_tried(&mut self, is_done: bool) {
+        self.stage = match self.stage {
+            Stage::Fresh if is_done => Stage::Asked,
+            Stage::Fresh => Stage::Delayed,
+            Stage::Delayed if is_done => Stage::Answered,
+            stage => stage,
+        };
     }
 }
 
-impl<R: Clock> OriginStream<R> {
-    /// The same stream, which tells of its origin by its reads and writes.
-    pub(crate) fn telling(self, reach: Reach) -> OriginStream<R> {
-        let mut stream = self;
-        stream.reach = Some(reach);
-        stream
-    }
-
-    // What a read or a write has done, once that is told.
-    fn told(&self, done: io::Result<usize>) -> io::Result<usize>
-        ensures { result ≡ done }
-    {
-        match &self.reach {
-            Some(reach) => reach.told(done),
-            None => done,
-        }
-    }
-
-    fn read(&mut self, buf: &mut [u8]) -> io::Result<usize>
-        ensures { ReadsAtMost result buf.new }
-    {
-        let socket = self.socket.stream();
-        socket.set_read_timeout(self.deadline.left(&self.clock)?)?;
-        self.intake.read(socket, buf)
-    }
-
-    fn write(&self, buf: &[u8]) -> io::Result<usize>
-        ensures { WritesAtMost result buf.now }
-    {
-        let mut socket = self.socket.stream();
-        socket.set_write_timeout(self.deadline.left(&self.clock)?)?;
-        socket.write(buf)
+// Whether a call has to wait until the socket is ready.
+fn would_block<T>(done: &io::Result<T>) -> bool
+    ensures { IsTrue result ↔ IsErrAnd done.now (λ e. error_kind e ≡ ErrorKind.WouldBlock) }
+{
+    match done {
+        Ok(_) => false,
+        Err(e) => matches!(e.kind(), ErrorKind::WouldBlock),
     }
 }
 
-/// Whether a call has to be made again, since a signal came in the midst of it; where the process was stopped and
-/// goes on, that is so even without a handler.
-pub(crate) fn was_interrupted<T>(done: &io::Result<T>) -> bool
+// Whether a call has to be made again, since a signal came in the midst of it; where the process was stopped and goes
+// on, that is so even without a handler.
+fn was_interrupted<T>(done: &io::Result<T>) -> bool
     ensures { IsTrue result ↔ IsErrAnd done.now (λ e. error_kind e ≡ ErrorKind.Interrupted) }
 {
     match done {
@@ -134,7 +89,7 @@ pub(crate) fn was_interrupted<T>(done: &io::Result<T>) -> bool
     }
 }
 
-impl<R: Clock + Drop> AsyncRead for OriginStream<R> {
+impl AsyncRead for OriginStream {
     ghost reads = { λ _ _ _. ⊤ };
 
     ghost is_at_end = { λ _. ⊤ };
@@ -143,33 +98,49 @@ impl<R: Clock + Drop> AsyncRead for OriginStream<R> {
 
     ghost reads_in_order = { λ _ _ _ _ _ _ _. tt };
 
+    // Right after the request a read would block, so it isn't tried.
     fn poll_read(&mut self, cx: &mut Context<'_>, buf: &mut [u8]) -> Poll<io::Result<usize>> {
-        if !self.has_written {
+        match self.stage {
+            Stage::Fresh | Stage::Delayed => return cx.yield_now(),
+            Stage::Asked => {
+                self.stage = Stage::Answered;
+                self.signals.awaits(Need::Input);
+                return cx.yield_now();
+            }
+            Stage::Answered => {}
+        }
+        let done = self.intake.read(self.socket.stream(), buf);
+        if would_block(&done) {
+            self.signals.awaits(Need::Input);
             return cx.yield_now();
         }
-        let done = self.read(buf);
         if was_interrupted(&done) {
             return cx.yield_now();
         }
-        self.hears(&done);
-        Poll::Ready(self.told(done))
+        Poll::Ready(self.signals.has_read(done))
     }
 }
 
-impl<R: Clock + Drop> AsyncWrite for OriginStream<R> {
+impl AsyncWrite for OriginStream {
     ghost writes = { λ _ _ _. ⊤ };
 
     ghost writes_nothing = { λ _. tt };
 
     ghost writes_in_order = { λ _ _ _ _ _ _ _. tt };
 
+    // The first write also tells whether the connection could be made.
     fn poll_write(&mut self, cx: &mut Context<'_>, buf: &[u8]) -> Poll<io::Result<usize>> {
-        self.has_written = true;
-        let done = self.write(buf);
+        let done = self.socket.stream().write(buf);
         if was_interrupted(&done) {
             return cx.yield_now();
         }
-        Poll::Ready(self.told(done))
+        let blocks = would_block(&done);
+        self.has_tried(!blocks);
+        if blocks {
+            self.signals.awaits(Need::Room);
+            return cx.yield_now();
+        }
+        Poll::Ready(self.signals.has_written(done))
     }
 
     fn poll_flush(&mut self, _cx: &mut Context<'_>) -> Poll<io::Result<()>> {

@@ -55,7 +55,7 @@ impl Watched {
     fn with(self, need: Need) -> Watched
         ensures told { result ≢ tells.Nothing }
         ensures room { need ≡ awaits.Room → result ≡ tells.InputAndRoom }
-        ensures kept { self ≡ tells.InputAndRoom → result ≡ tells.InputAndRoom }
+        ensures stays { self ≡ tells.InputAndRoom → result ≡ tells.InputAndRoom }
     {
         match (self, need) {
             (Watched::InputAndRoom, _) | (_, Need::Room) => Watched::InputAndRoom,

@@ -21,7 +21,7 @@ use std::time::{Clock, Duration, Instant};
 // For how long a connection is kept that no request needs, in seconds.
 const MAX_IDLE: u64 = 15;
 
-/// A connection on which nothing is under way. While it is kept its socket doesn't block.
+/// A connection on which nothing is under way. Its socket doesn't block.
 #[derive(Drop)]
 pub(crate) struct IdleSocket {
     pub(crate) socket: OriginSocket,
@@ -35,13 +35,14 @@ pub(crate) struct Strays;
 /// The idle connections to all origins.
 #[derive(Drop)]
 pub(crate) struct Pool {
-    most: u16,
-    kept: Arc<Mutex<Kept>>,
+    /// How many it keeps for each address.
+    pub(crate) most: u16,
+    shared: Arc<Mutex<IdleSockets>>,
 }
 
 // What the lock guards.
 #[derive(Drop)]
-struct Kept {
+struct IdleSockets {
     // The one that was used last comes first.
     idle: Vec<IdleSocket>,
     // Of the address of each origin.
@@ -51,31 +52,24 @@ struct Kept {
 impl Pool {
     /// Keeps none to these origins.
     pub(crate) fn new(alloc: Global, origins: &[Origin]) -> Result<Pool, AllocError> {
-        let kept = Kept {
+        let sockets = IdleSockets {
             idle: Vec::new(alloc),
             reuses: reuses_of(alloc, origins)?,
         };
         Ok(Pool {
             most: 0,
-            kept: Arc::new(alloc, Mutex::new(kept))?,
+            shared: Arc::new(alloc, Mutex::new(sockets))?,
         })
-    }
-
-    /// The same, but it keeps at most this many for each address.
-    pub(crate) fn keeping(self, most: u16) -> Pool {
-        let mut pool = self;
-        pool.most = most;
-        pool
     }
 
     /// One more handle to the same connections.
     pub(crate) fn share(&self) -> Result<Pool, NoMemory>
         ensures most { IfOk result (λ pool. pool.most ≡ self.now.most) }
-        ensures kept { IfOk result (λ pool. arc_value pool.kept ≡ arc_value self.now.kept) }
+        ensures shared { IfOk result (λ pool. arc_value pool.shared ≡ arc_value self.now.shared) }
     {
         Ok(Pool {
             most: self.most,
-            kept: Arc::try_clone(&self.kept)?,
+            shared: Arc::try_clone(&self.shared)?,
         })
     }
 
@@ -84,26 +78,9 @@ impl Pool {
         self.most > 0
     }
 
-    /// The connection to an address that was used last, of those that are open and silent. Its socket blocks. `Strays`
-    /// where bytes have come over one: then none is left, as after `strayed`.
+    /// The connection to an address that was used last, of those that are open and silent. `Strays` where bytes have come
+    /// over one: then none is left, as after `strayed`.
     pub(crate) fn take<R: Wait + Clock>(
-        &self,
-        rt: &R,
-        address: SocketAddr,
-    ) -> Result<Option<IdleSocket>, Strays>
-        ensures { IfOk result (λ found. IfSome found (λ idle. idle.socket.address ≡ address)) }
-    {
-        let Some(idle) = self.take_nonblocking(rt, address)? else {
-            return Ok(None);
-        };
-        match idle.socket.stream().set_nonblocking(false) {
-            Ok(()) => Ok(Some(idle)),
-            Err(_) => Ok(None),
-        }
-    }
-
-    /// The same, on a socket that doesn't block.
-    pub(crate) fn take_nonblocking<R: Wait + Clock>(
         &self,
         rt: &R,
         address: SocketAddr,
@@ -133,15 +110,15 @@ impl Pool {
             return None;
         }
         let now = Instant::now(rt).ok()?;
-        let mut kept = self.kept.lock(rt);
-        close_old(&mut kept.idle, now);
-        taken_from(&mut kept.idle, address)
+        let mut sockets = self.shared.lock(rt);
+        close_old(&mut sockets.idle, now);
+        taken_from(&mut sockets.idle, address)
     }
 
     /// Bytes came unasked from an address: its idle connections are closed, and for a minute none is kept.
     pub(crate) fn strayed<R: Wait + Clock>(&self, rt: &R, address: SocketAddr) {
         let now = millis(rt);
-        self.kept.lock(rt).strayed(address, now);
+        self.shared.lock(rt).strayed(address, now);
     }
 
     /// Keeps a connection, whose socket doesn't block, unless none to its address is kept now, or as many as may be are.
@@ -151,20 +128,20 @@ impl Pool {
         };
         let address = socket.address();
         let now = millis(rt);
-        let mut kept = self.kept.lock(rt);
-        let most = if kept.keeps(address, now) {
+        let mut sockets = self.shared.lock(rt);
+        let most = if sockets.keeps(address, now) {
             usize::from(self.most)
         } else {
             0
         };
-        if count_of(kept.idle.as_slice(), address) < most {
+        if count_of(sockets.idle.as_slice(), address) < most {
             // Without room it is closed.
-            let _ = kept.idle.insert(0, IdleSocket { socket, since });
+            let _ = sockets.idle.insert(0, IdleSocket { socket, since });
         }
     }
 }
 
-impl Kept {
+impl IdleSockets {
     fn keeps(&self, address: SocketAddr, now: u64) -> bool {
         match reuse::place_of(self.reuses.as_slice(), address) {
             Some(place) => self.reuses[place].reuse.keeps(now),
@@ -202,8 +179,8 @@ fn place_of(idle: &[IdleSocket], address: SocketAddr) -> Option<usize>
     ensures there { IfSome result (λ i. IfSome (slice_get idle.now i) (λ idle. idle.socket.address ≡ address)) }
     ensures within { IfSome result (λ i. i < length idle.now) }
 {
-    for (i, kept) in idle.iter().enumerate() {
-        if is_same(kept.socket.address(), address) {
+    for (i, one) in idle.iter().enumerate() {
+        if is_same(one.socket.address(), address) {
             return Some(i);
         }
     }

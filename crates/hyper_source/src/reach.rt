@@ -15,7 +15,7 @@ use std::io::ErrorKind;
 use std::sync::Arc;
 use std::sync::atomic::{AtomicBool, Ordering};
 
-// What a failed call says of the fetch. A socket whose own limit of time is over says that it would block.
+// What a failed call says of the fetch.
 fn fault_of(kind: ErrorKind) -> FetchFault
     ensures { result ≡ spec.fault_of kind }
 {
@@ -24,7 +24,7 @@ fn fault_of(kind: ErrorKind) -> FetchFault
         | ErrorKind::ConnectionReset
         | ErrorKind::HostUnreachable
         | ErrorKind::NetworkUnreachable => FetchFault::Connect,
-        ErrorKind::TimedOut | ErrorKind::WouldBlock => FetchFault::Timeout,
+        ErrorKind::TimedOut => FetchFault::Timeout,
         _ => FetchFault::Cut,
     }
 }
@@ -103,8 +103,7 @@ impl Reach {
         }
     }
 
-    /// Tells that the connection was made.
-    pub(crate) fn connects(&self) {
+    fn connects(&self) {
         self.told.is_connected.store(true, Ordering::SeqCst);
     }
 

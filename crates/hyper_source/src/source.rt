@@ -1,43 +1,34 @@
 //! A source that fetches from origins.
 
-ghost use Rattle.std.specs.Prelude.{◌≡◌, IfOk, IsSomeAnd, Some};
+ghost use Rattle.std.specs.Prelude.{◌≡◌, IfOk, IsSomeAnd, Some, true};
 ghost use Rattle.std.specs.Arc.{arc_value};
 ghost use Rattle.hyper_source.specs.Names.{device_of, way_through};
 
 mod concurrent;
 
 use crate::answers::{Fetched, answered};
-use crate::behind::Behind;
-use crate::bounded::{OriginGate, end_of, gate_of, gates_of};
+use crate::bounded::{OriginGate, gates_of};
 use crate::edge_name::{EdgeName, device_of, way_through};
 use crate::errand::Errand;
-use crate::exchange_end::ExchangeEnd;
-use crate::executors::IdleExecutors;
 use crate::gate::Bounds;
-use crate::gathered::Lost;
+use crate::gathered::{Lost, Response};
 use crate::head_rules::HeadRules;
-use crate::intake::BodyCount;
 use crate::notes::FetchNotes;
 use crate::origin::{Chosen, Origin, origin_for};
-use crate::origin_socket::OriginSocket;
-use crate::origin_stream::OriginStream;
+use crate::origin_runtime::OriginRuntime;
 use crate::poller::IdlePollers;
-use crate::pool::{IdleSocket, Pool, Strays};
-use crate::reach::{Reach, lost_by};
+use crate::pool::Pool;
 use crate::request::request_of;
-use crate::round_trip::{CountedStream, Response, round_trip};
-use answer_sources::{Given, OnBehalf, Source};
+use answer_sources::{Answers, Given, OnBehalf, Source, fetch_or_fail};
 use bytes::Bytes;
 use edge_types::{Answer, NoMemory, PageUrl, SharedBytes};
 use fetch_outcomes::FetchFault;
 use http::Request;
 use http_body_util::Empty;
-use std::alloc::{AllocGlobal, Global};
+use std::alloc::Global;
 use std::hash::RandomState;
 use std::io;
-use std::net::{Net, TcpStream};
 use std::random::RandomSource;
-use std::sync::atomic::{AtomicBool, Ordering};
 use std::sync::{Arc, Wait};
 use std::time::{Clock, Duration};
 
@@ -78,7 +69,6 @@ pub struct HyperSource {
 #[derive(Drop)]
 struct Shared {
     origins: Vec<Origin>,
-    executors: IdleExecutors,
     pollers: IdlePollers,
     notes: Arc<FetchNotes>,
 }
@@ -99,7 +89,6 @@ impl HyperSource {
         let pool = Pool::new(alloc, origins.as_slice())?;
         let shared = Shared {
             origins,
-            executors: IdleExecutors::new(alloc),
             pollers: IdlePollers::new(alloc),
             notes: Arc::new(alloc, notes)?,
         };
@@ -120,10 +109,11 @@ impl HyperSource {
     /// its own, and origins address it by this name in place of `own_device`.
     ///
     /// Source: RFC 8586, "The CDN-Loop Request Header Field".
-    pub fn named(self, name: EdgeName) -> HyperSource {
-        let mut source = self;
-        source.name = Some(name);
-        source
+    pub fn named(mut self, name: EdgeName) -> HyperSource
+        ensures { result ≡ record self { name = Some name } }
+    {
+        self.name = Some(name);
+        self
     }
 
     /// The same source, which keeps idle connections to origins, at most this many to each address, for some
@@ -134,40 +124,42 @@ impl HyperSource {
     /// connections to the address are closed, and none is kept for a minute.
     ///
     /// Source: RFC 9112, "Persistence".
-    pub fn keeping(self, most: u16) -> HyperSource {
-        let mut source = self;
-        source.pool = source.pool.keeping(most);
-        source
+    pub fn keeping(mut self, most: u16) -> HyperSource
+        ensures { result ≡ record self { pool = record self.pool { most = most } } }
+    {
+        self.pool.most = most;
+        self
     }
 
     /// The same source with these bounds for the fetches to each address. A fetch that is one too many, or is to
     /// an origin that rests, isn't made: its answer is a failed one at once. Before that as many wait as may, each until
     /// all who asked before have gone, and no longer than half the time that a fetch may take.
-    pub fn bounded(self, alloc: Global, bounds: Bounds) -> Result<HyperSource, NoMemory> {
-        let mut source = self;
-        let gates = gates_of(alloc, source.shared.origins.as_slice(), bounds)?;
-        source.gates = Arc::new(alloc, gates)?;
-        Ok(source)
+    pub fn bounded(mut self, alloc: Global, bounds: Bounds) -> Result<HyperSource, NoMemory> {
+        let gates = gates_of(alloc, self.shared.origins.as_slice(), bounds)?;
+        self.gates = Arc::new(alloc, gates)?;
+        Ok(self)
     }
 
     /// The same source, whose answers have in their heads the lines of these fields, as they came: names, with commas
     /// between and blanks around them, in any case. Those that describe the bytes of a template (`etag`, `last-modified`,
     /// `accept-ranges`, `content-md5`, `digest`, `content-digest`, `repr-digest`) are left out where the body is one. An
     /// answer whose names and values have more than `MAX_FIELDS` bytes is a failed one.
-    pub fn passing(self, names: SharedBytes) -> HyperSource {
-        let mut source = self;
-        source.passed = names;
-        source
+    pub fn passing(mut self, names: SharedBytes) -> HyperSource
+        ensures { result ≡ record self { passed = names } }
+    {
+        self.passed = names;
+        self
     }
 
     /// The same source, for which `s-maxage` and `stale-if-error` of `Cache-Control` count where `Surrogate-Control` says
     /// neither `max-age` nor `no-store`.
     ///
     /// Source: RFC 9111, "s-maxage"; RFC 5861, "The stale-if-error Cache-Control Extension".
-    pub fn heeding_cache_control(self) -> HyperSource {
-        let mut source = self;
-        source.heeds_cache_control = true;
-        source
+    pub fn heeding_cache_control(mut self) -> HyperSource
+        ensures { result ≡ record self { heeds_cache_control = true } }
+    {
+        self.heeds_cache_control = true;
+        self
     }
 
     // How this source reads the heads of responses.
@@ -196,7 +188,7 @@ impl HyperSource {
         ensures limit { IfOk result (λ source. source.limit ≡ self.now.limit) }
         ensures name { IfOk result (λ source. source.name ≡ Some name.now) }
         ensures way { IfOk result (λ source. IsSomeAnd source.way (λ way. way.items ≡ way_through passed.now name.now)) }
-        ensures pool { IfOk result (λ source. (source.pool.most ≡ self.now.pool.most) × (arc_value source.pool.kept ≡ arc_value self.now.pool.kept)) }
+        ensures pool { IfOk result (λ source. (source.pool.most ≡ self.now.pool.most) × (arc_value source.pool.shared ≡ arc_value self.now.pool.shared)) }
         ensures gates { IfOk result (λ source. arc_value source.gates ≡ arc_value self.now.gates) }
         ensures heads { IfOk result (λ source. (source.passed ≡ self.now.passed) × (source.heeds_cache_control ≡ self.now.heeds_cache_control)) }
     {
@@ -245,124 +237,6 @@ impl HyperSource {
         )
     }
 
-    // What a URL's origin answers, if it has one that may be asked.
-    fn asked<R>(&self, rt: &R, alloc: Global, url: &PageUrl, origin: Option<Chosen>) -> Response
-    where
-        R: Wait + Net<Stream = TcpStream> + Clock + RandomSource + AllocGlobal + Clone + Drop,
-    {
-        let errand = self.errand(rt, url, origin)?;
-        let reach = Reach::new(alloc)?;
-        let told = reach.share()?;
-        let Some(gate) = gate_of(self.gates.as_slice(), errand.origin.address) else {
-            return reach.judged(self.fetched(rt, alloc, &errand, told));
-        };
-        let permit = gate.permit(rt, errand.patience)?;
-        let got = reach.judged(self.fetched(rt, alloc, &errand, told));
-        gate.ended(rt, permit, end_of(reach.is_connected(), &got));
-        got
-    }
-
-    // What comes of an errand, over a connection that was kept, or a new one that may tell of the origin.
-    fn fetched<R>(&self, rt: &R, alloc: Global, errand: &Errand, reach: Reach) -> Response
-    where
-        R: Wait + Net<Stream = TcpStream> + Clock + RandomSource + AllocGlobal + Clone + Drop,
-    {
-        if let Some(came) = self.asked_over_idle(rt, alloc, errand) {
-            reach.connects();
-            return came;
-        }
-        let body = BodyCount::new(alloc)?;
-        match OriginStream::connected(rt, errand.origin.address, errand.deadline, body.share()?) {
-            Ok(stream) => {
-                reach.connects();
-                let io = stream.telling(reach);
-                self.asked_over(rt, alloc, errand, CountedStream { io, body })
-            }
-            Err(error) => Err(lost_by(&error)),
-        }
-    }
-
-    // The same over a connection that was kept: nothing if there is none, or if it ends before the first byte of
-    // the response, as one that the origin closes while the request is on its way, and there is time for another.
-    fn asked_over_idle<R>(&self, rt: &R, alloc: Global, errand: &Errand) -> Option<Response>
-    where
-        R: Wait + Net<Stream = TcpStream> + Clock + RandomSource + AllocGlobal + Clone + Drop,
-    {
-        let idle = self.kept(rt, errand.origin)?;
-        let body = BodyCount::new(alloc).ok()?;
-        let counted = body.share().ok()?;
-        let heard = Arc::new(alloc, AtomicBool::new(false)).ok()?;
-        let told = Arc::try_clone(&heard).ok()?;
-        let io = OriginStream::over(rt, idle.socket, errand.deadline, counted, Some(told)).ok()?;
-        let came = self.asked_over(rt, alloc, errand, CountedStream { io, body });
-        if !matches!(came, Err(Lost::Fault(_))) || heard.load(Ordering::SeqCst) {
-            return Some(came);
-        }
-        match errand.deadline.left(rt) {
-            Ok(_) => None,
-            Err(late) => Some(Err(lost_by(&late))),
-        }
-    }
-
-    // The same over this connection, which is kept if it may be.
-    fn asked_over<R>(
-        &self,
-        rt: &R,
-        alloc: Global,
-        errand: &Errand,
-        stream: CountedStream<OriginStream<R>>,
-    ) -> Response
-    where
-        R: Wait + Net<Stream = TcpStream> + Clock + RandomSource + AllocGlobal + Clone + Drop,
-    {
-        let request = self.request(alloc, &errand.url)?;
-        let Some(mut executor) = self.shared.executors.take(rt) else {
-            return Err(Lost::Fault(FetchFault::Cut));
-        };
-        let ExchangeEnd { came, behind } = round_trip(
-            rt,
-            alloc,
-            &mut executor,
-            self.keys,
-            stream,
-            request,
-        );
-        self.shared.executors.leave(rt, executor);
-        let left = match behind {
-            Behind::Open(io) => unblocked(io.into_socket()),
-            Behind::Strays => Behind::Strays,
-            Behind::End => Behind::End,
-        };
-        self.leave(rt, errand.origin, left);
-        came
-    }
-
-    // A connection that was kept, whose socket blocks.
-    fn kept<R: Wait + Clock>(&self, rt: &R, origin: Chosen) -> Option<IdleSocket> {
-        match self.pool.take(rt, origin.address) {
-            Ok(found) => found,
-            Err(Strays) => {
-                self.shared.notes.note_strays(origin.place);
-                None
-            }
-        }
-    }
-
-    // Keeps what is left of a connection, whose socket doesn't block, if it may be kept.
-    fn leave<R: Wait + Clock>(&self, rt: &R, origin: Chosen, behind: Behind<OriginSocket>) {
-        if !self.pool.keeps() {
-            return;
-        }
-        match behind {
-            Behind::Open(socket) => self.pool.leave(rt, socket),
-            Behind::Strays => {
-                self.pool.strayed(rt, origin.address);
-                self.shared.notes.note_strays(origin.place);
-            }
-            Behind::End => {}
-        }
-    }
-
     // The answer that a fetch results in, once that is noted.
     fn noted<R: Wait>(
         &self,
@@ -382,36 +256,21 @@ impl HyperSource {
     }
 }
 
-// A connection whose socket doesn't block any longer.
-fn unblocked(socket: OriginSocket) -> Behind<OriginSocket> {
-    match socket.stream().set_nonblocking(true) {
-        Ok(()) => Behind::Open(socket),
-        Err(_) => Behind::End,
-    }
-}
-
-impl<R> Source<R> for HyperSource
-where
-    R: Wait + Net<Stream = TcpStream> + Clock + RandomSource + AllocGlobal + Clone + Drop,
-{
+impl<R> Answers<R> for HyperSource {
     ghost use Rattle.std.specs.Prelude.{◌≡◌};
 
     ghost gives = { λ _ url answer. answer.url ≡ url };
 
     ghost names_url = { λ _ _ _ named. named };
+}
 
+impl<R: OriginRuntime> Source<R> for HyperSource {
     fn fetch(&self, rt: &R, alloc: Global, url: &PageUrl) -> Result<Given, NoMemory> {
-        let origin = self.origin_of(url);
-        let came = self.asked(rt, alloc, url, origin);
-        let answer = self.noted(rt, alloc, url, origin, came)?;
-        Ok(Given::fetched(answer))
+        fetch_or_fail(self, rt, alloc, url)
     }
 }
 
-impl<R> OnBehalf<R> for HyperSource
-where
-    R: Wait + Net<Stream = TcpStream> + Clock + RandomSource + AllocGlobal + Clone + Drop,
-{
+impl<R> OnBehalf<R> for HyperSource {
     // An edge without a name says nothing of the way.
     fn on_behalf(&self, alloc: Global, passed: &[u8]) -> Result<Option<HyperSource>, NoMemory> {
         match &self.name {

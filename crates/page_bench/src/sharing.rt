@@ -1,7 +1,7 @@
 //! A cache that threads share: hits by several threads compared with those by one, and one fetch for all who
 //! ask at the same time.
 
-use answer_sources::{Clock as Seconds, Given, Source, TableSource};
+use answer_sources::{Answers, Clock as Seconds, Given, OneByOne, Source, TableSource};
 use bench_tools::inputs::{answer, or_input_error, or_io_error, url};
 use bench_tools::timing::{Least, nanoseconds_each, ratio};
 use edge_types::{Control, NoMemory, PageUrl, SharedBytes, Table};
@@ -36,13 +36,15 @@ struct Far {
     milliseconds: u64,
 }
 
-impl<R: Clock> Source<R> for Far {
+impl<R: Clock> Answers<R> for Far {
     ghost use Rattle.std.specs.Prelude.{◌≡◌};
 
     ghost gives = { λ far url answer. answer.url ≡ url };
 
     ghost names_url = { λ far url answer given. given };
+}
 
+impl<R: Clock> Source<R> for Far {
     fn fetch(&self, rt: &R, alloc: Global, url: &PageUrl) -> Result<Given, NoMemory> {
         thread::sleep(rt, Duration::from_millis(self.milliseconds));
         self.table.fetch(rt, alloc, url)
@@ -75,14 +77,17 @@ fn urls(alloc: Global, count: usize) -> io::Result<Vec<PageUrl>> {
     Ok(urls)
 }
 
-// A cache over the answers of these URLs, which come after this many milliseconds.
-fn cache(alloc: Global, urls: &[PageUrl], milliseconds: u64) -> io::Result<Cache<Far, Still>> {
-    let table = TableSource::new(table(alloc, urls)?);
-    let far = Far {
-        table,
+// The answers of these URLs, which come after this many milliseconds.
+fn far_table(alloc: Global, urls: &[PageUrl], milliseconds: u64) -> io::Result<Far> {
+    Ok(Far {
+        table: TableSource::new(table(alloc, urls)?),
         milliseconds,
-    };
-    or_io_error(Cache::new(alloc, far, Still, CAPACITY))
+    })
+}
+
+// A cache over them.
+fn cache(alloc: Global, far: &Far) -> io::Result<Cache<OneByOne<'_, Far>, Still>> {
+    or_io_error(Cache::new(alloc, OneByOne { source: far }, Still, CAPACITY))
 }
 
 fn table(alloc: Global, urls: &[PageUrl]) -> io::Result<Table> {
@@ -113,7 +118,8 @@ fn insert(alloc: Global, url: &PageUrl, table: &mut Table) -> io::Result<()> {
 // Hits by one thread, by two and by four.
 fn hits<R: Wait + Threads + Clock + Print + Sync>(rt: &R, alloc: Global) -> io::Result<()> {
     let urls = urls(alloc, URLS)?;
-    let cache = cache(alloc, urls.as_slice(), 0)?;
+    let far = far_table(alloc, urls.as_slice(), 0)?;
+    let cache = cache(alloc, &far)?;
     hits_told(rt, alloc, &cache, urls.as_slice())
 }
 
@@ -211,7 +217,8 @@ fn ask_for_each<R, S: Source<R>>(
 // A crowd for each of some URLs, one after the other.
 fn crowds<R: Wait + Threads + Clock + Print + Sync>(rt: &R, alloc: Global) -> io::Result<()> {
     let urls = urls(alloc, TURNS)?;
-    let cache = cache(alloc, urls.as_slice(), FETCH)?;
+    let far = far_table(alloc, urls.as_slice(), FETCH)?;
+    let cache = cache(alloc, &far)?;
     crowds_told(rt, alloc, &cache, urls.as_slice())
 }
 

@@ -2,7 +2,7 @@
 //! core alone if nothing has to be waited for.
 
 use crate::site::{Site, includes, page_url, ran, table};
-use answer_sources::{Given, Source, TableSource};
+use answer_sources::{Answers, Given, Source, TableSource};
 use bench_tools::inputs::or_input_error;
 use bench_tools::timing::{Least, ratio};
 use edge_types::{Answer, NoMemory, PageUrl, Request, Table};
@@ -29,19 +29,21 @@ struct Ready {
     table: TableSource,
 }
 
-impl<R> Source<R> for Ready {
+impl<R> Answers<R> for Ready {
     ghost use Rattle.std.specs.Prelude.{◌≡◌};
 
     ghost gives = { λ ready url answer. answer.url ≡ url };
 
     ghost names_url = { λ ready url answer given. given };
 
-    fn fetch(&self, rt: &R, alloc: Global, url: &PageUrl) -> Result<Given, NoMemory> {
-        self.table.fetch(rt, alloc, url)
-    }
-
     fn ready(&self, rt: &R, alloc: Global, url: &PageUrl) -> Result<Option<Arc<Answer>>, NoMemory> {
         Ok(Some(self.table.fetch(rt, alloc, url)?.into_answer()))
+    }
+}
+
+impl<R> Source<R> for Ready {
+    fn fetch(&self, rt: &R, alloc: Global, url: &PageUrl) -> Result<Given, NoMemory> {
+        self.table.fetch(rt, alloc, url)
     }
 }
 
@@ -52,17 +54,12 @@ struct Slow {
     table: TableSource,
 }
 
-impl<R: Clock> Source<R> for Slow {
+impl<R: Clock> Answers<R> for Slow {
     ghost use Rattle.std.specs.Prelude.{◌≡◌};
 
     ghost gives = { λ slow url answer. answer.url ≡ url };
 
     ghost names_url = { λ slow url answer given. given };
-
-    fn fetch(&self, rt: &R, alloc: Global, url: &PageUrl) -> Result<Given, NoMemory> {
-        thread::sleep(rt, Duration::from_millis(FETCH));
-        self.table.fetch(rt, alloc, url)
-    }
 
     fn ready(&self, rt: &R, alloc: Global, url: &PageUrl) -> Result<Option<Arc<Answer>>, NoMemory> {
         if *url == self.page {
@@ -70,6 +67,13 @@ impl<R: Clock> Source<R> for Slow {
         } else {
             Ok(None)
         }
+    }
+}
+
+impl<R: Clock> Source<R> for Slow {
+    fn fetch(&self, rt: &R, alloc: Global, url: &PageUrl) -> Result<Given, NoMemory> {
+        thread::sleep(rt, Duration::from_millis(FETCH));
+        self.table.fetch(rt, alloc, url)
     }
 }
 

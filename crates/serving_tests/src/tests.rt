@@ -1,7 +1,7 @@
 // A case has answers with a `;` between two: a path, `failed` or a status with what its control says, and
 // the body. A control is `plain`, or `esi` if the body is processed; a number in its place, or behind `esi`, is
 // the max-age, and a second one after a `+` the extension.
-use answer_sources::{Given, Source, TableSource};
+use answer_sources::{Answers, Given, Source, TableSource};
 use edge_types::{Answer, Control, NoMemory, Octets, Outcome, PageUrl, SharedBytes, Table};
 use std::alloc::Global;
 use std::process::Abort;
@@ -77,13 +77,15 @@ struct Origin<'a> {
     ends: u64,
 }
 
-impl<R> Source<R> for Origin<'_> {
+impl<R> Answers<R> for Origin<'_> {
     ghost use Rattle.std.specs.Prelude.{◌≡◌};
 
     ghost gives = { λ origin url answer. answer.url ≡ url };
 
     ghost names_url = { λ origin url answer given. given };
+}
 
+impl<R> Source<R> for Origin<'_> {
     fn fetch(&self, rt: &R, alloc: Global, url: &PageUrl) -> Result<Given, NoMemory> {
         let number = self.fetches.fetch_add(1, Ordering::SeqCst);
         if number.checked_rem(self.round) == Some(self.refused) {

@@ -1,6 +1,6 @@
 //! One cache shared by all pages.
 
-ghost use Rattle.std.specs.Prelude.{◌≡◌, ◌⊎◌, ◌↔◌, ◌≤◌, IsTrue, IfOk, IfSome};
+ghost use Rattle.std.specs.Prelude.{◌≡◌, ◌↔◌, ◌≤◌, IsTrue, IfOk};
 ghost use Rattle.std.specs.Arc.{arc_value};
 ghost use Rattle.shared_cache.specs.Circles.{IsForAll, says_circle};
 ghost use Rattle.shared_cache.specs.declared.placing.Placing.TheVariants.{BySum, ByHash};
@@ -11,12 +11,15 @@ use crate::placing::Placing;
 use crate::plan_shelves::PlanShelves;
 use crate::shards::Shards;
 use crate::shared_shard::SharedShard;
-use answer_sources::{Clock, Found, Given, OnBehalf, Source, Way};
+use answer_sources::{
+    Answers, Clock, ConcurrentSource, Found, Given, OnBehalf, Source, Way, fetch_or_fail,
+};
 use edge_types::{Answer, NoMemory, PageUrl, Reply};
-use fragment_cache::{Begun, Flight, MAX_CAPACITY, UrlHashing};
+use fragment_cache::{Flight, MAX_CAPACITY, UrlHashing};
 use plan_compiler::Prepared;
 use std::alloc::Global;
 use std::sync::{Arc, Wait};
+use std::time;
 
 /// How many shards a cache has, each under a lock of its own.
 ///
@@ -127,30 +130,6 @@ impl<S: Drop, C: Drop> Cache<S, C> {
 }
 
 impl<S, C> Cache<S, C> {
-    // Fetches for all who ask for the URL meanwhile, and lands the flight whatever the result.
-    fn lead<R: Wait>(
-        &self,
-        rt: &R,
-        alloc: Global,
-        shard: &SharedShard,
-        flight: Flight,
-        ready: Arc<Answer>,
-    ) -> Result<Given, NoMemory>
-    where
-        S: Source<R>,
-        C: Clock<R>,
-        requires { (arc_value ready).url ≡ flight.url }
-        ensures { IfOk result (λ given. (arc_value given.answer).url ≡ flight.url) }
-    {
-        match self.source.fetch(rt, alloc, flight.url()) {
-            Ok(given) => Ok(self.land(rt, alloc, shard, flight, given.into_answer())),
-            Err(NoMemory) => {
-                let _ = shard.land(rt, flight, ready, self.clock.now(rt));
-                Err(NoMemory)
-            }
-        }
-    }
-
     // Lands a flight with the answer that was fetched for it, once that is ready for whoever picks it up.
     fn land<R: Wait>(
         &self,
@@ -168,27 +147,6 @@ impl<S, C> Cache<S, C> {
         let now = self.clock.now(rt);
         self.plans.prepare(rt, alloc, &answer);
         shard.land(rt, flight, answer, now)
-    }
-
-    // Waits for the answer of another caller's flight; fetches if it can't be picked up, or isn't for all.
-    fn join<R: Wait>(
-        &self,
-        rt: &R,
-        alloc: Global,
-        shard: &SharedShard,
-        url: &PageUrl,
-        number: u64,
-    ) -> Result<Given, NoMemory>
-    where
-        S: Source<R>,
-        ensures named { IfOk result (λ given. (arc_value given.answer).url ≡ url.now) }
-        ensures for_all { IfOk result (λ given.
-            IsForAll url.now (arc_value given.answer) ⊎ S.gives self.now.source url.now (arc_value given.answer)) }
-    {
-        match shard.picked_up(rt, number) {
-            Some(answer) if is_for_all(&answer, url) => Ok(Given::new(answer, Way::Joined)),
-            _ => self.source.fetch(rt, alloc, url),
-        }
     }
 
     // What is given at once for a URL while as many as may wait for its flight.
@@ -235,21 +193,10 @@ impl<R: Wait, S: OnBehalf<R> + Drop, C: Clock<R> + Copy> OnBehalf<R> for Cache<S
     }
 }
 
-impl<R: Wait, S: Source<R>, C: Clock<R>> Source<R> for Cache<S, C> {
+impl<R: Wait, S, C: Clock<R>> Answers<R> for Cache<S, C> {
     ghost gives = { λ cache url answer. answer.url ≡ url };
 
     ghost names_url = { λ cache url answer named. named };
-
-    fn fetch(&self, rt: &R, alloc: Global, url: &PageUrl) -> Result<Given, NoMemory> {
-        let shard = self.shards.of(url);
-        match shard.begin(rt, url, self.clock.now(rt), self.most_waiting) {
-            None => self.crowded_out(rt, alloc, url),
-            Some(Begun::Hit(answer)) => Ok(Given::new(answer, Way::Stored)),
-            Some(Begun::Join(number)) => self.join(rt, alloc, shard, url, number),
-            Some(Begun::Lead(flight, ready)) => self.lead(rt, alloc, shard, flight, ready),
-            Some(Begun::Bypass) => self.source.fetch(rt, alloc, url),
-        }
-    }
 
     fn ready(&self, rt: &R, _alloc: Global, url: &PageUrl) -> Found {
         self.shards.of(url).look(rt, url, self.clock.now(rt))
@@ -261,5 +208,16 @@ impl<R: Wait, S: Source<R>, C: Clock<R>> Source<R> for Cache<S, C> {
 
     fn prepared(&self, rt: &R, alloc: Global, answer: Arc<Answer>) -> Result<Prepared, NoMemory> {
         self.plans.prepared(rt, alloc, answer)
+    }
+}
+
+impl<R, S, C> Source<R> for Cache<S, C>
+where
+    R: Wait + time::Clock,
+    S: ConcurrentSource<R>,
+    C: Clock<R>,
+{
+    fn fetch(&self, rt: &R, alloc: Global, url: &PageUrl) -> Result<Given, NoMemory> {
+        fetch_or_fail(self, rt, alloc, url)
     }
 }

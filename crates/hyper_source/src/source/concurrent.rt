@@ -1,15 +1,17 @@
 //! Fetches of one page that are in flight at once.
 
+use crate::behind::Behind;
 use crate::bounded::{end_of, gate_of};
 use crate::errand::Errand;
+use crate::exchange::Exchange;
 use crate::exchange_end::ExchangeEnd;
 use crate::fetch::{Attempt, Fetch, FetchStep};
-use crate::gate::{Caller, Chance};
+use crate::gate::Chance;
 use crate::gathered::Lost;
 use crate::in_flight::{FetchesInFlight, Gated, HeldPermit, Queued};
 use crate::origin::Chosen;
+use crate::origin_runtime::OriginRuntime;
 use crate::origin_socket::OriginSocket;
-use crate::polled_exchange::PolledExchange;
 use crate::poller::Watched;
 use crate::pool::{IdleSocket, Strays};
 use crate::reach::{Reach, lost_by};
@@ -18,25 +20,21 @@ use crate::stream_signals::StreamSignals;
 use answer_sources::{Arrival, Awaited, Bell, ConcurrentSource, Given};
 use edge_types::{Answer, NoMemory, PageUrl};
 use fetch_outcomes::FetchFault;
-use std::alloc::{AllocGlobal, Global};
-use std::net::{Net, SocketAddr, TcpStream};
-use std::random::RandomSource;
+use std::alloc::Global;
+use std::net::SocketAddr;
 use std::sync::{Arc, Wait};
 use std::time::{Clock, Duration, Instant};
 
 impl HyperSource {
     // Begins a fetch, if the URL has an origin that may be asked; gives its key. One that has to wait has none yet.
-    fn begun<R>(
+    fn begun<R: OriginRuntime>(
         &self,
         rt: &R,
         alloc: Global,
         in_flight: &mut FetchesInFlight,
         url: &PageUrl,
         origin: Option<Chosen>,
-    ) -> Result<Option<usize>, Lost>
-    where
-        R: Wait + Net<Stream = TcpStream> + Clock + RandomSource + AllocGlobal + Clone + Drop,
-    {
+    ) -> Result<Option<usize>, Lost> {
         let errand = self.errand(rt, url, origin)?;
         if !self.has_poller(rt, in_flight) {
             return Err(Lost::Fault(FetchFault::Cut));
@@ -47,22 +45,19 @@ impl HyperSource {
         };
         let gate = gate.share()?;
         let bell = in_flight.bell().ok_or(Lost::NoMemory)?;
-        let chance = gate.ask(rt, Caller::Page(bell));
+        let chance = gate.ask(rt, bell);
         self.begun_by(rt, alloc, in_flight, Gated { errand, gate }, chance)
     }
 
     // Begins a fetch that its gate lets through, and gives its key; or has it wait.
-    fn begun_by<R>(
+    fn begun_by<R: OriginRuntime>(
         &self,
         rt: &R,
         alloc: Global,
         in_flight: &mut FetchesInFlight,
         gated: Gated,
         chance: Chance,
-    ) -> Result<Option<usize>, Lost>
-    where
-        R: Wait + Net<Stream = TcpStream> + Clock + RandomSource + AllocGlobal + Clone + Drop,
-    {
+    ) -> Result<Option<usize>, Lost> {
         let permit = match chance {
             Chance::Granted(permit) => permit,
             Chance::Lost(lost) => return Err(lost),
@@ -85,15 +80,12 @@ impl HyperSource {
     }
 
     // Looks at each fetch that waits, once rings were taken: so a call that comes later is heard later.
-    fn looked_at_queue<R>(
+    fn looked_at_queue<R: OriginRuntime>(
         &self,
         rt: &R,
         alloc: Global,
         in_flight: &mut FetchesInFlight,
-    ) -> Result<(), NoMemory>
-    where
-        R: Wait + Net<Stream = TcpStream> + Clock + RandomSource + AllocGlobal + Clone + Drop,
-    {
+    ) -> Result<(), NoMemory> {
         let now = Instant::now(rt).ok();
         for _ in 0..in_flight.count_queued() {
             if let Some(queued) = in_flight.first_queued() {
@@ -104,17 +96,14 @@ impl HyperSource {
     }
 
     // Begins a fetch that is called; it has failed if its time is over, or if its origin rests.
-    fn looked_at<R>(
+    fn looked_at<R: OriginRuntime>(
         &self,
         rt: &R,
         alloc: Global,
         in_flight: &mut FetchesInFlight,
         queued: Queued,
         now: Option<Instant>,
-    ) -> Result<(), NoMemory>
-    where
-        R: Wait + Net<Stream = TcpStream> + Clock + RandomSource + AllocGlobal + Clone + Drop,
-    {
+    ) -> Result<(), NoMemory> {
         let origin = queued.gated.errand.origin;
         let Ok(url) = queued.gated.errand.url.share() else {
             queued.leave(rt);
@@ -140,19 +129,16 @@ impl HyperSource {
     }
 
     // Whether the fetches have what they wait in, which the first one takes. Refused where descriptors run out.
-    fn has_poller<R>(&self, rt: &R, in_flight: &mut FetchesInFlight) -> bool
-    where
-        R: Wait + Net + RandomSource + AllocGlobal,
-    {
+    fn has_poller<R: OriginRuntime>(&self, rt: &R, in_flight: &mut FetchesInFlight) -> bool {
         if in_flight.poller.is_none() {
             in_flight.poller = self.shared.pollers.take(rt);
         }
         in_flight.poller.is_some()
     }
 
-    // A connection that was kept, whose socket doesn't block.
-    fn kept_nonblocking<R: Wait + Clock>(&self, rt: &R, origin: Chosen) -> Option<IdleSocket> {
-        match self.pool.take_nonblocking(rt, origin.address) {
+    // A connection that was kept.
+    fn kept<R: Wait + Clock>(&self, rt: &R, origin: Chosen) -> Option<IdleSocket> {
+        match self.pool.take(rt, origin.address) {
             Ok(found) => found,
             Err(Strays) => {
                 self.shared.notes.note_strays(origin.place);
@@ -161,13 +147,30 @@ impl HyperSource {
         }
     }
 
+    // Keeps what is left of a connection, if it may be kept.
+    fn leave<R: Wait + Clock>(&self, rt: &R, origin: Chosen, behind: Behind<OriginSocket>) {
+        if !self.pool.keeps() {
+            return;
+        }
+        match behind {
+            Behind::Open(socket) => self.pool.leave(rt, socket),
+            Behind::Strays => {
+                self.pool.strayed(rt, origin.address);
+                self.shared.notes.note_strays(origin.place);
+            }
+            Behind::End => {}
+        }
+    }
+
     // A fetch over a connection that was kept, or a new one that may tell of the origin.
-    fn new_fetch<R>(&self, rt: &R, alloc: Global, errand: Errand) -> Result<Fetch, Lost>
-    where
-        R: Wait + Net<Stream = TcpStream> + Clock + RandomSource + AllocGlobal + Clone + Drop,
-    {
+    fn new_fetch<R: OriginRuntime>(
+        &self,
+        rt: &R,
+        alloc: Global,
+        errand: Errand,
+    ) -> Result<Fetch, Lost> {
         let reach = Reach::new(alloc)?;
-        let attempt = match self.kept_nonblocking(rt, errand.origin) {
+        let attempt = match self.kept(rt, errand.origin) {
             Some(idle) => self.attempt(alloc, &errand.url, idle.socket, true, None)?,
             None => {
                 let told = reach.share()?;
@@ -178,7 +181,7 @@ impl HyperSource {
     }
 
     // An attempt over a new connection, which need not be made yet.
-    fn new_attempt<R: Net>(
+    fn new_attempt<R: OriginRuntime>(
         &self,
         rt: &R,
         alloc: Global,
@@ -192,7 +195,7 @@ impl HyperSource {
         }
     }
 
-    // An attempt over a socket that doesn't block.
+    // An attempt over a socket.
     fn attempt(
         &self,
         alloc: Global,
@@ -204,23 +207,20 @@ impl HyperSource {
         let request = self.request(alloc, url)?;
         let signals = StreamSignals::new(told);
         Ok(Attempt {
-            exchange: PolledExchange::begun(alloc, self.keys, socket, signals, request)?,
+            exchange: Exchange::begun(alloc, self.keys, socket, signals, request)?,
             is_kept,
             watched: Watched::Nothing,
         })
     }
 
     // Has a fetch make a step; its answer if it has ended.
-    fn stepped<R>(
+    fn stepped<R: OriginRuntime>(
         &self,
         rt: &R,
         alloc: Global,
         in_flight: &mut FetchesInFlight,
         key: usize,
-    ) -> Result<Option<Arc<Answer>>, NoMemory>
-    where
-        R: Wait + Net<Stream = TcpStream> + Clock + RandomSource + AllocGlobal + Clone + Drop,
-    {
+    ) -> Result<Option<Arc<Answer>>, NoMemory> {
         match in_flight.step(rt, alloc, key) {
             FetchStep::Waits => Ok(None),
             FetchStep::Ended(end) => self.ended(rt, alloc, in_flight, key, end),
@@ -232,16 +232,13 @@ impl HyperSource {
     }
 
     // Begins a fetch once more, over a new connection, within the same time.
-    fn retried<R>(
+    fn retried<R: OriginRuntime>(
         &self,
         rt: &R,
         alloc: Global,
         in_flight: &mut FetchesInFlight,
         key: usize,
-    ) -> Result<(), Lost>
-    where
-        R: Wait + Net<Stream = TcpStream> + Clock + RandomSource + AllocGlobal + Clone + Drop,
-    {
+    ) -> Result<(), Lost> {
         let Some(fetch) = in_flight.fetches.get_mut(key) else {
             return Ok(());
         };
@@ -282,7 +279,7 @@ impl HyperSource {
 
 impl<R> ConcurrentSource<R> for HyperSource
 where
-    R: Wait + Net<Stream = TcpStream> + Clock + RandomSource + AllocGlobal + Clone + Drop,
+    R: OriginRuntime,
 {
     type InFlight = FetchesInFlight;
 

@@ -3,12 +3,15 @@
 ghost use Rattle.std.specs.Prelude.{◌≤◌};
 
 use super::{Origin, push_outcome, source_of, url};
-use answer_sources::{Clock, Given, OnBehalf, Source, TableSource};
+use answer_sources::{
+    Answers, Arrival, Clock, ConcurrentSource, Given, OnBehalf, OneByOne, Source, TableSource,
+};
 use edge_types::{Answer, NoMemory, PageUrl, Request};
 use fetch_workers::assemble;
 use fragment_cache::UrlHashing;
 use shared_cache::Cache;
 use std::alloc::Global;
+use std::collections::VecDeque;
 use std::fmt::Write;
 use std::process::Abort;
 use std::random::RandomSource;
@@ -16,7 +19,7 @@ use std::sync::Wait;
 use std::sync::atomic::{AtomicU64, Ordering};
 use std::test::Fail;
 use std::thread::Threads;
-use std::{io, thread};
+use std::{io, thread, time};
 
 #[derive(Clone, Copy)]
 struct Hands<'a>(&'a AtomicU64);
@@ -51,17 +54,18 @@ fn lasting(table: TableSource, fetches: &AtomicU64) -> Origin<'_> {
 // A cache over an origin, in which a URL's hash picks its shard, else the sum of its bytes.
 fn cache_of<'a>(
     alloc: Global,
-    origin: Origin<'a>,
+    origin: &'a Origin<'a>,
     seconds: &'a AtomicU64,
     capacity: usize,
     hashing: Option<UrlHashing>,
-) -> Result<Cache<Origin<'a>, Hands<'a>>, NoMemory>
+) -> Result<Cache<OneByOne<'a, Origin<'a>>, Hands<'a>>, NoMemory>
     requires from { 1 ≤ capacity }
     requires to { capacity ≤ 1024 }
 {
+    let source = OneByOne { source: origin };
     match hashing {
-        Some(hashing) => Cache::hashed(alloc, origin, Hands(seconds), capacity, hashing),
-        None => Cache::new(alloc, origin, Hands(seconds), capacity),
+        Some(hashing) => Cache::hashed(alloc, source, Hands(seconds), capacity, hashing),
+        None => Cache::new(alloc, source, Hands(seconds), capacity),
     }
 }
 
@@ -135,7 +139,7 @@ const ROWS: &str = "8|99|99|/x 200 60 1|/x /x|11 1
 const ROWS_BY_SUM: &str = "1|99|99|/0 200 60 0;/1 200 60 1;/8 200 60 8|/0 /8 /0|080 3
 1|99|99|/0 200 60 0;/1 200 60 1;/8 200 60 8|/0 /1 /0|010 2";
 
-fn row_holds<R: Wait + Abort>(
+fn row_holds<R: Wait + time::Clock + Abort>(
     rt: &R,
     alloc: Global,
     row: &str,
@@ -159,7 +163,7 @@ fn row_holds<R: Wait + Abort>(
         round: u64::MAX,
         ends,
     };
-    let cache = cache_of(alloc, origin, &seconds, capacity, hashing)?;
+    let cache = cache_of(alloc, &origin, &seconds, capacity, hashing)?;
     let mut out = given(rt, alloc, &cache, &seconds, steps)?;
     write!(out, " {}", fetches.load(Ordering::SeqCst))?;
     assert!(rt; out.as_str() == wanted, "{row} {out}");
@@ -197,7 +201,7 @@ fn path_of_one_sum(alloc: Global, number: u8) -> Result<String, NoMemory> {
 }
 
 // How many answers are kept of those paths, where each of the eight shards keeps one.
-fn kept_of_one_sum<R: Wait + Abort>(
+fn kept_of_one_sum<R: Wait + time::Clock + Abort>(
     rt: &R,
     alloc: Global,
     hashing: Option<UrlHashing>,
@@ -209,7 +213,8 @@ fn kept_of_one_sum<R: Wait + Abort>(
     }
     let (fetches, seconds) = (AtomicU64::new(0), AtomicU64::new(100));
     let table = source_of(rt, alloc, case.as_str().trim_end_matches(';'))?;
-    let cache = cache_of(alloc, lasting(table, &fetches), &seconds, 1, hashing)?;
+    let origin = lasting(table, &fetches);
+    let cache = cache_of(alloc, &origin, &seconds, 1, hashing)?;
     for number in 0..64u8 {
         let given = ask(rt, alloc, &cache, path_of_one_sum(alloc, number)?.as_str());
         assert!(rt; given == b'1', "{number}");
@@ -231,7 +236,8 @@ fn what_is_purged_is_fetched_anew(rt: HostRuntime) -> Result<(), Fail> {
     let alloc = rt.alloc();
     let (fetches, seconds) = (AtomicU64::new(0), AtomicU64::new(100));
     let table = source_of(&rt, alloc, "/a/x 200 60 1;/a/y 200 60 2;/b 200 60 3")?;
-    let cache = Cache::new(alloc, lasting(table, &fetches), Hands(&seconds), 8)?;
+    let origin = lasting(table, &fetches);
+    let cache = cache_of(alloc, &origin, &seconds, 8, None)?;
     let b = url(&rt, alloc, "/b")?;
     let at_first = given(&rt, alloc, &cache, &seconds, "/a/x /a/y /b /b")?;
     assert!(rt; at_first.as_str() == "1233", "{at_first}");
@@ -266,7 +272,8 @@ fn as_many_answers_are_kept_as_may_be(rt: HostRuntime) -> Result<(), Fail> {
     }
     let (fetches, seconds) = (AtomicU64::new(0), AtomicU64::new(100));
     let table = source_of(&rt, rt.alloc(), case.as_str().trim_end_matches(';'))?;
-    let cache = Cache::new(rt.alloc(), lasting(table, &fetches), Hands(&seconds), 1024)?;
+    let origin = lasting(table, &fetches);
+    let cache = cache_of(rt.alloc(), &origin, &seconds, 1024, None)?;
     for i in 0..2000u32 {
         let path = format!(in rt.alloc(); "/{}", i % 1000)?;
         let first = ask(&rt, rt.alloc(), &cache, path.as_str());
@@ -307,7 +314,7 @@ fn none_is_wrong<R: Threads + Abort + Sync, S: Source<R> + Sync>(
 }
 
 // Sixteen URLs, of an origin that runs out of memory at every tenth fetch. Returns how often it was asked.
-fn crowd<R: Wait + Threads + Abort + Sync>(
+fn crowd<R: Wait + time::Clock + Threads + Abort + Sync>(
     rt: &R,
     alloc: Global,
     control: &str,
@@ -324,7 +331,7 @@ fn crowd<R: Wait + Threads + Abort + Sync>(
         round: 10,
         ends: u64::MAX,
     };
-    let cache = Cache::new(alloc, origin, Hands(&seconds), 8)?;
+    let cache = cache_of(alloc, &origin, &seconds, 8, None)?;
     none_is_wrong(rt, alloc, &cache)?;
     Ok(fetches.load(Ordering::SeqCst))
 }
@@ -344,16 +351,46 @@ struct Twofold<'a> {
     other: &'a TableSource,
 }
 
-impl<R> Source<R> for Twofold<'_> {
+impl<R> Answers<R> for Twofold<'_> {
     ghost use Rattle.std.specs.Prelude.{◌≡◌};
 
     ghost gives = { λ it url answer. answer.url ≡ url };
 
     ghost names_url = { λ it url answer given. given };
+}
 
+impl<R> Source<R> for Twofold<'_> {
     fn fetch(&self, rt: &R, alloc: Global, url: &PageUrl) -> Result<Given, NoMemory> {
         self.table.fetch(rt, alloc, url)
     }
+}
+
+impl<R> ConcurrentSource<R> for Twofold<'_> {
+    type InFlight = VecDeque<PageUrl>;
+
+    fn nothing_in_flight(&self, _rt: &R, alloc: Global) -> VecDeque<PageUrl> {
+        VecDeque::new(alloc)
+    }
+
+    fn begin(
+        &self,
+        rt: &R,
+        alloc: Global,
+        in_flight: &mut VecDeque<PageUrl>,
+        url: &PageUrl,
+    ) -> Result<(), NoMemory> {
+        self.table.begin(rt, alloc, in_flight, url)
+    }
+
+    fn next(&self, rt: &R, alloc: Global, in_flight: &mut VecDeque<PageUrl>) -> Arrival {
+        OneByOne { source: self }.next(rt, alloc, in_flight)
+    }
+
+    fn is_idle(&self, in_flight: &VecDeque<PageUrl>) -> bool {
+        in_flight.is_empty()
+    }
+
+    fn give_up(&self, _rt: &R, _alloc: Global, _in_flight: VecDeque<PageUrl>) {}
 }
 
 impl<'a, R> OnBehalf<R> for Twofold<'a> {

@@ -1,7 +1,9 @@
 //! Pages whose thread has several fetches in flight.
 
 use super::{push_outcome, source_of, url};
-use answer_sources::{Arrival, Clock, ConcurrentSource, Given, OneByOne, Source, TableSource};
+use answer_sources::{
+    Answers, Arrival, Clock, ConcurrentSource, Given, OneByOne, Source, TableSource,
+};
 use edge_types::{NoMemory, PageUrl, Request};
 use fetch_workers::Assembling;
 use shared_cache::Cache;
@@ -57,16 +59,12 @@ struct Flying<'a> {
     seen: &'a Seen,
 }
 
-impl<R> Source<R> for Flying<'_> {
+impl<R> Answers<R> for Flying<'_> {
     ghost use Rattle.std.specs.Prelude.{◌≡◌};
 
     ghost gives = { λ it url answer. answer.url ≡ url };
 
     ghost names_url = { λ it url answer given. given };
-
-    fn fetch(&self, rt: &R, alloc: Global, url: &PageUrl) -> Result<Given, NoMemory> {
-        self.table.fetch(rt, alloc, url)
-    }
 }
 
 impl<R> ConcurrentSource<R> for Flying<'_> {
@@ -150,7 +148,7 @@ const CASE: &str =
 #[test]
 fn a_page_is_the_same_whatever_ends_first(rt: HostRuntime) -> Result<(), Fail> {
     let rows = [
-        (1, (0, 0, 0)),
+        (1, (1, 6, 0)),
         (2, (2, 6, 0)),
         (3, (3, 6, 0)),
         (256, (4, 6, 0)),

@@ -1,6 +1,6 @@
 //! Where fetches of one page meet.
 
-use answer_sources::{Gate, Given, Source, TableSource};
+use answer_sources::{Answers, Gate, Given, Source, TableSource};
 use edge_types::{NoMemory, PageUrl};
 use std::alloc::Global;
 use std::sync::atomic::{AtomicU64, Ordering};
@@ -62,13 +62,15 @@ pub(crate) struct Held<'a> {
     pub(crate) meeting: &'a Meeting,
 }
 
-impl<R: Clock> Source<R> for Held<'_> {
+impl<R: Clock> Answers<R> for Held<'_> {
     ghost use Rattle.std.specs.Prelude.{◌≡◌};
 
     ghost gives = { λ held url answer. answer.url ≡ url };
 
     ghost names_url = { λ held url answer given. given };
+}
 
+impl<R: Clock> Source<R> for Held<'_> {
     fn fetch(&self, rt: &R, alloc: Global, url: &PageUrl) -> Result<Given, NoMemory> {
         self.meeting.before_fetch(rt, url);
         self.table.fetch(rt, alloc, url)

@@ -16,7 +16,7 @@ returns g c =
     let facts = c.compared.ensures in
     record {
       page = if_ok_by_five c.compared.result _ _ _ _ _ _ (λ made same legal rests counted leg. record {
-        page = record { given = own_given (g.S.Source.gives c.args._source.now) c.args.own.items own _ c.sort_unstable_by_key.ensures.permutation same c.requires; legal = legal; outcome = rests };
+        page = record { given = own_given (g.S.Answers.gives c.args._source.now) c.args.own.items own _ c.sort_unstable_by_key.ensures.permutation same c.requires; legal = legal; outcome = rests };
         ways = (map (λ (o : Own). o.way) own, as_many_ways own (log_in made) same, counted);
         failed_leg = leg;
       }) facts.own facts.legal facts.outcome facts.ways facts.failed_leg;

@@ -8,7 +8,7 @@ pub loop-origin-preserved : goal.loop-origin-preserved
 loop-origin-preserved c = below_more _ _ earlier latest
   where
     earlier : (k : _) → k < c.loop-origin.origin-index → (d : Origin) → spec.HasGate c.add_gate.new.gates.items (get_or c.args.origins.now k d).address
-    earlier k h d = c.add_gate.ensures.kept _ (c.loop-origin.invariant k h d)
+    earlier k h d = c.add_gate.ensures.others _ (c.loop-origin.invariant k h d)
 
     latest : (d : Origin) → spec.HasGate c.add_gate.new.gates.items (get_or c.args.origins.now c.loop-origin.origin-index d).address
     latest d =

@@ -15,7 +15,7 @@ use Rattle.hyper_edge.proofs.page_time.FetchesInTime.TheSendSync as FetchesInTim
 use Rattle.hyper_edge.proofs.page_time.WithinTime.TheSendSync as WithinTime
 use Rattle.hyper_edge.specs.contracts.page_time.FetchesInTime as fetches_in_time
 use Rattle.hyper_edge.specs.contracts.page_time.WithinTime as within_time
-use Rattle.hyper_edge.specs.contracts.page_time.WithinTimeSource.TheImpl as in_time
+use Rattle.hyper_edge.specs.contracts.page_time.WithinTimeAnswers.TheImpl as in_time
 use Rattle.edge_connections.proofs.roster.Work.TheSendSync as Work
 use Rattle.edge_connections.specs.contracts.roster.Work as work
 use Rattle.hyper_edge.specs.contracts.server.Server as server
@@ -47,8 +47,8 @@ spawn-started-requires-send-F g c κs within =
     let F : RattleType = param 7 g.row.S-InFlight in
     let G : RattleType = fetches_in_time.the_row F in
     let O : RattleType = result.the_row unit-field.row error.the_row in
-    let shared : RattleType = server.the_row lent R A S J C F G O (in_time.ghosts R S g.R.Clock in_time.no_dict g.S.Source in_time.no_dict) g.F.Future in
-    let v : IsSync shared = server_sync lent R A S J C F G O (in_time.ghosts R S g.R.Clock in_time.no_dict g.S.Source in_time.no_dict) g.F.Future r ry a s y j f w t in
+    let shared : RattleType = server.the_row lent R A S J C F G O (in_time.ghosts R S g.S.Answers in_time.no_dict) g.F.Future in
+    let v : IsSync shared = server_sync lent R A S J C F G O (in_time.ghosts R S g.S.Answers in_time.no_dict) g.F.Future r ry a s y j f w t in
     let p : IsSend (shr_ref_field here shared tt).row = search (v, shr_send) in
     let q : IsSend (shr_ref_field opens M tt).row = search (m, shr_send) in
     let k : IsSend work.the_row = search (Work.the_send, sendable) in

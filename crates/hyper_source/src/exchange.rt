@@ -1,15 +1,14 @@
-//! One request and its response, among those of other fetches.
+//! One request and its response over one connection.
 
 ghost use Rattle.std.specs.Prelude.{IfOk};
 ghost use Rattle.hyper_source.specs.Behind.{FollowsHead};
 
 use crate::behind::Behind;
 use crate::exchange_end::ExchangeEnd;
-use crate::gathered::{Lost, Rest};
+use crate::gathered::{Lost, Response, Rest};
 use crate::intake::BodyCount;
 use crate::origin_socket::OriginSocket;
-use crate::polled_stream::PolledStream;
-use crate::round_trip::Response;
+use crate::origin_stream::OriginStream;
 use crate::stream_signals::{Need, StreamSignals};
 use bytes::Bytes;
 use fetch_outcomes::FetchFault;
@@ -25,7 +24,7 @@ use std::hash::RandomState;
 use std::os::fd::{AsRawFd, RawFd};
 use std::sync::Arc;
 
-type Connection = WithoutShutdown<PolledStream, Empty<Bytes>>;
+type Connection = WithoutShutdown<OriginStream, Empty<Bytes>>;
 
 // How often an exchange is polled in one step, before another one makes its own.
 const BUDGET: usize = 64;
@@ -44,25 +43,25 @@ pub(crate) enum ExchangeStep {
 // What has come of a response.
 #[derive(Drop)]
 enum Page {
-    Nothing(ResponseFuture<PolledStream>),
-    Head(Rest<PolledStream>),
+    Nothing(ResponseFuture<OriginStream>),
+    Head(Rest<OriginStream>),
     Whole(Response),
 }
 
 /// A request that is sent over a connection of its own, and what has come of its response.
 #[derive(Drop)]
-pub(crate) struct PolledExchange {
+pub(crate) struct Exchange {
     page: Page,
     // `None` once it has ended.
     connection: Option<Pollable<Connection>>,
     // What a connection that has ended has left.
-    behind: Behind<PolledStream>,
+    behind: Behind<OriginStream>,
     socket: RawFd,
     body: BodyCount,
     signals: Arc<StreamSignals>,
 }
 
-impl PolledExchange {
+impl Exchange {
     /// Begins an exchange over a socket that doesn't block. Nothing is sent before it is polled.
     pub(crate) fn begun(
         alloc: Global,
@@ -70,7 +69,7 @@ impl PolledExchange {
         socket: OriginSocket,
         signals: StreamSignals,
         request: Request<Empty<Bytes>>,
-    ) -> Result<PolledExchange, Lost> {
+    ) -> Result<Exchange, Lost> {
         let descriptor = socket.stream().as_raw_fd();
         let Ok(signals) = Arc::new(alloc, signals) else {
             return Err(Lost::NoMemory);
@@ -79,7 +78,7 @@ impl PolledExchange {
             return Err(Lost::NoMemory);
         };
         let body = BodyCount::new(alloc)?;
-        let io = PolledStream::over(socket, body.share()?, told);
+        let io = OriginStream::over(socket, body.share()?, told);
         let Ok((mut sender, connection)) = client::conn::http1::handshake(alloc, keys, io) else {
             return Err(Lost::Fault(FetchFault::Cut));
         };
@@ -89,7 +88,7 @@ impl PolledExchange {
         let Ok(connection) = Pollable::new(alloc, connection.without_shutdown()) else {
             return Err(Lost::NoMemory);
         };
-        Ok(PolledExchange {
+        Ok(Exchange {
             page: Page::Nothing(response),
             connection: Some(connection),
             behind: Behind::End,
@@ -179,10 +178,10 @@ impl PolledExchange {
     }
 
     /// How it has ended.
-    pub(crate) fn end(self) -> ExchangeEnd<PolledStream>
+    pub(crate) fn end(self) -> ExchangeEnd<OriginStream>
         ensures { IfOk result.came (λ page. FollowsHead page.0 result.behind) }
     {
-        let PolledExchange {
+        let Exchange {
             page,
             connection: _,
             behind,
