@@ -142,11 +142,11 @@ def connections_that_no_files_are_left_for_are_told():
     """With a limit of open files below what may be needed: a line that says for how many connections there is room, and which
     limit would do; and the edge serves."""
     rows = (
-        (["--connections", "2000"], 1024, b"warning: --connections 2000 is taken as 480: 1024 files may be open, and 2544 would do (ulimit -n)\n"),
-        ([], 100, b"warning: --connections 64 is taken as 13: 100 files may be open, and 352 would do (ulimit -n)\n"),
-        ([], 351, b"warning: --connections 64 is taken as 63: 351 files may be open, and 352 would do (ulimit -n)\n"),
-        ([], 352, b""),
-        (["--threads", "1"], 36, b"warning: --connections 64 is taken as 1: 36 files may be open, and 104 would do (ulimit -n)\n"),
+        (["--connections", "2000"], 1024, b"warning: --connections 2000 is taken as 76: 1024 files may be open, and 3568 would do (ulimit -n)\n"),
+        ([], 100, b"warning: --connections 64 is taken as 5: 100 files may be open, and 864 would do (ulimit -n)\n"),
+        ([], 863, b"warning: --connections 64 is taken as 63: 863 files may be open, and 864 would do (ulimit -n)\n"),
+        ([], 864, b""),
+        (["--threads", "1"], 36, b"warning: --connections 64 is taken as 1: 36 files may be open, and 120 would do (ulimit -n)\n"),
         (["--fetches", "64"], 200, b"warning: --connections 64 is taken as 42: 200 files may be open, and 288 would do (ulimit -n)\n"),
         (["--fetches", "64"], 288, b""),
     )

@@ -15,10 +15,10 @@ pub record AreOf (options : ServerOptions) (numbers : Numbers) : Type 0 where
 abbrev pub holding : Numbers → ℕ → ℕ
 holding numbers connections = min connections (2 * numbers.threads)
 
--- what so many connections may need: 32 of the process itself; the socket of each; and where a page holds its thread, one for
--- each of its workers, else one of a fetch, and two by which it is told that the page may go on
+-- what so many connections may need: 32 of the process itself; the socket of each; and of each that waits for fetches a fetch's
+-- socket and two by which the wait ends: so of each worker where a page holds its thread, else of each page
 abbrev pub needed : Numbers → ℕ → ℕ
-needed numbers connections = if numbers.fetches == 1 then 32 + connections + numbers.workers * holding numbers connections else 32 + 4 * connections
+needed numbers connections = if numbers.fetches == 1 then 32 + connections + 3 * numbers.workers * holding numbers connections else 32 + connections + 3 * connections
 
 -- the most connections that may be open with this limit: no more than are asked for, and each has room; but one in any case
 pub record IsRoom (numbers : Numbers) (limit : ℕ) (room : ℕ) : Type 0 where

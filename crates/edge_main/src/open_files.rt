@@ -9,6 +9,9 @@ use libc::types::rlimit;
 /// The descriptors of the process itself: standard streams, what accepts and what waits.
 const OWN: u64 = 32;
 
+/// The descriptors of what waits for a fetch: the fetch's socket, and two by which the wait ends.
+const OF_A_WAIT: u64 = 3;
+
 /// How many of something a server may have, by its options.
 #[derive(Clone, Copy, Drop)]
 pub(crate) struct Numbers {
@@ -35,17 +38,17 @@ impl Numbers {
         }
     }
 
-    /// How many descriptors so many connections may need: each has its socket; and where its page holds its thread, one for
-    /// each worker; else, while it is parked, two by which it is told that it may go on, and a fetch's.
+    /// How many descriptors so many connections may need: each has its socket, and its page a fetch's and two by which a
+    /// thread is told that it may go on; where the page holds its thread, each of its workers has these.
     pub(crate) fn needed(self, connections: u32) -> u64
         ensures { result ≡ spec.needed self connections }
     {
         let connections = u64::from(connections);
         if self.fetches == 1 {
             let holding = connections.min(2 * u64::from(self.threads));
-            OWN + connections + u64::from(self.workers) * holding
+            OWN + connections + OF_A_WAIT * u64::from(self.workers) * holding
         } else {
-            OWN + 4 * connections
+            OWN + connections + OF_A_WAIT * connections
         }
     }
 
