@@ -4,10 +4,11 @@ import os
 import resource
 import subprocess
 import tempfile
+import threading
 import time
 
 from harness import ASKED, HERE, PATIENCE, PLAIN, Origin, Response, Wires, Wrong, before, client, get, rest, same, told, wire
-from bounding import soon
+from bounding import soon, timed
 from keeping import BODY, more_of
 from operating import ADMIN, Desk, metrics, read
 from parking import SHORT, resident
@@ -120,6 +121,30 @@ def a_late_page_shows_older_answers():
             same("what was asked for", ["/older", "/expired", "/p", "/slow"], origin.asked())
 
 
+def a_fetch_ends_with_its_page_unless_others_wait():
+    """Past --page-timeout a fetch for which a thread waits ends, unless another page waits for it: that one gets the answer."""
+    texts = {
+        "/first": slow("1", 1.5),
+        "/second": slow("2", 2.5),
+        "/p": page_of("<esi:include src='/first'/>" + ALTERNATIVE % "/second"),
+        "/q": page_of(ALTERNATIVE % "/second"),
+    }
+    alone = ("--workers", "1", "--ahead", "0", "--page-timeout", "3000")
+    with Wires(texts) as origin, before(origin, *alone) as edge:
+        came, taken = timed(lambda: told(edge, "/p"))
+        same("by itself", (200, b"1late"), came)
+        same("it took %.3f s" % taken, True, taken < 3.9)
+    with Wires(texts) as origin, before(origin, *alone) as edge:
+        pages = []
+        asking = threading.Thread(target=lambda: pages.append(told(edge, "/p")))
+        asking.start()
+        soon("the fetch is under way", lambda: "/second" in origin.asked())
+        same("who waits for it", (200, b"2"), told(edge, "/q"))
+        asking.join()
+        same("who began it", [(200, b"1late")], pages)
+        same("what was asked for", ["/p", "/first", "/second", "/q"], origin.asked())
+
+
 def a_page_is_assembled_by_one_thread_where_no_other_starts():
     """A page that could have sixteen workers, under a limit of threads."""
     paths = ["/%d" % at for at in range(8)]
@@ -206,6 +231,7 @@ TESTS = (
     a_page_has_no_more_than_its_bytes,
     long_values_are_not_copied,
     a_late_page_shows_older_answers,
+    a_fetch_ends_with_its_page_unless_others_wait,
     a_page_is_assembled_by_one_thread_where_no_other_starts,
     connections_have_room_among_the_files,
     who_lets_it_wait_gives_a_file_back,
