@@ -196,7 +196,7 @@ pub fn reference_at(rt: &HostRuntime, name: &str) -> Option<()> {
 
 pub fn trouble_of(rt: &HostRuntime, name: &str) -> Option<()> {
     calls(rt, name)?;
-    let found = expr_check::trouble_of(rt.alloc(), b"$(HTTP_COOKIE{c}|'d')=='1'&");
+    let found = template_check::trouble_of(rt.alloc(), b"$(HTTP_COOKIE{c}|'d')=='1'&");
     answers(rt)?;
     match &found {
         Ok(trouble) => print!(rt; " {} {}", trouble.place, trouble.problem).ok(),

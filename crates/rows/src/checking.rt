@@ -16,7 +16,7 @@ pub fn check(alloc: Global, row: &[u8], line: &mut Line) -> Option<()> {
 
 /// A row isn't a test; the place in it is printed, and what is wrong there.
 pub fn trouble_of(alloc: Global, row: &[u8], line: &mut Line) -> Option<()> {
-    let trouble = expr_check::trouble_of(alloc, row).ok()?;
+    let trouble = template_check::trouble_of(alloc, row).ok()?;
     line.display(&trouble.place);
     line.push(": ");
     line.display(&trouble.problem);

@@ -1,6 +1,7 @@
 pub mod ChosenLemmas
 pub mod ElementLemmas
 pub mod MessageLemmas
+pub mod NeedLemmas
 pub mod OpenLemmas
 pub mod PartLemmas
 pub mod PlaceLemmas

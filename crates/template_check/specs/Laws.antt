@@ -1,7 +1,11 @@
--- What lines and columns are, without walking.
-use Rattle.std.specs.Prelude.{◌≡◌, ℕ, ◌+◌, ◌==◌, List, [], ◌∷◌, ◌++◌, take, length, min, if◌then◌else◌}
+-- What lines and columns are, without walking; and how far tests are read.
+use Rattle.std.specs.Prelude.{◌≡◌, ◌↔◌, ℕ, ◌+◌, ◌==◌, List, [], ◌∷◌, ◌++◌, take, length, min, Some, if◌then◌else◌}
 use Rattle.std.specs.Str.{byte}
+use Rattle.esi_expr.specs.Tree.{Test}
+use Rattle.esi_expr.specs.Reading.{read_test}
+use Rattle.esi_expr.specs.declared.stop.Wanted.TheVariants.{Operator}
 use Rattle.template_check.specs.Positions.{position_of}
+use Rattle.template_check.specs.Stops.{stop_of}
 
 -- the bytes before a place
 abbrev pub before : List ℕ → ℕ → List ℕ
@@ -28,3 +32,12 @@ FirstLineIsCounted = (text : List ℕ) (place : ℕ) → IsOneLine (before text 
 abbrev pub ColumnIsCounted : Type 0
 ColumnIsCounted =
     (text : List ℕ) (place : ℕ) (lines line : List ℕ) → before text place ≡ lines ++ byte "\n" ∷ line → IsOneLine line → (position_of text place).column ≡ length line + 1
+
+-- a text can be read as a test
+pub record IsTest (text : List ℕ) : Type 0 where
+  pub test : Test
+  pub is : read_test text ≡ Some test
+
+-- a text can be read as a test exactly if reading it stops at its end, after a test
+abbrev pub TestsAreReadToTheirEnd : Type 0
+TestsAreReadToTheirEnd = (text : List ℕ) → (stop_of text ≡ (Operator, [])) ↔ IsTest text

@@ -1,5 +1,8 @@
 pub mod Positions
 pub mod OpenElements
+pub mod Stops
+pub mod Troubles
+pub mod Words
 pub mod Reasons
 pub mod Checking
 pub mod Refusals

@@ -12,8 +12,8 @@ use Rattle.esi_scanner.specs.declared.problem.Trouble.{Trouble}
 use Rattle.esi_scanner.specs.Bytes.{attribute_len}
 use Rattle.esi_scanner.specs.Names.{element_text, known_text}
 use Rattle.esi_vars.specs.Reference.{variable_names}
-use Rattle.expr_check.specs.declared.trouble.TestTrouble.{TestTrouble}
-use Rattle.expr_check.specs.Words.{words_of}
+use Rattle.template_check.specs.declared.trouble.TestTrouble.{TestTrouble}
+use Rattle.template_check.specs.Words.{words_of}
 use Rattle.template_check.specs.declared.checker.Fault.{Fault}
 use Rattle.template_check.specs.declared.elements.Opened.{Opened}
 use Rattle.template_check.specs.declared.position.Position.{Position}

@@ -10,7 +10,7 @@ use Rattle.esi_scanner.specs.declared.token.Kind.{Kind}
 use Rattle.esi_scanner.specs.declared.token.Kind.TheVariants as kinds
 use Rattle.esi_scanner.specs.declared.token.Token.{Token}
 use Rattle.esi_scanner.specs.Tag.{value_of}
-use Rattle.expr_check.specs.Troubles.{trouble_of}
+use Rattle.template_check.specs.Troubles.{trouble_of}
 use Rattle.esi_tree.specs.declared.open_elements.TheConstants.{OPEN_LIMIT}
 use Rattle.esi_tree.specs.Reading.{is_same, stands_in_run}
 use Rattle.template_check.specs.declared.elements.Opened.{Opened}

@@ -13,7 +13,7 @@ use Rattle.esi_scanner.specs.Problems.{trouble_at}
 use Rattle.esi_scanner.specs.Scan.{scan_of}
 use Rattle.esi_scanner.specs.Tag.{value_of}
 use Rattle.esi_expr.specs.Reading.{read_test}
-use Rattle.expr_check.specs.Troubles.{trouble_of}
+use Rattle.template_check.specs.Troubles.{trouble_of}
 use Rattle.esi_tree.specs.declared.open_elements.TheConstants.{OPEN_LIMIT}
 use Rattle.esi_tree.specs.Items.{item_of}
 use Rattle.esi_tree.specs.Shown.{Branch}

@@ -1,5 +1,5 @@
-//! Laws of positions and of reasons, each the contract of a function that does nothing.
-ghost use Rattle.template_check.specs.Laws.{LineIsCounted, FirstLineIsCounted, ColumnIsCounted};
+//! Laws of positions, of reasons and of tests, each the contract of a function that does nothing.
+ghost use Rattle.template_check.specs.Laws.{LineIsCounted, FirstLineIsCounted, ColumnIsCounted, TestsAreReadToTheirEnd};
 ghost use Rattle.template_check.specs.Refusals.{ReasonsAreTrue};
 
 /// A place's line is one more than the number of line feeds before it.
@@ -20,4 +20,9 @@ pub fn columns_are_counted()
 /// If a text isn't a template, the reason is true of the reading that stops at the fault's place.
 pub fn reasons_are_true()
     ensures { ReasonsAreTrue }
+{}
+
+/// A text is a test exactly if reading it stops at its end and only an operator could continue it.
+pub fn tests_are_read_to_their_end()
+    ensures { TestsAreReadToTheirEnd }
 {}

@@ -9,8 +9,8 @@ use crate::checker::Fault;
 use crate::elements::Opened;
 use crate::position::{Position, position_of};
 use crate::reason::Reason;
+use crate::trouble::TestTrouble;
 use esi_scanner::{ElementName, KnownAttribute, Problem, Trouble};
-use expr_check::TestTrouble;
 use std::fmt::Write;
 use std::{fmt, str};
 

@@ -1,8 +1,8 @@
 //! Why a text isn't a template.
 
 use crate::elements::Opened;
+use crate::trouble::TestTrouble;
 use esi_scanner::{ElementName, KnownAttribute, Trouble};
-use expr_check::TestTrouble;
 
 /// Why a text isn't a template from a place on.
 #[derive(Clone, Copy, Debug, Drop, PartialEq, Eq)]

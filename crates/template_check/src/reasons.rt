@@ -5,10 +5,10 @@ ghost use Rattle.template_check.specs.Reasons as spec;
 
 use crate::elements::{Opened, has_part, innermost, open_count};
 use crate::reason::Reason;
+use crate::trouble::trouble_of;
 use edge_types::NoMemory;
 use esi_scanner::{Attributes, ElementName, Kind, KnownAttribute, Tag, Token};
 use esi_tree::{OPEN_LIMIT, stands_in_run};
-use expr_check::trouble_of;
 use std::alloc::Global;
 
 // Whether an element of this name may stand directly in an element of that name.

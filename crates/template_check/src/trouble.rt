@@ -2,9 +2,9 @@
 
 ghost use Rattle.std.specs.Prelude.{◌≡◌, IfOk, Some};
 ghost use Rattle.esi_expr.specs.Shown.{shown_stop};
-ghost use Rattle.expr_check.specs.Stops as stops;
-ghost use Rattle.expr_check.specs.Troubles as spec;
-ghost use Rattle.expr_check.specs.Words.{words_of};
+ghost use Rattle.template_check.specs.Stops as stops;
+ghost use Rattle.template_check.specs.Troubles as spec;
+ghost use Rattle.template_check.specs.Words.{words_of};
 
 use edge_types::NoMemory;
 use esi_expr::{Halt, Stop, Wanted, read};

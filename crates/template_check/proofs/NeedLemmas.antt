@@ -7,8 +7,8 @@ use Rattle.esi_expr.specs.declared.reading.TheConstants.{NESTING_LIMIT}
 use Rattle.esi_expr.specs.declared.stop.Wanted.TheVariants as wanted
 use Rattle.esi_expr.specs.Tree.{Test, Single, Or, Sole, And, Neg}
 use Rattle.esi_expr.specs.Reading.{◌>>=◌, Stopped, Found, after_ws, after_sign, comparison_at, operand_at, operand_or, wanted_at, compared, plain_at, behind, joined_at, conj_with, test_with, closed, nested, neg_at, ended, reading, read_test}
-use Rattle.expr_check.specs.Stops.{stopped, stop_of}
-use Rattle.expr_check.specs.Laws.{TestsAreReadToTheirEnd}
+use Rattle.template_check.specs.Stops.{stopped, stop_of}
+use Rattle.template_check.specs.Laws.{TestsAreReadToTheirEnd}
 
 abbrev Needs : {A : Type 0} → Result A Stopped → Type 0
 Needs (Ok found) = Unit {0}

@@ -4,10 +4,10 @@ use Rattle.std.specs.Str.{byte}
 use Rattle.std.specs.Char.{is_ascii_digit}
 use Rattle.esi_expr.specs.declared.stop.Wanted.{Wanted}
 use Rattle.esi_expr.specs.declared.stop.Wanted.TheVariants as wanted
-use Rattle.expr_check.specs.declared.trouble.TestProblem.{TestProblem}
-use Rattle.expr_check.specs.declared.trouble.TestProblem.TheVariants as problem
-use Rattle.expr_check.specs.declared.trouble.TestTrouble.{TestTrouble}
-use Rattle.expr_check.specs.Stops.{stop_of}
+use Rattle.template_check.specs.declared.trouble.TestProblem.{TestProblem}
+use Rattle.template_check.specs.declared.trouble.TestProblem.TheVariants as problem
+use Rattle.template_check.specs.declared.trouble.TestTrouble.{TestTrouble}
+use Rattle.template_check.specs.Stops.{stop_of}
 
 -- whether a byte is one of two
 abbrev pub is_either : ℕ → ℕ → ℕ → Bool

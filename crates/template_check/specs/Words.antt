@@ -1,7 +1,7 @@
 -- What a problem is called.
 use Rattle.std.specs.Prelude.{ℕ, List, codes}
-use Rattle.expr_check.specs.declared.trouble.TestProblem.{TestProblem}
-use Rattle.expr_check.specs.declared.trouble.TestProblem.TheVariants as problem
+use Rattle.template_check.specs.declared.trouble.TestProblem.{TestProblem}
+use Rattle.template_check.specs.declared.trouble.TestProblem.TheVariants as problem
 
 abbrev pub words_of : TestProblem → List ℕ
 words_of problem.NoOperand = codes "a reference, a number or a text in single quotes is wanted here, such as 'text'"

@@ -1,5 +1,0 @@
-use Rattle.expr_check.proofs.Needs.{tests_are_read_to_their_end}
-use Rattle.expr_check.proofs.laws.tests_are_read_to_their_end.Goals as goal
-
-pub returns : goal.returns
-returns c = tests_are_read_to_their_end

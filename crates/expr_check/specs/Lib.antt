@@ -1,4 +1,0 @@
-pub mod Stops
-pub mod Troubles
-pub mod Words
-pub mod Laws
