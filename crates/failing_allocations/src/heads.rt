@@ -83,6 +83,16 @@ pub fn passed_edges(rt: &HostRuntime, name: &str) -> Option<()> {
     }
 }
 
+pub fn cookies_named(rt: &HostRuntime, name: &str) -> Option<()> {
+    calls(rt, name)?;
+    let read = page_http::cookies_named(rt.alloc(), b"d, c", &FIELDS);
+    answers(rt)?;
+    match &read {
+        Ok(cookies) => bytes(rt, cookies.as_slice()),
+        Err(NoMemory) => out_of_memory(rt),
+    }
+}
+
 // A page of one piece, with a field of its own.
 fn page(alloc: Global) -> Option<Arc<Outcome>> {
     let mut body = PageBody::new(alloc);

@@ -36,6 +36,7 @@ fn call(rt: &HostRuntime, name: &str) -> Option<()> {
         "capability" => values::capability(rt, name),
         "answer_head" => heads::answer_head(rt, name),
         "passed_edges" => heads::passed_edges(rt, name),
+        "cookies_named" => heads::cookies_named(rt, name),
         "response_of:page" => heads::page_response(rt, name),
         "response_of:fault" => heads::fault_response(rt, name),
         "refusal_of:503" => heads::refusal(rt, name),

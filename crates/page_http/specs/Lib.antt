@@ -1,5 +1,7 @@
 pub mod Head
 pub mod Passed
+pub mod Cookies
 pub mod Frames
 pub mod Sent
+pub mod EntityTag
 pub mod Laws

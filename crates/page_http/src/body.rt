@@ -1,5 +1,5 @@
 //! The bodies of responses. Clauses see a body as the list of the remaining frames.
-ghost use Rattle.std.specs.Prelude.{◌≡◌, ◌<◌, ◌↔◌, [], ◌∷◌, length, slice_get, IsTrue, IsSome, IfOk, IfSome, OnErr, OnSome, MatchOption, None, Some};
+ghost use Rattle.std.specs.Prelude.{◌≡◌, ◌<◌, ◌↔◌, drop, [], ◌∷◌, length, slice_get, IsTrue, IsSome, IfOk, IfSome, OnErr, OnSome, MatchOption, None, Some};
 ghost use Rattle.std.specs.Arc.{arc_value};
 ghost use Rattle.edge_types.specs.Pieces.{joined};
 ghost use Rattle.futures.specs.Poll.{IfReady, OnPending};
@@ -7,11 +7,13 @@ ghost use Rattle.futures.specs.Runs.{After, Within};
 ghost use Rattle.futures.specs.Task.{Covers, Keeps};
 ghost use Rattle.http_body.specs.SizeHint.{exact};
 ghost use Rattle.page_http.specs.Frames.{frames_in, pieces_of, Gives, Steps};
+ghost use Rattle.sha2.specs.Sha256.{sha256};
 
 use bytes::Bytes;
 use edge_types::Outcome;
 use futures::task::{Context, Poll};
 use http_body::{Body, Frame, SizeHint};
+use sha2::{Digest, Sha256};
 use std::alloc::AllocError;
 use std::marker::Model;
 use std::sync::Arc;
@@ -44,7 +46,7 @@ impl Model for EdgeBody {
 
 impl EdgeBody {
     /// A body without frames.
-    pub(crate) fn nothing() -> EdgeBody
+    pub fn nothing() -> EdgeBody
         ensures { result ≡ [] }
     {
         EdgeBody {
@@ -79,6 +81,13 @@ impl EdgeBody {
 }
 
 impl EdgeBody {
+    // The SHA-256 digest of the bytes of the frames that are left.
+    pub(crate) fn digest(&self) -> Result<[u8; 32], AllocError>
+        ensures { IfOk result (λ digest. digest ≡ sha256 (joined self.now)) }
+    {
+        self.frames.digest_from(self.next)
+    }
+
     // The next frame; `None` at the end.
     fn next_frame(&mut self) -> Result<Option<Bytes>, AllocError>
         ensures frame { IfOk result (λ frame. MatchOption frame
@@ -171,6 +180,21 @@ impl Frames {
             Frames::Text(text) => Ok(Some(text.clone()?)),
             Frames::Page(outcome) => frame_of(outcome, i),
         }
+    }
+}
+
+impl Frames {
+    // The digest of the bytes of these frames from a number on.
+    fn digest_from(&self, first: usize) -> Result<[u8; 32], AllocError>
+        ensures { IfOk result (λ digest. digest ≡ sha256 (joined (drop first (frames_in self.now)))) }
+    {
+        let mut hasher = Sha256::new();
+        let mut next = first;
+        while let Some(frame) = self.get(next)? {
+            hasher.update(&*frame);
+            next += 1;
+        }
+        Ok(hasher.finalize())
     }
 }
 

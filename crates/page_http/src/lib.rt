@@ -5,6 +5,8 @@
 #![tactic(auto)]
 
 mod body;
+mod cookies;
+mod entity_tag;
 mod field;
 mod head;
 pub mod laws;
@@ -12,6 +14,8 @@ mod passed;
 mod response;
 
 pub use body::EdgeBody;
+pub use cookies::cookies_named;
+pub use entity_tag::entity_tag_of;
 pub use field::Field;
 pub use head::{HeadFault, answer_head};
 pub use passed::{has_passed, passed_edges};

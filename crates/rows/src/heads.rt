@@ -59,6 +59,15 @@ pub fn passed_edges(alloc: Global, row: &[u8], line: &mut Line) -> Option<()> {
     Some(())
 }
 
+/// A row is names with commas between, and the lines of a head, with a bar before each; what is printed has a bar after it.
+pub fn cookies_named(alloc: Global, row: &[u8], line: &mut Line) -> Option<()> {
+    let (names, lines) = around(b'|', row).unwrap_or((row, b""));
+    let fields = fields(alloc, lines)?;
+    let cookies = page_http::cookies_named(alloc, names, fields.as_slice()).ok()?;
+    push_part(line, cookies.as_slice());
+    Some(())
+}
+
 /// A row is two bytes as numbers; those in this range that may be in a host are printed.
 pub fn hosts(alloc: Global, row: &[u8], line: &mut Line) -> Option<()> {
     let (first, last) = pair(row);
