@@ -21,7 +21,7 @@ pub use clock::Clock;
 pub use concurrent_source::{Arrival, Awaited, ConcurrentSource};
 pub use gate::{Gate, OpenGate};
 pub use given::{Given, Way, WayCounts};
-pub use on_behalf::OnBehalf;
+pub use on_behalf::{Behalf, OnBehalf};
 pub use one_by_one::OneByOne;
 pub use same::same_answer;
 pub use source::Source;

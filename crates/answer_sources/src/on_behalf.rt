@@ -1,26 +1,46 @@
-//! Sources that are asked for requests that have passed other edges.
+//! Sources that are asked on behalf of requests.
 
-ghost use Rattle.std.specs.Prelude.{ℕ, List, IfOk, IfSome};
+ghost use Rattle.std.specs.Prelude.{◌≡◌, ◌&&◌, ◌==◌, ℕ, List, length, IfOk, IfSome};
 ghost use Rattle.edge_types.specs.Answered.{Answered};
 
 use crate::answers::Answers;
 use edge_types::NoMemory;
 use std::alloc::Global;
 
-/// A source that may tell those whom it asks which edges a request has passed, so that a circle of several edges ends.
+/// What a source may tell of a request to those whom it asks.
+#[derive(Clone, Copy)]
+pub struct Behalf<'a> {
+    /// The edges that the request has passed, a list as in `CDN-Loop`, so that a circle of several edges ends.
+    pub passed: &'a [u8],
+    /// The cookies of its reader, as in `Cookie`: they are told for private URLs alone.
+    pub cookies: &'a [u8],
+}
+
+impl Behalf<'_> {
+    /// Whether there is nothing to tell.
+    pub fn is_empty(&self) -> bool
+        ensures { result ≡ (length self.now.passed.now == 0 && length self.now.cookies.now == 0) }
+    {
+        self.passed.is_empty() && self.cookies.is_empty()
+    }
+}
+
+/// A source that may tell those whom it asks something of the request.
 pub trait OnBehalf<R>: Answers<R> {
-    /// What is asked instead of this source for requests that have passed these edges, a list as in `CDN-Loop`; by
+    /// What is asked instead of this source for a request of which this is to be told; by
     /// default nothing is, so that this source is asked for all. It shares what this one keeps, and gives nothing that
-    /// this one couldn't give.
+    /// this one couldn't give; the same URLs are private.
     ///
     /// `NoMemory` if an allocation fails.
     ///
-    /// Source: RFC 8586, "The CDN-Loop Request Header Field".
-    fn on_behalf(&self, _alloc: Global, _passed: &[u8]) -> Result<Option<Self>, NoMemory>
+    /// Source: RFC 8586, "The CDN-Loop Request Header Field"; RFC 6265, "The Cookie Header"; our profile.
+    fn on_behalf(&self, _alloc: Global, _behalf: Behalf<'_>) -> Result<Option<Self>, NoMemory>
     where
         Self: Sized,
-        ensures { IfOk result (λ made. IfSome made (λ source.
+        ensures given { IfOk result (λ made. IfSome made (λ source.
             (url : List ℕ) (answer : Answered) → Self.gives source url answer → Self.gives self.now url answer)) }
+        ensures apart { IfOk result (λ made. IfSome made (λ source.
+            (url : List ℕ) → Self.private source url ≡ Self.private self.now url)) }
     {
         Ok(None)
     }

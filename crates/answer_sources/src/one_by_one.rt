@@ -24,6 +24,12 @@ impl<'a, R, S: Source<R>> Answers<R> for OneByOne<'a, S> {
 
     ghost names_url = { λ it url answer given. S.names_url it.source.now url answer given };
 
+    ghost private = { λ it url. S.private it.source.now url };
+
+    fn is_private(&self, url: &PageUrl) -> bool {
+        self.source.is_private(url)
+    }
+
     fn ready(&self, rt: &R, alloc: Global, url: &PageUrl) -> Found {
         self.source.ready(rt, alloc, url)
     }

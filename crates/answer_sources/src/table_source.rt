@@ -1,6 +1,6 @@
 //! A table as a source. Clauses see the table's answers.
 
-ghost use Rattle.std.specs.Prelude.{◌≡◌};
+ghost use Rattle.std.specs.Prelude.{◌≡◌, false};
 
 use crate::answers::Answers;
 use crate::concurrent_source::{Arrival, ConcurrentSource};
@@ -15,7 +15,7 @@ use std::marker::Model;
 use std::sync::Arc;
 
 /// A source that gives the answers of its table, and a failed one for any other URL. It has none ready, so each
-/// of its answers is fetched.
+/// of its answers is fetched. No URL is private.
 #[derive(Drop)]
 pub struct TableSource {
     table: Table,
@@ -46,6 +46,12 @@ impl<R> Answers<R> for TableSource {
     ghost gives = { GivenByTable };
 
     ghost names_url = { λ table url answer given. ap (λ a. a.url) given };
+
+    ghost private = { λ _ _. false };
+
+    fn is_private(&self, _url: &PageUrl) -> bool {
+        false
+    }
 }
 
 impl<R> Source<R> for TableSource {

@@ -1,10 +1,11 @@
 //! A source that spares URLs that failed.
 
-ghost use Rattle.std.specs.Prelude.{◌≡◌, IfOk};
+ghost use Rattle.std.specs.Prelude.{◌≡◌, None, IfOk, IfSome, IsTrue};
+ghost use Rattle.std.specs.Arc.{arc_value};
 
 use crate::shared_failures::SharedFailures;
 use answer_sources::{
-    Answers, Arrival, Awaited, Bell, Clock, ConcurrentSource, Found, Given, OnBehalf,
+    Answers, Arrival, Awaited, Behalf, Bell, Clock, ConcurrentSource, Found, Given, OnBehalf,
 };
 use edge_types::{Answer, NoMemory, PageUrl};
 use std::alloc::Global;
@@ -12,7 +13,7 @@ use std::sync::{Arc, Wait};
 use std::time::Duration;
 
 /// A source that asks another one, and doesn't ask it again for a URL that rests since it failed: whoever asks for that one
-/// gets the failing answer again, at once.
+/// gets the failing answer again, at once. A private URL never rests.
 ///
 /// Any number of threads may share it. Nothing is locked while anything is fetched.
 #[derive(Drop)]
@@ -52,10 +53,43 @@ impl<S, C: Copy> SparingSource<S, C> {
     }
 }
 
+impl<S, C> SparingSource<S, C> {
+    // The answer with which a URL failed, if it rests now; a private one never does.
+    fn failing<R: Wait>(&self, rt: &R, url: &PageUrl) -> Found
+    where
+        S: Answers<R>,
+        C: Clock<R>,
+        ensures named { IfOk result (λ found. IfSome found (λ answer. (arc_value answer).url ≡ url.now)) }
+        ensures apart { IsTrue (S.private self.now.source url.now) → IfOk result (λ found. found ≡ None) }
+    {
+        if self.source.is_private(url) {
+            return Ok(None);
+        }
+        self.failures.failing(rt, &self.clock, url)
+    }
+
+    // Notes an answer that has just come, unless its URL is private.
+    fn note<R: Wait>(&self, rt: &R, answer: &Arc<Answer>)
+    where
+        S: Answers<R>,
+        C: Clock<R>,
+    {
+        if !self.source.is_private(answer.url()) {
+            self.failures.note(rt, &self.clock, answer);
+        }
+    }
+}
+
 impl<R, S: Answers<R>, C> Answers<R> for SparingSource<S, C> {
     ghost gives = { λ _ url answer. answer.url ≡ url };
 
     ghost names_url = { λ _ _ _ named. named };
+
+    ghost private = { λ sparing url. S.private sparing.source url };
+
+    fn is_private(&self, url: &PageUrl) -> bool {
+        self.source.is_private(url)
+    }
 
     fn ready(&self, rt: &R, alloc: Global, url: &PageUrl) -> Found {
         self.source.ready(rt, alloc, url)
@@ -71,9 +105,9 @@ impl<R, S: OnBehalf<R> + Drop, C: Copy> OnBehalf<R> for SparingSource<S, C> {
     fn on_behalf(
         &self,
         alloc: Global,
-        passed: &[u8],
+        behalf: Behalf<'_>,
     ) -> Result<Option<SparingSource<S, C>>, NoMemory> {
-        match self.source.on_behalf(alloc, passed)? {
+        match self.source.on_behalf(alloc, behalf)? {
             Some(source) => Ok(Some(self.over(source)?)),
             None => Ok(None),
         }
@@ -103,7 +137,7 @@ impl<R: Wait, S: ConcurrentSource<R>, C: Clock<R>> ConcurrentSource<R> for Spari
         in_flight: &mut SparedFetches<S::InFlight>,
         url: &PageUrl,
     ) -> Result<(), NoMemory> {
-        match self.failures.failing(rt, &self.clock, url)? {
+        match self.failing(rt, url)? {
             Some(answer) => Ok(in_flight.here.push(answer)?),
             None => self.source.begin(rt, alloc, &mut in_flight.fetches, url),
         }
@@ -115,7 +149,7 @@ impl<R: Wait, S: ConcurrentSource<R>, C: Clock<R>> ConcurrentSource<R> for Spari
         }
         let came = self.source.next(rt, alloc, &mut in_flight.fetches)?;
         if let Some(given) = &came {
-            self.failures.note(rt, &self.clock, &given.answer);
+            self.note(rt, &given.answer);
         }
         Ok(came)
     }

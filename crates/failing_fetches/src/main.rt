@@ -40,6 +40,7 @@ where
         "Cache::prepared" => templates::prepare_by_cache(rt, name),
         "Cache::prepared:kept" => templates::prepare_from_cache(rt, name),
         "HyperSource::fetch:no_origin" => sources::fetch_by_http(rt, name, ""),
+        "HyperSource::apart" => sources::source_apart(rt, name),
         // Nobody listens there.
         "HyperSource::fetch:no_socket" => sources::fetch_by_http(rt, name, "127.0.0.1:1"),
         _ => call_of_page(rt, name),

@@ -2,7 +2,9 @@
 
 use allocation_tools::printing::{answers, bytes, calls, out_of_memory, word};
 use allocation_tools::values::{answer, processed, stored, url};
-use answer_sources::{Answers, Clock as Seconds, Given, OnBehalf, OneByOne, Source, TableSource};
+use answer_sources::{
+    Answers, Behalf, Clock as Seconds, Given, OnBehalf, OneByOne, Source, TableSource,
+};
 use edge_connections::ServerRuntime;
 use edge_types::{NoMemory, PageUrl, SharedBytes, Table};
 use fragment_cache::UrlHashing;
@@ -40,11 +42,17 @@ struct Forgetful {
 }
 
 impl<R> Answers<R> for Forgetful {
-    ghost use Rattle.std.specs.Prelude.{◌≡◌};
+    ghost use Rattle.std.specs.Prelude.{◌≡◌, false};
 
     ghost gives = { λ forgetful url answer. answer.url ≡ url };
 
     ghost names_url = { λ forgetful url answer given. given };
+
+    ghost private = { λ _ _. false };
+
+    fn is_private(&self, _url: &PageUrl) -> bool {
+        false
+    }
 }
 
 impl<R> Source<R> for Forgetful {
@@ -164,12 +172,34 @@ where
     }
 }
 
+/// Makes a source to which a URL is private.
+pub fn source_apart<R>(rt: &R, name: &str) -> Option<()>
+where
+    R: ServerRuntime + Net<Stream = TcpStream> + Print,
+{
+    let alloc = rt.alloc();
+    let source = HyperSource::new(rt, alloc, Vec::new(alloc), None).ok()?;
+    let mut prefixes = Vec::new(alloc);
+    prefixes.push(url(alloc, "/")?).ok()?;
+    calls(rt, name)?;
+    let made = source.apart(alloc, prefixes);
+    answers(rt)?;
+    match &made {
+        Ok(made) => print_again(rt, made, "/x"),
+        Err(NoMemory) => out_of_memory(rt),
+    }
+}
+
 fn made_for<R, S>(rt: &R, source: &S) -> Result<Option<S>, NoMemory>
 where
     R: AllocGlobal,
     S: OnBehalf<R>,
 {
-    source.on_behalf(rt.alloc(), b"edge-2")
+    let behalf = Behalf {
+        passed: b"edge-2",
+        cookies: b"session=1",
+    };
+    source.on_behalf(rt.alloc(), behalf)
 }
 
 // Fetches through a cache, and then once more with memory.

@@ -37,11 +37,17 @@ struct Far {
 }
 
 impl<R: Clock> Answers<R> for Far {
-    ghost use Rattle.std.specs.Prelude.{◌≡◌};
+    ghost use Rattle.std.specs.Prelude.{◌≡◌, false};
 
     ghost gives = { λ far url answer. answer.url ≡ url };
 
     ghost names_url = { λ far url answer given. given };
+
+    ghost private = { λ _ _. false };
+
+    fn is_private(&self, _url: &PageUrl) -> bool {
+        false
+    }
 }
 
 impl<R: Clock> Source<R> for Far {

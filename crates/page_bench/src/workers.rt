@@ -30,11 +30,17 @@ struct Ready {
 }
 
 impl<R> Answers<R> for Ready {
-    ghost use Rattle.std.specs.Prelude.{◌≡◌};
+    ghost use Rattle.std.specs.Prelude.{◌≡◌, false};
 
     ghost gives = { λ ready url answer. answer.url ≡ url };
 
     ghost names_url = { λ ready url answer given. given };
+
+    ghost private = { λ _ _. false };
+
+    fn is_private(&self, _url: &PageUrl) -> bool {
+        false
+    }
 
     fn ready(&self, rt: &R, alloc: Global, url: &PageUrl) -> Result<Option<Arc<Answer>>, NoMemory> {
         Ok(Some(self.table.fetch(rt, alloc, url)?.into_answer()))
@@ -55,11 +61,17 @@ struct Slow {
 }
 
 impl<R: Clock> Answers<R> for Slow {
-    ghost use Rattle.std.specs.Prelude.{◌≡◌};
+    ghost use Rattle.std.specs.Prelude.{◌≡◌, false};
 
     ghost gives = { λ slow url answer. answer.url ≡ url };
 
     ghost names_url = { λ slow url answer given. given };
+
+    ghost private = { λ _ _. false };
+
+    fn is_private(&self, _url: &PageUrl) -> bool {
+        false
+    }
 
     fn ready(&self, rt: &R, alloc: Global, url: &PageUrl) -> Result<Option<Arc<Answer>>, NoMemory> {
         if *url == self.page {

@@ -78,11 +78,17 @@ struct Origin<'a> {
 }
 
 impl<R> Answers<R> for Origin<'_> {
-    ghost use Rattle.std.specs.Prelude.{◌≡◌};
+    ghost use Rattle.std.specs.Prelude.{◌≡◌, false};
 
     ghost gives = { λ origin url answer. answer.url ≡ url };
 
     ghost names_url = { λ origin url answer given. given };
+
+    ghost private = { λ _ _. false };
+
+    fn is_private(&self, _url: &PageUrl) -> bool {
+        false
+    }
 }
 
 impl<R> Source<R> for Origin<'_> {

@@ -1,18 +1,18 @@
 //! One cache shared by all pages.
 
-ghost use Rattle.std.specs.Prelude.{◌≡◌, ◌↔◌, ◌≤◌, IsTrue, IfOk};
+ghost use Rattle.std.specs.Prelude.{◌≡◌, ◌↔◌, ◌≤◌, option_map, IsTrue, IfOk};
 ghost use Rattle.std.specs.Arc.{arc_value};
 ghost use Rattle.shared_cache.specs.Circles.{IsForAll, says_circle};
+ghost use Rattle.shared_cache.specs.Shards.{place_for};
 ghost use Rattle.shared_cache.specs.declared.placing.Placing.TheVariants.{BySum, ByHash};
 
 mod concurrent;
 
 use crate::placing::Placing;
 use crate::plan_shelves::PlanShelves;
-use crate::shards::Shards;
-use crate::shared_shard::SharedShard;
+use crate::shards::{ShardPlace, Shards};
 use answer_sources::{
-    Answers, Clock, ConcurrentSource, Found, Given, OnBehalf, Source, Way, fetch_or_fail,
+    Answers, Behalf, Clock, ConcurrentSource, Found, Given, OnBehalf, Source, Way, fetch_or_fail,
 };
 use edge_types::{Answer, NoMemory, PageUrl, Reply};
 use fragment_cache::{Flight, MAX_CAPACITY, UrlHashing};
@@ -27,7 +27,8 @@ use std::time;
 pub const SHARDS: usize = 8;
 
 /// A source that keeps what another one gives, for as long as the answers allow: equal requests at the
-/// same time cost one fetch, stored answers none, and a failing origin is bridged.
+/// same time cost one fetch, stored answers none, and a failing origin is bridged. A request for a private URL goes to the
+/// other source each time, past all that is kept and all that others fetch.
 ///
 /// Any number of threads may share it.
 #[derive(Drop)]
@@ -71,8 +72,7 @@ impl<S: Drop, C: Drop> Cache<S, C> {
     pub fn new(alloc: Global, source: S, clock: C, capacity: usize) -> Result<Cache<S, C>, NoMemory>
         requires from { 1 ≤ capacity }
         requires to { capacity ≤ MAX_CAPACITY }
-        ensures shards { IfOk result (λ cache. (arc_value cache.shards).placing ≡ BySum) }
-        ensures plans { IfOk result (λ cache. (arc_value cache.plans).placing ≡ BySum) }
+        ensures { IfOk result (λ cache. (arc_value cache.shards).placing ≡ BySum) }
     {
         Cache::placed(alloc, source, clock, capacity, Placing::BySum)
     }
@@ -90,8 +90,7 @@ impl<S: Drop, C: Drop> Cache<S, C> {
     ) -> Result<Cache<S, C>, NoMemory>
         requires from { 1 ≤ capacity }
         requires to { capacity ≤ MAX_CAPACITY }
-        ensures shards { IfOk result (λ cache. (arc_value cache.shards).placing ≡ ByHash hashing) }
-        ensures plans { IfOk result (λ cache. (arc_value cache.plans).placing ≡ ByHash hashing) }
+        ensures { IfOk result (λ cache. (arc_value cache.shards).placing ≡ ByHash hashing) }
     {
         Cache::placed(alloc, source, clock, capacity, Placing::ByHash(hashing))
     }
@@ -105,15 +104,15 @@ impl<S: Drop, C: Drop> Cache<S, C> {
     ) -> Result<Cache<S, C>, NoMemory>
         requires from { 1 ≤ capacity }
         requires to { capacity ≤ MAX_CAPACITY }
-        ensures shards { IfOk result (λ cache. (arc_value cache.shards).placing ≡ placing) }
-        ensures plans { IfOk result (λ cache. (arc_value cache.plans).placing ≡ placing) }
+        ensures { IfOk result (λ cache. (arc_value cache.shards).placing ≡ placing) }
     {
         let shards = Shards::new(alloc, capacity, placing)?;
+        let plans = PlanShelves::new(alloc, capacity, placing.hashing())?;
         Ok(Cache {
             source,
             clock,
             shards: Arc::new(alloc, shards)?,
-            plans: Arc::new(alloc, PlanShelves::new(alloc, capacity, placing)?)?,
+            plans: Arc::new(alloc, plans)?,
             most_waiting: None,
         })
     }
@@ -130,12 +129,21 @@ impl<S: Drop, C: Drop> Cache<S, C> {
 }
 
 impl<S, C> Cache<S, C> {
+    // Where what is kept of a URL is.
+    pub(crate) fn place_of<R>(&self, url: &PageUrl) -> Option<ShardPlace>
+    where
+        S: Answers<R>,
+        ensures { option_map (λ place. place.index) result ≡ place_for (S.private self.now.source url.now) (arc_value self.now.shards).placing url.now }
+    {
+        self.shards.place_of::<R, S>(&self.source, url)
+    }
+
     // Lands a flight with the answer that was fetched for it, once that is ready for whoever picks it up.
     fn land<R: Wait>(
         &self,
         rt: &R,
         alloc: Global,
-        shard: &SharedShard,
+        place: ShardPlace,
         flight: Flight,
         answer: Arc<Answer>,
     ) -> Given
@@ -145,17 +153,23 @@ impl<S, C> Cache<S, C> {
         ensures { (arc_value result.answer).url ≡ flight.url }
     {
         let now = self.clock.now(rt);
-        self.plans.prepare(rt, alloc, &answer);
-        shard.land(rt, flight, answer, now)
+        self.plans.prepare(rt, alloc, place, &answer);
+        self.shards.at(place).land(rt, flight, answer, now)
     }
 
-    // What is given at once for a URL while as many as may wait for its flight.
-    fn crowded_out<R: Wait>(&self, rt: &R, alloc: Global, url: &PageUrl) -> Result<Given, NoMemory>
+    // What is given at once for a URL of a shard while as many as may wait for its flight.
+    fn crowded_out<R: Wait>(
+        &self,
+        rt: &R,
+        alloc: Global,
+        place: ShardPlace,
+        url: &PageUrl,
+    ) -> Result<Given, NoMemory>
     where
         C: Clock<R>,
         ensures { IfOk result (λ given. (arc_value given.answer).url ≡ url.now) }
     {
-        let shard = self.shards.of(url);
+        let shard = self.shards.at(place);
         match shard.bridging(rt, url, self.clock.now(rt))? {
             Some(answer) => Ok(Given::new(answer, Way::Bridged)),
             None => Ok(Given::fetched(Arc::new(alloc, Answer::failed(url.share()?))?)),
@@ -185,29 +199,48 @@ impl<S, C: Copy> Cache<S, C> {
 }
 
 impl<R: Wait, S: OnBehalf<R> + Drop, C: Clock<R> + Copy> OnBehalf<R> for Cache<S, C> {
-    fn on_behalf(&self, alloc: Global, passed: &[u8]) -> Result<Option<Cache<S, C>>, NoMemory> {
-        match self.source.on_behalf(alloc, passed)? {
+    fn on_behalf(
+        &self,
+        alloc: Global,
+        behalf: Behalf<'_>,
+    ) -> Result<Option<Cache<S, C>>, NoMemory> {
+        match self.source.on_behalf(alloc, behalf)? {
             Some(source) => Ok(Some(self.over(source)?)),
             None => Ok(None),
         }
     }
 }
 
-impl<R: Wait, S, C: Clock<R>> Answers<R> for Cache<S, C> {
+impl<R: Wait, S: Answers<R>, C: Clock<R>> Answers<R> for Cache<S, C> {
     ghost gives = { λ cache url answer. answer.url ≡ url };
 
     ghost names_url = { λ cache url answer named. named };
 
+    ghost private = { λ cache url. S.private cache.source url };
+
+    fn is_private(&self, url: &PageUrl) -> bool {
+        self.source.is_private(url)
+    }
+
     fn ready(&self, rt: &R, _alloc: Global, url: &PageUrl) -> Found {
-        self.shards.of(url).look(rt, url, self.clock.now(rt))
+        match self.place_of::<R>(url) {
+            Some(place) => self.shards.at(place).look(rt, url, self.clock.now(rt)),
+            None => Ok(None),
+        }
     }
 
     fn bridging(&self, rt: &R, _alloc: Global, url: &PageUrl) -> Found {
-        self.shards.of(url).bridging(rt, url, self.clock.now(rt))
+        match self.place_of::<R>(url) {
+            Some(place) => self.shards.at(place).bridging(rt, url, self.clock.now(rt)),
+            None => Ok(None),
+        }
     }
 
     fn prepared(&self, rt: &R, alloc: Global, answer: Arc<Answer>) -> Result<Prepared, NoMemory> {
-        self.plans.prepared(rt, alloc, answer)
+        match self.place_of::<R>(answer.url()) {
+            Some(place) => self.plans.prepared(rt, alloc, place, answer),
+            None => Prepared::of(alloc, answer),
+        }
     }
 }
 
@@ -218,6 +251,9 @@ where
     C: Clock<R>,
 {
     fn fetch(&self, rt: &R, alloc: Global, url: &PageUrl) -> Result<Given, NoMemory> {
-        fetch_or_fail(self, rt, alloc, url)
+        match self.ready(rt, alloc, url)? {
+            Some(answer) => Ok(Given::new(answer, Way::Stored)),
+            None => fetch_or_fail(self, rt, alloc, url),
+        }
     }
 }

@@ -23,9 +23,10 @@ pub struct CacheFlights<F> {
     pub(crate) here: Vec<Given>,
 }
 
-/// A flight that the thread leads, and the failed answer with which it lands if there is no other.
+/// A flight that the thread leads, its shard, and the failed answer with which it lands if there is no other.
 pub(crate) struct Led {
     pub(crate) flight: Flight,
+    pub(crate) place: ShardPlace,
     ready: Arc<Answer>,
     ghost named: { (arc_value ready).url ≡ flight.url },
 }
@@ -43,11 +44,16 @@ pub(crate) struct Joined {
 }
 
 impl Led {
-    pub(crate) fn new(flight: Flight, ready: Arc<Answer>) -> Led
+    pub(crate) fn new(flight: Flight, place: ShardPlace, ready: Arc<Answer>) -> Led
         requires { (arc_value ready).url ≡ flight.url }
-        ensures { result.flight ≡ flight }
+        ensures flight { result.flight ≡ flight }
+        ensures place { result.place ≡ place }
     {
-        Led { flight, ready }
+        Led {
+            flight,
+            place,
+            ready,
+        }
     }
 
     /// The flight and its failed answer.
@@ -55,7 +61,11 @@ impl Led {
         ensures flight { result.0 ≡ self.flight }
         ensures named { (arc_value result.1).url ≡ self.flight.url }
     {
-        let Led { flight, ready } = self;
+        let Led {
+            flight,
+            place: _,
+            ready,
+        } = self;
         (flight, ready)
     }
 }

@@ -8,7 +8,7 @@ ghost use Rattle.std.specs.NonZero.{non_zero_usize_get};
 ghost use Rattle.lru.specs.LruCache.{lru_cache, promoted, put_entries};
 
 use crate::cache::SHARDS;
-use crate::placing::Placing;
+use crate::shards::ShardPlace;
 use answer_sources::same_answer;
 use edge_types::{Answer, NoMemory, PageUrl};
 use fragment_cache::{UrlHashing, is_to_be_stored};
@@ -73,7 +73,6 @@ impl PlanShelf {
 /// cost nothing to make ready or aren't asked for again. In each shard there are no more of them than of answers.
 #[derive(Drop)]
 pub(crate) struct PlanShelves {
-    placing: Placing,
     shelves: [Mutex<PlanShelf>; SHARDS],
 }
 
@@ -116,33 +115,32 @@ impl PlanShelves {
     pub(crate) fn new(
         alloc: Global,
         capacity: usize,
-        placing: Placing,
+        hashing: UrlHashing,
     ) -> Result<PlanShelves, NoMemory>
         requires { 1 ≤ capacity }
-        ensures { IfOk result (λ plans. plans.placing ≡ placing) }
     {
         let capacity = match NonZeroUsize::new(capacity) {
             Some(capacity) => capacity,
             None => unreachable!(),
         };
-        let hashing = placing.hashing();
         let shelves: [Mutex<PlanShelf>; SHARDS] = array::try_from_fn(|_| empty_shelf(
             alloc, capacity, hashing,
         ))?;
-        Ok(PlanShelves { placing, shelves })
+        Ok(PlanShelves { shelves })
     }
 
-    // Where what is made of the answers of a URL is put.
-    fn shelf_of(&self, url: &PageUrl) -> &Mutex<PlanShelf> {
-        &self.shelves[self.placing.shard_of(url)]
+    // Where what is made of the answers of a shard is put.
+    fn at(&self, place: ShardPlace) -> &Mutex<PlanShelf> {
+        &self.shelves[place.index()]
     }
 
-    /// The answer, made ready: what was made of this very answer, or what is made of it now, and then put on its shelf
-    /// where that is worth it.
+    /// The answer of a URL of this shard, made ready: what was made of this very answer, or what is made of it now, and then
+    /// put on its shelf where that is worth it.
     pub(crate) fn prepared<R: Wait>(
         &self,
         rt: &R,
         alloc: Global,
+        place: ShardPlace,
         answer: Arc<Answer>,
     ) -> Result<Prepared, NoMemory>
         ensures { IfOk result (λ prepared. prepared ≡ arc_value answer) }
@@ -150,33 +148,39 @@ impl PlanShelves {
         if !is_to_be_shelved(&answer) {
             return Prepared::of(alloc, answer);
         }
-        if let Some(found) = self.find(rt, &answer) {
+        if let Some(found) = self.find(rt, place, &answer) {
             return Ok(found);
         }
         let prepared = Prepared::of(alloc, answer)?;
         if is_small(prepared.form()) {
             // Without memory for it nothing is put there.
-            let _ = self.put(rt, &prepared);
+            let _ = self.put(rt, place, &prepared);
         }
         Ok(prepared)
     }
 
     /// Makes an answer ready for those who will ask for that, where it is put on its shelf. Without memory for it
     /// nothing is.
-    pub(crate) fn prepare<R: Wait>(&self, rt: &R, alloc: Global, answer: &Arc<Answer>) {
+    pub(crate) fn prepare<R: Wait>(
+        &self,
+        rt: &R,
+        alloc: Global,
+        place: ShardPlace,
+        answer: &Arc<Answer>,
+    ) {
         if !is_to_be_shelved(answer) {
             return;
         }
         if let Ok(own) = Arc::try_clone(answer) {
-            let _ = self.prepared(rt, alloc, own);
+            let _ = self.prepared(rt, alloc, place, own);
         }
     }
 
     // What was made of this very answer. The answers are compared once the lock is left.
-    fn find<R: Wait>(&self, rt: &R, answer: &Answer) -> Option<Prepared>
+    fn find<R: Wait>(&self, rt: &R, place: ShardPlace, answer: &Answer) -> Option<Prepared>
         ensures { IfSome result (λ found. found ≡ answer.now) }
     {
-        let found = self.shelf_of(answer.url()).lock(rt).find(answer.url());
+        let found = self.at(place).lock(rt).find(answer.url());
         match found {
             Ok(Some(found)) if same_answer(found.answer(), answer) => Some(found),
             _ => None,
@@ -185,9 +189,9 @@ impl PlanShelves {
 
     // Puts this on the shelf of its URL, in place of what stood there for it. What it pushes out is dropped once the
     // lock is left.
-    fn put<R: Wait>(&self, rt: &R, prepared: &Prepared) -> Result<(), NoMemory> {
+    fn put<R: Wait>(&self, rt: &R, place: ShardPlace, prepared: &Prepared) -> Result<(), NoMemory> {
         let (url, own) = (prepared.url().share()?, prepared.share()?);
-        let _pushed_out = self.shelf_of(prepared.url()).lock(rt).put(url, own)?;
+        let _pushed_out = self.at(place).lock(rt).put(url, own)?;
         Ok(())
     }
 }

@@ -1,6 +1,7 @@
 //! What the operator of a cache asks of it.
 
 use crate::cache::Cache;
+use answer_sources::Answers;
 use edge_types::{NoMemory, PageUrl};
 use fragment_cache::CacheTally;
 use std::sync::Wait;
@@ -10,8 +11,14 @@ impl<S, C> Cache<S, C> {
     /// there was one. A fetch that is under way is stored once it has come, though it may have begun before.
     ///
     /// Our profile.
-    pub fn purge<R: Wait>(&self, rt: &R, url: &PageUrl) -> bool {
-        self.shards.of(url).purge(rt, url)
+    pub fn purge<R: Wait>(&self, rt: &R, url: &PageUrl) -> bool
+    where
+        S: Answers<R>,
+    {
+        match self.place_of::<R>(url) {
+            Some(place) => self.shards.at(place).purge(rt, url),
+            None => false,
+        }
     }
 
     /// Forgets the answers of all URLs that begin with these bytes, as `purge` does that of one. Returns how many there

@@ -4,7 +4,8 @@ ghost use Rattle.std.specs.Prelude.{◌≤◌};
 
 use super::{Origin, push_outcome, source_of, url};
 use answer_sources::{
-    Answers, Arrival, Clock, ConcurrentSource, Given, OnBehalf, OneByOne, Source, TableSource,
+    Answers, Arrival, Behalf, Clock, ConcurrentSource, Given, OnBehalf, OneByOne, Source,
+    TableSource,
 };
 use edge_types::{Answer, NoMemory, PageUrl, Request};
 use fetch_workers::assemble;
@@ -344,7 +345,7 @@ fn many_threads_share_flights(rt: HostRuntime) -> Result<(), Fail> {
     Ok(())
 }
 
-// A table, in whose place another one is asked on behalf of edges.
+// A table, in whose place another one is asked on behalf of edges. Private is what ends so.
 #[derive(Clone, Copy)]
 struct Twofold<'a> {
     table: &'a TableSource,
@@ -352,11 +353,18 @@ struct Twofold<'a> {
 }
 
 impl<R> Answers<R> for Twofold<'_> {
-    ghost use Rattle.std.specs.Prelude.{◌≡◌};
+    ghost use Rattle.std.specs.Prelude.{◌≡◌, nat_eq, codes};
+    ghost use Rattle.std.specs.List.{ends_with};
 
     ghost gives = { λ it url answer. answer.url ≡ url };
 
     ghost names_url = { λ it url answer given. given };
+
+    ghost private = { λ _ url. ends_with nat_eq url (codes "/own") };
+
+    fn is_private(&self, url: &PageUrl) -> bool {
+        url.as_bytes().ends_with(b"/own")
+    }
 }
 
 impl<R> Source<R> for Twofold<'_> {
@@ -394,8 +402,12 @@ impl<R> ConcurrentSource<R> for Twofold<'_> {
 }
 
 impl<'a, R> OnBehalf<R> for Twofold<'a> {
-    fn on_behalf(&self, _alloc: Global, passed: &[u8]) -> Result<Option<Twofold<'a>>, NoMemory> {
-        if passed != b"edge-a".as_slice() {
+    fn on_behalf(
+        &self,
+        _alloc: Global,
+        behalf: Behalf<'_>,
+    ) -> Result<Option<Twofold<'a>>, NoMemory> {
+        if behalf.passed != b"edge-a".as_slice() {
             return Ok(None);
         }
         Ok(Some(Twofold {
@@ -412,7 +424,11 @@ fn made_for<R, S: OnBehalf<R>>(
     source: &S,
     edge: &[u8],
 ) -> Result<Option<S>, NoMemory> {
-    source.on_behalf(alloc, edge)
+    let behalf = Behalf {
+        passed: edge,
+        cookies: &[],
+    };
+    source.on_behalf(alloc, behalf)
 }
 
 // A cache and the one that is made of it on behalf of an edge: each fetches from its own table, and has what the other
@@ -436,6 +452,28 @@ fn caches_on_behalf_of_edges_keep_the_same(rt: HostRuntime) -> Result<(), Fail> 
     assert!(rt; out.as_str() == "11221", "{out}");
     assert!(rt; made_for(&rt, alloc, &cache, b"edge-b")?.is_none());
     assert!(rt; made_for(&rt, alloc, &table, b"edge-a")?.is_none());
+    Ok(())
+}
+
+// A private answer is fetched for each request for which it is asked, though it may be kept, and is given to no other.
+#[test]
+fn private_answers_stay_apart(rt: HostRuntime) -> Result<(), Fail> {
+    let alloc = rt.alloc();
+    let seconds = AtomicU64::new(100);
+    let table = source_of(&rt, alloc, "/x 200 60 1;/own 200 60 1")?;
+    let other = source_of(&rt, alloc, "/x 200 60 2;/own 200 60 2")?;
+    let source = Twofold {
+        table: &table,
+        other: &other,
+    };
+    let cache = Cache::new(alloc, source, Hands(&seconds), 8)?;
+    let mut out = given(&rt, alloc, &cache, &seconds, "/x /own")?;
+    if let Some(made) = made_for(&rt, alloc, &cache, b"edge-a")? {
+        out.push_str(given(&rt, alloc, &made, &seconds, "/x /own")?.as_str())?;
+    }
+    out.push_str(given(&rt, alloc, &cache, &seconds, "/own")?.as_str())?;
+    assert!(rt; out.as_str() == "11121", "{out}");
+    assert!(rt; cache.tally(&rt).entries == 1);
     Ok(())
 }
 

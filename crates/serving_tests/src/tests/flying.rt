@@ -60,11 +60,17 @@ struct Flying<'a> {
 }
 
 impl<R> Answers<R> for Flying<'_> {
-    ghost use Rattle.std.specs.Prelude.{◌≡◌};
+    ghost use Rattle.std.specs.Prelude.{◌≡◌, false};
 
     ghost gives = { λ it url answer. answer.url ≡ url };
 
     ghost names_url = { λ it url answer given. given };
+
+    ghost private = { λ _ _. false };
+
+    fn is_private(&self, _url: &PageUrl) -> bool {
+        false
+    }
 }
 
 impl<R> ConcurrentSource<R> for Flying<'_> {

@@ -63,11 +63,17 @@ pub(crate) struct Held<'a> {
 }
 
 impl<R: Clock> Answers<R> for Held<'_> {
-    ghost use Rattle.std.specs.Prelude.{◌≡◌};
+    ghost use Rattle.std.specs.Prelude.{◌≡◌, false};
 
     ghost gives = { λ held url answer. answer.url ≡ url };
 
     ghost names_url = { λ held url answer given. given };
+
+    ghost private = { λ _ _. false };
+
+    fn is_private(&self, _url: &PageUrl) -> bool {
+        false
+    }
 }
 
 impl<R: Clock> Source<R> for Held<'_> {

@@ -59,8 +59,8 @@ impl<S, C> Cache<S, C> {
     where
         C: Clock<R>,
     {
+        let shard = self.shards.at(led.place);
         let (flight, ready) = led.into_parts();
-        let shard = self.shards.of(flight.url());
         shard.land(rt, flight, ready, self.clock.now(rt))
     }
 
@@ -79,9 +79,9 @@ impl<S, C> Cache<S, C> {
         let Some(led) = in_flight.take_led(given.answer.url()) else {
             return given;
         };
+        let place = led.place;
         let (flight, _) = led.into_parts();
-        let shard = self.shards.of(given.answer.url());
-        self.land(rt, alloc, shard, flight, given.into_answer())
+        self.land(rt, alloc, place, flight, given.into_answer())
     }
 
     // Whether a flight has landed, in a shard that has one which the page has joined, since that was last looked at.
@@ -206,7 +206,7 @@ impl<S, C> Cache<S, C> {
             let Some(led) = in_flight.take_led_at(place) else {
                 return;
             };
-            let shard = self.shards.of(led.flight.url());
+            let shard = self.shards.at(led.place);
             let Some(led) = shard.land_unless_awaited(rt, led, self.clock.now(rt)) else {
                 continue;
             };
@@ -252,14 +252,20 @@ where
         in_flight: &mut CacheFlights<S::InFlight>,
         url: &PageUrl,
     ) -> Result<(), NoMemory> {
+        let Some(place) = self.place_of::<R>(url) else {
+            return self.source.begin(rt, alloc, &mut in_flight.fetches, url);
+        };
         in_flight.reserve()?;
         let own = url.share()?;
-        let place = self.shards.place_of(url);
         let shard = self.shards.at(place);
         // Before the flight is joined: what lands later is looked at.
         let landings = shard.landings();
         match shard.begin(rt, url, self.clock.now(rt), self.most_waiting) {
-            None => Ok(in_flight.here.push(self.crowded_out(rt, alloc, url)?)?),
+            None => Ok(
+                in_flight
+                    .here
+                    .push(self.crowded_out(rt, alloc, place, url)?)?,
+            ),
             Some(Begun::Hit(answer)) => {
                 Ok(in_flight.here.push(Given::new(answer, Way::Stored))?)
             }
@@ -274,7 +280,7 @@ where
                 Ok(in_flight.joined.push_back(joined)?)
             }
             Some(Begun::Lead(flight, ready)) => {
-                self.depart(rt, alloc, in_flight, Led::new(flight, ready))
+                self.depart(rt, alloc, in_flight, Led::new(flight, place, ready))
             }
             Some(Begun::Bypass) => self.source.begin(rt, alloc, &mut in_flight.fetches, url),
         }
