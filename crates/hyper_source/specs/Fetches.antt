@@ -84,7 +84,7 @@ is_template rules parts = is_success parts.status && (control_heeded rules parts
 
 -- the fields that a page's reader gets
 abbrev pub fields_for : HeadRules → Parts → List HeadField
-fields_for rules parts = fields_passed rules.passed.now (is_template rules parts) parts.headers
+fields_for rules parts = fields_passed rules (is_template rules parts) parts.headers
 
 -- what the head of a response says to a page's reader
 pub record SaysHead (rules : HeadRules) (parts : Parts) (head : Head) : Type 0 where

@@ -2,6 +2,7 @@ pub mod Origins
 pub mod Names
 pub mod Heads
 pub mod Passing
+pub mod Private
 pub mod Fetches
 pub mod Bounded
 pub mod Intake

@@ -13,7 +13,9 @@ abbrev pub device_of : Option (List ℕ) → List ℕ
 device_of None = own_device
 device_of (Some name) = name
 
--- the edges through which a request goes: those that it has passed, and then this one (RFC 8586, section 2)
-abbrev pub way_through : List ℕ → List ℕ → List ℕ
-way_through [] name = name
-way_through (byte ∷ bytes) name = (byte ∷ bytes) ++ codes ", " ++ name
+-- the way of a request that has passed these edges: through them, and then through this one (RFC 8586, section 2). One without
+-- a name says nothing of it
+abbrev pub way_behind : List ℕ → Option (List ℕ) → Option (List ℕ)
+way_behind passed None = None
+way_behind [] (Some name) = None
+way_behind (byte ∷ bytes) (Some name) = Some ((byte ∷ bytes) ++ codes ", " ++ name)

@@ -1,6 +1,6 @@
 //! The name of an edge.
 
-ghost use Rattle.std.specs.Prelude.{◌≡◌, IfOk};
+ghost use Rattle.std.specs.Prelude.{◌≡◌, option_map, IfOk};
 ghost use Rattle.surrogate_headers.specs.Capability.{capability_of};
 ghost use Rattle.hyper_source.specs.Names as spec;
 
@@ -82,6 +82,16 @@ impl EdgeName {
     }
 }
 
+/// A second name, if there is one.
+pub(crate) fn copy_of(alloc: Global, name: &Option<EdgeName>) -> Result<Option<EdgeName>, NoMemory>
+    ensures { IfOk result (λ copy. copy ≡ name.now) }
+{
+    match name {
+        Some(name) => Ok(Some(name.copy(alloc)?)),
+        None => Ok(None),
+    }
+}
+
 /// The device for which this edge reads `Surrogate-Control`: its name, or else the token of every edge.
 pub(crate) fn device_of(name: &Option<EdgeName>) -> &[u8]
     ensures { result.now ≡ spec.device_of name.now }
@@ -102,18 +112,24 @@ pub(crate) fn capability_for(name: &Option<EdgeName>) -> &[u8]
     }
 }
 
-/// The edges through which a request to an origin goes: those that it has passed, a list as in `CDN-Loop` that may be
-/// empty, and then the edge with this name.
+/// The way of a request that has passed these edges, a list as in `CDN-Loop`: through them, and then through the edge with
+/// this name. An edge without a name says nothing of the way; nor is there anything to say where none was passed.
 ///
 /// Source: RFC 8586, "The CDN-Loop Request Header Field".
-pub(crate) fn way_through(alloc: Global, passed: &[u8], name: &[u8]) -> Result<Vec<u8>, NoMemory>
-    ensures { IfOk result (λ way. way.items ≡ spec.way_through passed.now name.now) }
+pub(crate) fn way_behind(
+    alloc: Global,
+    passed: &[u8],
+    name: &Option<EdgeName>,
+) -> Result<Option<Vec<u8>>, NoMemory>
+    ensures { IfOk result (λ way. option_map (λ way. way.items) way ≡ spec.way_behind passed.now name.now) }
 {
-    if passed.is_empty() {
-        return Ok(name.to_vec(alloc)?);
+    match name {
+        Some(name) if !passed.is_empty() => {
+            let mut way = passed.to_vec(alloc)?;
+            way.extend_from_slice(b", ")?;
+            way.extend_from_slice(name.as_bytes())?;
+            Ok(Some(way))
+        }
+        _ => Ok(None),
     }
-    let mut way = passed.to_vec(alloc)?;
-    way.extend_from_slice(b", ")?;
-    way.extend_from_slice(name)?;
-    Ok(way)
 }

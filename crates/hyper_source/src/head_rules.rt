@@ -7,6 +7,8 @@ pub(crate) struct HeadRules<'a> {
     pub(crate) device: &'a [u8],
     /// The fields that a page's reader gets: their names, with commas between.
     pub(crate) passed: &'a [u8],
+    /// Whether the response is for one request alone, so that it may set cookies.
+    pub(crate) is_private: bool,
     /// Whether `Cache-Control` counts where `Surrogate-Control` doesn't say for how long the answer is fresh.
     pub(crate) heeds_cache_control: bool,
 }

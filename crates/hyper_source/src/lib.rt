@@ -30,6 +30,7 @@ mod origin_stream;
 mod passed_fields;
 mod poller;
 mod pool;
+mod private_urls;
 mod reach;
 mod request;
 mod reuse;

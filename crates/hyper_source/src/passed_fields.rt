@@ -4,6 +4,7 @@ ghost use Rattle.std.specs.Prelude.{◌≡◌, IfOk};
 ghost use Rattle.hyper_source.specs.Passing as spec;
 
 use crate::head::names;
+use crate::head_rules::HeadRules;
 use edge_types::{HeadField, HeadFields, NoMemory, Octets};
 use http::HeaderMap;
 use http::header::{HeaderName, HeaderValue};
@@ -13,22 +14,26 @@ use std::alloc::Global;
 const DESCRIBING: &str =
     "etag,last-modified,accept-ranges,content-md5,digest,content-digest,repr-digest";
 
-/// The lines of the fields that a list names, as they came. Those that describe the bytes of a template say nothing of a
-/// page that is made of it, and so are left out.
+// The field that sets a cookie.
+const SET_COOKIE: &[u8] = b"set-cookie";
+
+/// The lines of the fields that are to reach a page's reader, as they came. Those that describe the bytes of a template say
+/// nothing of a page that is made of it, and so are left out; so are those that set cookies, where the response is for more
+/// than one reader.
 ///
-/// Source: RFC 9110, "Field Names", "Validator Fields" and "Accept-Ranges"; RFC 9530; our profile.
+/// Source: RFC 9110, "Field Names", "Validator Fields" and "Accept-Ranges"; RFC 9530; RFC 6265, "Set-Cookie"; our profile.
 #[tactic(auto, unfolding(crate::specs::Passing::fields_passed))]
 pub(crate) fn fields_passed(
     alloc: Global,
-    list: &[u8],
+    rules: HeadRules<'_>,
     is_template: bool,
     fields: &HeaderMap<HeaderValue>,
 ) -> Result<HeadFields, NoMemory>
-    ensures { IfOk result (λ passed. passed ≡ spec.fields_passed list.now is_template fields.now) }
+    ensures { IfOk result (λ passed. passed ≡ spec.fields_passed rules.entry is_template fields.now) }
 {
     let mut passed = Vec::new(alloc);
     for (name, value) in fields.iter() {
-        if is_passed(list, is_template, name) {
+        if is_passed(rules, is_template, name) {
             passed.push(field_of(alloc, name, value)?)?;
         }
     }
@@ -36,11 +41,13 @@ pub(crate) fn fields_passed(
 }
 
 // Whether a reader gets the field.
-fn is_passed(list: &[u8], is_template: bool, name: &HeaderName) -> bool
-    ensures { result ≡ spec.is_passed list.now is_template name.now }
+fn is_passed(rules: HeadRules<'_>, is_template: bool, name: &HeaderName) -> bool
+    ensures { result ≡ spec.is_passed rules.entry is_template name.now }
 {
     let name = name.as_bytes();
-    names(list, name) && !(is_template && names(DESCRIBING.as_bytes(), name))
+    names(rules.passed, name)
+        && !(is_template && names(DESCRIBING.as_bytes(), name))
+        && (rules.is_private || name != SET_COOKIE)
 }
 
 // A line of a field.

@@ -5,7 +5,7 @@ use crate::gathered::Lost;
 use bytes::Bytes;
 use edge_types::PageUrl;
 use fetch_outcomes::FetchFault;
-use http::header::{ACCEPT_ENCODING, CONNECTION, HOST};
+use http::header::{ACCEPT_ENCODING, CONNECTION, COOKIE, HOST};
 use http::request::Builder;
 use http::{Error, Request};
 use http_body_util::Empty;
@@ -18,12 +18,13 @@ const LOOP: &str = "cdn-loop";
 
 /// The request for a URL by an edge of this name, if it has one, over a connection that may be kept or not. It says
 /// nothing of the client but the way, if there is one: the edges through which what led to the request came, and this
-/// one.
+/// one; and his cookies, if there are some that the origin is to know.
 pub(crate) fn request_of(
     alloc: Global,
     url: &PageUrl,
     name: &Option<EdgeName>,
     way: Option<&[u8]>,
+    cookie: Option<&[u8]>,
     keeps: bool,
 ) -> Result<Request<Empty<Bytes>>, Lost> {
     let Some((authority, target)) = parts_of(url) else {
@@ -33,7 +34,8 @@ pub(crate) fn request_of(
         .header(HOST, authority)
         .header(own_capability().0, capability_for(name));
     let request = for_connection(request, keeps).header(ACCEPT_ENCODING, "identity");
-    match identified(request, name, way).body(Empty::new()) {
+    let request = with_cookie(identified(request, name, way), cookie);
+    match request.body(Empty::new()) {
         Ok(request) => Ok(request),
         Err(Error::OutOfMemory) => Err(Lost::NoMemory),
         Err(_) => Err(Lost::Fault(FetchFault::Cut)),
@@ -54,6 +56,14 @@ fn identified(request: Builder, name: &Option<EdgeName>, way: Option<&[u8]>) -> 
         (Some(way), _) => request.header(LOOP, way),
         (None, Some(name)) => request.header(LOOP, name.as_bytes()),
         (None, None) => request,
+    }
+}
+
+// The request with a reader's cookies, if there are some.
+fn with_cookie(request: Builder, cookie: Option<&[u8]>) -> Builder {
+    match cookie {
+        Some(cookie) => request.header(COOKIE, cookie),
+        None => request,
     }
 }
 

@@ -1,14 +1,15 @@
 //! A source that fetches from origins.
 
-ghost use Rattle.std.specs.Prelude.{◌≡◌, IfOk, IsSomeAnd, Some, true};
+ghost use Rattle.std.specs.Prelude.{◌≡◌, option_map, IfOk, Some, true};
 ghost use Rattle.std.specs.Arc.{arc_value};
-ghost use Rattle.hyper_source.specs.Names.{device_of, way_through};
+ghost use Rattle.hyper_source.specs.Names.{device_of};
+ghost use Rattle.hyper_source.specs.Private as spec;
 
 mod concurrent;
 
 use crate::answers::{Fetched, answered};
 use crate::bounded::{OriginGate, gates_of};
-use crate::edge_name::{EdgeName, device_of, way_through};
+use crate::edge_name::{EdgeName, copy_of, device_of, way_behind};
 use crate::errand::Errand;
 use crate::gate::Bounds;
 use crate::gathered::{Lost, Response};
@@ -18,8 +19,9 @@ use crate::origin::{Chosen, Origin, origin_for};
 use crate::origin_runtime::OriginRuntime;
 use crate::poller::IdlePollers;
 use crate::pool::Pool;
+use crate::private_urls::{cookie_for, is_private};
 use crate::request::request_of;
-use answer_sources::{Answers, Given, OnBehalf, Source, fetch_or_fail};
+use answer_sources::{Answers, Behalf, Given, OnBehalf, Source, fetch_or_fail};
 use bytes::Bytes;
 use edge_types::{Answer, NoMemory, PageUrl, SharedBytes};
 use fetch_outcomes::FetchFault;
@@ -33,8 +35,8 @@ use std::sync::{Arc, Wait};
 use std::time::{Clock, Duration};
 
 /// A source that fetches from origins over HTTP: for each URL one `GET`, which names the host and says what
-/// this edge can do, by its name if it has one, and nothing of the client but which edges its request has passed
-/// (`on_behalf`). Each has a connection of its own, unless some are kept (`keeping`).
+/// this edge can do, by its name if it has one, and nothing of the client but which edges its request has passed, and, for
+/// private URLs alone, cookies of his (`on_behalf`). Each has a connection of its own, unless some are kept (`keeping`).
 ///
 /// An answer can't be fetched, and is a failed one, if no origin has the URL's authority, if the
 /// socket or HTTP fails (also by the time limit), if the body ends before its length, is coded or
@@ -57,6 +59,10 @@ pub struct HyperSource {
     name: Option<EdgeName>,
     // The edges through which requests go, where that isn't this one alone.
     way: Option<Vec<u8>>,
+    // The prefixes of private URLs.
+    private: Arc<Vec<PageUrl>>,
+    // The cookies of the reader, for private URLs alone.
+    cookies: Vec<u8>,
     pool: Pool,
     // Of each address, where fetches are bounded.
     gates: Arc<Vec<OriginGate>>,
@@ -98,6 +104,8 @@ impl HyperSource {
             keys: RandomState::new(rt)?,
             name: None,
             way: None,
+            private: Arc::new(alloc, Vec::new(alloc))?,
+            cookies: Vec::new(alloc),
             pool,
             gates: Arc::new(alloc, Vec::new(alloc))?,
             passed: SharedBytes::new(),
@@ -131,6 +139,19 @@ impl HyperSource {
         self
     }
 
+    /// The same source, to which URLs are private that begin with one of these.
+    ///
+    /// `NoMemory` if an allocation fails.
+    ///
+    /// Our profile.
+    pub fn apart(mut self, alloc: Global, prefixes: Vec<PageUrl>) -> Result<HyperSource, NoMemory>
+        ensures prefixes { IfOk result (λ source. arc_value source.private ≡ prefixes) }
+        ensures others { IfOk result (λ source. source ≡ record self { private = source.private }) }
+    {
+        self.private = Arc::new(alloc, prefixes)?;
+        Ok(self)
+    }
+
     /// The same source with these bounds for the fetches to each address. A fetch that is one too many, or is to
     /// an origin that rests, isn't made: its answer is a failed one at once. Before that as many wait as may, each until
     /// all who asked before have gone, and no longer than half the time that a fetch may take.
@@ -141,7 +162,7 @@ impl HyperSource {
     }
 
     /// The same source, whose answers have in their heads the lines of these fields, as they came: names, with commas
-    /// between and blanks around them, in any case. Those that describe the bytes of a template (`etag`, `last-modified`,
+    /// between and blanks around them, in any case. Of `set-cookie` only those of private URLs. Those that describe the bytes of a template (`etag`, `last-modified`,
     /// `accept-ranges`, `content-md5`, `digest`, `content-digest`, `repr-digest`) are left out where the body is one. An
     /// answer whose names and values have more than `MAX_FIELDS` bytes is a failed one.
     pub fn passing(mut self, names: SharedBytes) -> HyperSource
@@ -162,15 +183,24 @@ impl HyperSource {
         self
     }
 
-    // How this source reads the heads of responses.
-    fn rules(&self) -> HeadRules<'_>
+    // Whether answers of a URL are for one request alone.
+    fn has_private(&self, url: &PageUrl) -> bool
+        ensures { result ≡ spec.is_private (arc_value self.now.private).items url.now }
+    {
+        is_private(self.private.as_slice(), url)
+    }
+
+    // How this source reads the heads of responses for a URL.
+    fn rules(&self, url: &PageUrl) -> HeadRules<'_>
         ensures device { result.device.now ≡ device_of self.now.name }
         ensures passed { result.passed.now ≡ self.now.passed }
+        ensures private { result.is_private ≡ spec.is_private (arc_value self.now.private).items url.now }
         ensures heeds { result.heeds_cache_control ≡ self.now.heeds_cache_control }
     {
         HeadRules {
             device: device_of(&self.name),
             passed: self.passed.as_bytes(),
+            is_private: self.has_private(url),
             heeds_cache_control: self.heeds_cache_control,
         }
     }
@@ -182,12 +212,19 @@ impl HyperSource {
         Ok(Arc::try_clone(&self.shared.notes)?)
     }
 
-    // The same source for an edge with this name, and for requests that have passed these edges.
-    fn behind(&self, alloc: Global, name: &EdgeName, passed: &[u8]) -> Result<HyperSource, NoMemory>
+    // The same source for a request that goes this way, of a reader with these cookies.
+    fn behind(
+        &self,
+        alloc: Global,
+        way: Option<Vec<u8>>,
+        cookies: &[u8],
+    ) -> Result<HyperSource, NoMemory>
         ensures shared { IfOk result (λ source. arc_value source.shared ≡ arc_value self.now.shared) }
         ensures limit { IfOk result (λ source. source.limit ≡ self.now.limit) }
-        ensures name { IfOk result (λ source. source.name ≡ Some name.now) }
-        ensures way { IfOk result (λ source. IsSomeAnd source.way (λ way. way.items ≡ way_through passed.now name.now)) }
+        ensures name { IfOk result (λ source. source.name ≡ self.now.name) }
+        ensures way { IfOk result (λ source. source.way ≡ way) }
+        ensures private { IfOk result (λ source. arc_value source.private ≡ arc_value self.now.private) }
+        ensures cookies { IfOk result (λ source. source.cookies.items ≡ cookies.now) }
         ensures pool { IfOk result (λ source. (source.pool.most ≡ self.now.pool.most) × (arc_value source.pool.shared ≡ arc_value self.now.pool.shared)) }
         ensures gates { IfOk result (λ source. arc_value source.gates ≡ arc_value self.now.gates) }
         ensures heads { IfOk result (λ source. (source.passed ≡ self.now.passed) × (source.heeds_cache_control ≡ self.now.heeds_cache_control)) }
@@ -196,8 +233,10 @@ impl HyperSource {
             shared: Arc::try_clone(&self.shared)?,
             limit: self.limit,
             keys: self.keys,
-            name: Some(name.copy(alloc)?),
-            way: Some(way_through(alloc, passed, name.as_bytes())?),
+            name: copy_of(alloc, &self.name)?,
+            way,
+            private: Arc::try_clone(&self.private)?,
+            cookies: cookies.to_vec(alloc)?,
             pool: self.pool.share()?,
             gates: Arc::try_clone(&self.gates)?,
             passed: self.passed.share()?,
@@ -226,6 +265,13 @@ impl HyperSource {
         Errand::begun(clock, url, origin, self.limit)
     }
 
+    // The cookies that an origin is sent for a URL.
+    fn cookie_for(&self, url: &PageUrl) -> Option<&[u8]>
+        ensures { option_map (λ cookie. cookie.now) result ≡ spec.cookie_for (spec.is_private (arc_value self.now.private).items url.now) self.now.cookies.items }
+    {
+        cookie_for(self.has_private(url), self.cookies.as_slice())
+    }
+
     // What an origin is asked for a URL.
     fn request(&self, alloc: Global, url: &PageUrl) -> Result<Request<Empty<Bytes>>, Lost> {
         request_of(
@@ -233,6 +279,7 @@ impl HyperSource {
             url,
             &self.name,
             self.way.as_deref(),
+            self.cookie_for(url),
             self.pool.keeps(),
         )
     }
@@ -248,7 +295,7 @@ impl HyperSource {
     ) -> Result<Arc<Answer>, NoMemory>
         ensures { IfOk result (λ answer. (arc_value answer).url ≡ url.now) }
     {
-        let Fetched { answer, fault } = answered(alloc, url, self.rules(), came)?;
+        let Fetched { answer, fault } = answered(alloc, url, self.rules(url), came)?;
         let answer = Arc::new(alloc, answer)?;
         let place = origin.map(|origin| origin.place);
         self.shared.notes.note(rt, url, place, fault);
@@ -262,6 +309,12 @@ impl<R> Answers<R> for HyperSource {
     ghost gives = { λ _ url answer. answer.url ≡ url };
 
     ghost names_url = { λ _ _ _ named. named };
+
+    ghost private = { λ source url. spec.is_private (arc_value source.private).items url };
+
+    fn is_private(&self, url: &PageUrl) -> bool {
+        self.has_private(url)
+    }
 }
 
 impl<R: OriginRuntime> Source<R> for HyperSource {
@@ -271,11 +324,15 @@ impl<R: OriginRuntime> Source<R> for HyperSource {
 }
 
 impl<R> OnBehalf<R> for HyperSource {
-    // An edge without a name says nothing of the way.
-    fn on_behalf(&self, alloc: Global, passed: &[u8]) -> Result<Option<HyperSource>, NoMemory> {
-        match &self.name {
-            Some(name) => Ok(Some(self.behind(alloc, name, passed)?)),
-            None => Ok(None),
+    fn on_behalf(
+        &self,
+        alloc: Global,
+        behalf: Behalf<'_>,
+    ) -> Result<Option<HyperSource>, NoMemory> {
+        let way = way_behind(alloc, behalf.passed, &self.name)?;
+        if way.is_none() && behalf.cookies.is_empty() {
+            return Ok(None);
         }
+        Ok(Some(self.behind(alloc, way, behalf.cookies)?))
     }
 }

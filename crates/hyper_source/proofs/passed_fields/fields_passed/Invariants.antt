@@ -6,5 +6,5 @@ use Rattle.hyper_source.proofs.passed_fields.fields_passed.Given as goal
 
 abbrev pub invariant-loop-name : goal.invariant-loop-name
 invariant-loop-name l =
-    l.passed.items ++ map field_of (filter (λ (line : List ℕ × FieldValue). is_passed l.list l.is_template line.0) l.name-iterator)
-    ≡ fields_passed l.list l.is_template l.fields
+    l.passed.items ++ map field_of (filter (λ (line : List ℕ × FieldValue). is_passed l.rules l.is_template line.0) l.name-iterator)
+    ≡ fields_passed l.rules l.is_template l.fields
