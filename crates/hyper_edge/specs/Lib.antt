@@ -1,5 +1,7 @@
 pub mod Opening
 pub mod PageTime
+pub mod Privacy
+pub mod Validators
 pub mod Departure
 pub mod Responses
 pub mod Records

@@ -5,15 +5,18 @@
 #![tactic(auto)]
 
 mod faults;
+mod finishing;
 mod forwarded;
 mod journal;
 mod page_time;
+mod privacy;
 mod responding;
 mod server;
 mod service;
 mod serving;
 mod threads;
 mod turn;
+mod validators;
 
 pub use access_log::RequestRecord;
 pub use journal::{Journal, NoJournal};

@@ -143,6 +143,12 @@ impl<R, S: Answers<R>> Answers<R> for WithinTime<S> {
 
     ghost names_url = { λ it. names_url (S.gives (arc_value it.source)) (S.names_url (arc_value it.source)) };
 
+    ghost private = { λ it. S.private (arc_value it.source) };
+
+    fn is_private(&self, url: &PageUrl) -> bool {
+        self.source.is_private(url)
+    }
+
     fn ready(&self, rt: &R, alloc: Global, url: &PageUrl) -> Result<Option<Arc<Answer>>, NoMemory> {
         self.source.ready(rt, alloc, url)
     }

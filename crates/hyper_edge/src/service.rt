@@ -1,9 +1,11 @@
 //! What answers the requests of a connection.
 
 ghost use Rattle.std.specs.Prelude.{◌≡◌, ◌↔◌, [], false, true, map, length, Some, IfOk, IsErrOf, IsSomeAnd, MatchOption};
+ghost use Rattle.std.specs.Arc.{arc_value};
 ghost use Rattle.http_header.specs.FieldName.{IsFieldName};
 ghost use Rattle.http_header.specs.Token.{lowercase};
 ghost use Rattle.http_header.specs.declared.name.HeaderNameError.TheVariants as header_name_error;
+ghost use Rattle.page_http.specs.Cookies.{cookies_named};
 ghost use Rattle.page_http.specs.Passed.{passed_edges};
 ghost use Rattle.hyper_edge.specs.Circles.{is_circle};
 ghost use Rattle.hyper_edge.specs.Lines.{line, lines_of};
@@ -13,13 +15,13 @@ use crate::forwarded::client_of;
 use crate::page_time::WithinTime;
 use crate::responding::{Begun, RequestHead, begin_response, no_room, refused};
 use access_log::Reason;
-use answer_sources::{ConcurrentSource, OnBehalf};
+use answer_sources::{Behalf, ConcurrentSource, OnBehalf};
 use edge_connections::{ClientWatch, DateClock, deadline, watch_of};
 use edge_types::NoMemory;
 use fetch_workers::Assembling;
 use http::header::{HeaderName, HeaderNameError, HeaderValue};
 use http::{HeaderMap, Request, Uri};
-use page_http::{Field, has_passed, passed_edges};
+use page_http::{Field, cookies_named, has_passed, passed_edges};
 use std::alloc::Global;
 use std::borrow::CowStr;
 use std::hash::RandomState;
@@ -48,8 +50,12 @@ pub struct EdgeService<S, R> {
     // Whether a client that has ended its input has left.
     aborts_on_close: bool,
     answers_head: bool,
+    // Whether pages have entity tags.
+    gives_tags: bool,
     // The name by which the edge knows a request that it has sent itself.
     name: Option<Vec<u8>>,
+    // The names of the cookies that origins of private URLs are told, with commas between.
+    private_cookies: Option<Vec<u8>>,
     // The field by which a trusted proxy names the client.
     forwarded: Option<HeaderName>,
     // The hash keys of the maps of fields.
@@ -76,7 +82,9 @@ impl<S: Drop, R: Drop> EdgeService<S, R> {
             limit: None,
             aborts_on_close: false,
             answers_head: false,
+            gives_tags: false,
             name: None,
+            private_cookies: None,
             forwarded: None,
             keys,
         })
@@ -89,6 +97,16 @@ impl<S: Drop, R: Drop> EdgeService<S, R> {
         ensures { result ≡ record self { answers_head = true } }
     {
         self.answers_head = true;
+        self
+    }
+
+    /// The same, and a page has an entity tag, and isn't sent to a client that has it already; one that failed has none.
+    ///
+    /// Source: RFC 9110, "ETag", "If-None-Match".
+    pub fn giving_tags(mut self) -> EdgeService<S, R>
+        ensures { result ≡ record self { gives_tags = true } }
+    {
+        self.gives_tags = true;
         self
     }
 
@@ -127,6 +145,17 @@ impl<S: Drop, R: Drop> EdgeService<S, R> {
         self
     }
 
+    /// The same, and the source is told of each request the cookies of these names, which have commas between, for
+    /// private URLs.
+    ///
+    /// Source: RFC 6265, "The Cookie Header"; our profile.
+    pub fn telling_cookies(mut self, names: Vec<u8>) -> EdgeService<S, R>
+        ensures { result ≡ record self { private_cookies = Some names } }
+    {
+        self.private_cookies = Some(names);
+        self
+    }
+
     /// The same, and the client of a request is the one that its field of this name reports: the last address there,
     /// which is what the nearest proxy has added; where it reports none, whoever the connection is from. So only trusted
     /// proxies may reach the server. Refused if it isn't the name of a field, or an allocation fails.
@@ -138,10 +167,6 @@ impl<S: Drop, R: Drop> EdgeService<S, R> {
     {
         self.forwarded = Some(HeaderName::from_bytes(self.alloc, field)?);
         Ok(self)
-    }
-
-    pub(crate) fn alloc(&self) -> Global {
-        self.alloc
     }
 
     pub(crate) fn keys(&self) -> RandomState {
@@ -183,7 +208,7 @@ where
             target: target.as_bytes(),
             fields: fields.as_slice(),
         };
-        let Ok(source) = self.source_for(passed.as_slice()) else {
+        let Ok(source) = self.source_for(passed.as_slice(), fields.as_slice()) else {
             return Ok(Ok(no_room(alloc)?));
         };
         let source = WithinTime {
@@ -197,10 +222,15 @@ where
         begin_response(rt, alloc, source, &head, self.how)
     }
 
-    // The source for a request that has passed these edges: one of its own, where it needs one.
-    fn source_for(&self, passed: &[u8]) -> Result<Arc<S>, NoMemory> {
-        if !passed.is_empty() {
-            if let Some(own) = self.source.on_behalf(self.alloc, passed)? {
+    // The source for a request with these lines that has passed these edges: one of its own, where it needs one.
+    fn source_for(&self, passed: &[u8], fields: &[Field<'_>]) -> Result<Arc<S>, NoMemory> {
+        let cookies = cookies_told(self.alloc, self.private_cookies.as_deref(), fields)?;
+        let behalf = Behalf {
+            passed,
+            cookies: cookies.as_slice(),
+        };
+        if !behalf.is_empty() {
+            if let Some(own) = self.source.on_behalf(self.alloc, behalf)? {
                 return Ok(Arc::new(self.alloc, own)?);
             }
         }
@@ -209,6 +239,25 @@ where
 }
 
 impl<S, R> EdgeService<S, R> {
+    /// What responses are allocated by.
+    pub(crate) fn alloc(&self) -> Global {
+        self.alloc
+    }
+
+    /// Whether pages have entity tags.
+    pub(crate) fn gives_tags(&self) -> bool
+        ensures { result ≡ self.now.gives_tags }
+    {
+        self.gives_tags
+    }
+
+    /// Where answers come from.
+    pub(crate) fn source(&self) -> &S
+        ensures { result.now ≡ arc_value self.now.source }
+    {
+        &*self.source
+    }
+
     /// What is looked at of a client with this socket while a page is made for it.
     pub(crate) fn watch(&self, socket: Option<RawFd>) -> Option<ClientWatch> {
         watch_of(self.limit, self.aborts_on_close, socket)
@@ -248,6 +297,20 @@ fn passed_by(alloc: Global, name: Option<&[u8]>, fields: &[Field<'_>]) -> Result
 {
     match name {
         Some(_) => passed_edges(alloc, fields),
+        None => Ok(Vec::new(alloc)),
+    }
+}
+
+// The cookies of a request with these lines that the source is told, where some are named.
+fn cookies_told(
+    alloc: Global,
+    names: Option<&[u8]>,
+    fields: &[Field<'_>],
+) -> Result<Vec<u8>, NoMemory>
+    ensures { IfOk result (λ cookies. MatchOption names.entry (cookies.items ≡ []) (λ names. cookies.items ≡ cookies_named names.now fields.now)) }
+{
+    match names {
+        Some(names) => cookies_named(alloc, names, fields),
         None => Ok(Vec::new(alloc)),
     }
 }

@@ -310,6 +310,10 @@ where
     fn answered(&mut self, responded: Responded, request: &Requested) -> Answered {
         let serving = self.serving;
         let incoming = &request.incoming;
+        let fields = incoming.head.headers();
+        let Ok(responded) = serving.service.finished(fields, responded) else {
+            return Err(AllocError);
+        };
         if let Some(begun) = request.begun {
             let client = serving.service.client_of(&incoming.head, self.client);
             let record = record_of(
