@@ -102,3 +102,5 @@ pub record AreAskedBy (setup : Setup) (options : ServerOptions) : Type 0 where
   pub forwarded_is : options.forwarded ≡ setup.forwarded
   pub hosts_are : options.admin_hosts ≡ setup.admin_hosts
   pub fields_are : options.pass_fields ≡ setup.pass_fields
+  pub private_are : options.private ≡ setup.private
+  pub cookies_are : options.private_cookies ≡ setup.private_cookies

@@ -159,6 +159,8 @@ pub(crate) fn options_of(setup: Setup) -> ServerOptions
         forwarded,
         admin_hosts,
         pass_fields,
+        private,
+        private_cookies,
     } = setup;
     ServerOptions {
         addresses,
@@ -179,5 +181,7 @@ pub(crate) fn options_of(setup: Setup) -> ServerOptions
         forwarded,
         admin_hosts,
         pass_fields,
+        private,
+        private_cookies,
     }
 }

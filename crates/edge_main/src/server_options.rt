@@ -4,6 +4,7 @@ ghost use Rattle.std.specs.Prelude.{◌≤◌};
 use access_log::LogFormat;
 use edge_connections::{Capacity, Limits};
 use edge_setup::{Addresses, Flags, Origin};
+use edge_types::PageUrl;
 use fetch_workers::Assembling;
 use hyper_source::Bounds;
 use std::time::Duration;
@@ -56,6 +57,10 @@ pub(crate) struct ServerOptions {
     pub admin_hosts: Option<Vec<u8>>,
     /// The names of the fields of a page's own answer that reach its reader, with commas between, where there are some.
     pub pass_fields: Option<Vec<u8>>,
+    /// The prefixes of URLs whose answers are one reader's own.
+    pub private: Vec<PageUrl>,
+    /// The names of the cookies by which those are fetched, with commas between, where there are some.
+    pub private_cookies: Option<Vec<u8>>,
     ghost some_capacity: { 1 ≤ capacity },
     ghost few_capacity: { capacity ≤ 1024 },
 }

@@ -36,6 +36,7 @@ where
     let source = source_of(rt, origins, options.fetches)?;
     let source = named(rt, source, options.name.as_ref())?;
     let source = heeding(rt, source, options)?;
+    let source = apart(rt, source, options)?;
     let notes = source.notes()?;
     let cache = cache_of(rt, source, options)?;
     let service = service_of(rt, owner_of(&cache)?, options)?;
@@ -283,6 +284,17 @@ fn heeding(
     Ok(source)
 }
 
+// The same, to which the URLs are private that the options name so. Their prefixes are taken out of them.
+fn apart(
+    rt: &impl AllocGlobal,
+    source: HyperSource,
+    options: &mut ServerOptions,
+) -> Result<HyperSource, NoMemory> {
+    let alloc = rt.alloc();
+    let prefixes = mem::replace(&mut options.private, Vec::new(alloc));
+    source.apart(alloc, prefixes)
+}
+
 // What is stored, over this source, of which URLs that failed rest.
 fn cache_of<R>(rt: &R, source: HyperSource, options: &ServerOptions) -> Result<Arc<Kept>, Status>
 where
@@ -325,6 +337,9 @@ where
     if let Some(name) = options.name.take() {
         service = service.named(name);
     }
+    if let Some(names) = options.private_cookies.take() {
+        service = service.telling_cookies(names);
+    }
     if let Some(field) = &options.forwarded {
         // The setup has a name of a field, so only memory may be missing.
         let Ok(told) = service.forwarded_by(field.as_slice()) else {
@@ -334,6 +349,9 @@ where
     }
     if options.flags.has(Flag::Head) {
         service = service.answering_head();
+    }
+    if options.flags.has(Flag::Etag) {
+        service = service.giving_tags();
     }
     if options.flags.has(Flag::AbortOnClose) {
         service = service.aborting_on_close();

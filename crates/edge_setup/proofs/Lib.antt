@@ -1,2 +1,3 @@
 mod OriginLists
 mod NumberLemmas
+mod PrefixLists

@@ -7,6 +7,7 @@ pub mod Case
 pub mod OriginWord
 pub mod Lists
 pub mod PassedNames
+pub mod Private
 pub mod Words
 pub mod Origins
 pub mod Check

@@ -34,11 +34,13 @@ word_row word.LogFormat = worded (codes "log-format") AtMostOnce
 word_row word.Forwarded = worded (codes "forwarded") AtMostOnce
 word_row word.Name = worded (codes "name") AtMostOnce
 word_row word.PassFields = worded (codes "pass-fields") AtMostOnce
+word_row word.Private = worded (codes "private") AtMostOnce
+word_row word.PrivateCookies = worded (codes "private-cookies") AtMostOnce
 word_row word.Config = worded (codes "config") AtMostOnce
 
 -- all of them, in the order of the command
 abbrev pub word_options : List Word
-word_options = word.Listen ∷ word.Origin ∷ word.Admin ∷ word.AdminHost ∷ word.LogFormat ∷ word.Forwarded ∷ word.Name ∷ word.PassFields ∷ word.Config ∷ []
+word_options = word.Listen ∷ word.Origin ∷ word.Admin ∷ word.AdminHost ∷ word.LogFormat ∷ word.Forwarded ∷ word.Name ∷ word.PassFields ∷ word.Private ∷ word.PrivateCookies ∷ word.Config ∷ []
 
 -- to `clap` an option that may be given so often
 abbrev pub occurring : Occurrence → Rule → Rule
@@ -67,22 +69,24 @@ abbrev pub flag_name : Flag → Text
 flag_name flag.Head = codes "head"
 flag_name flag.AbortOnClose = codes "abort-on-close"
 flag_name flag.CacheControl = codes "cache-control"
+flag_name flag.Etag = codes "etag"
 flag_name flag.StopWithInput = codes "stop-with-input"
 flag_name flag.Log = codes "log"
 flag_name flag.PrintConfig = codes "print-config"
 
 -- all of them, in the order of the command
 abbrev pub flag_options : List Flag
-flag_options = flag.Head ∷ flag.AbortOnClose ∷ flag.CacheControl ∷ flag.StopWithInput ∷ flag.Log ∷ flag.PrintConfig ∷ []
+flag_options = flag.Head ∷ flag.AbortOnClose ∷ flag.CacheControl ∷ flag.Etag ∷ flag.StopWithInput ∷ flag.Log ∷ flag.PrintConfig ∷ []
 
 -- the place of each in this order
 abbrev pub flag_place : Flag → ℕ
 flag_place flag.Head = 0
 flag_place flag.AbortOnClose = 1
 flag_place flag.CacheControl = 2
-flag_place flag.StopWithInput = 3
-flag_place flag.Log = 4
-flag_place flag.PrintConfig = 5
+flag_place flag.Etag = 3
+flag_place flag.StopWithInput = 4
+flag_place flag.Log = 5
+flag_place flag.PrintConfig = 6
 
 -- a command with one more of them
 abbrev pub with_flag : App → Flag → App

@@ -16,9 +16,11 @@ use Rattle.edge_types.specs.Token.{is_token}
 use Rattle.edge_setup.specs.OriginWord.{is_authority, is_name, IsFaultOf, IsPlace}
 use Rattle.edge_setup.specs.OriginWord.{refusal_of as origin_refusal}
 use Rattle.edge_setup.specs.PassedNames.{are_passed}
+use Rattle.edge_setup.specs.Private.{cookies_said, has_private, prefixes_said}
 use Rattle.edge_setup.specs.declared.origin.OriginFault.{OriginFault}
 use Rattle.edge_setup.specs.declared.origin.OriginFault.TheVariants as origin_fault
 use Rattle.edge_setup.specs.declared.origin.Place.{Place}
+use Rattle.edge_setup.specs.declared.private.Private.{Private}
 use Rattle.edge_setup.specs.declared.setup.Addresses.{Addresses}
 use Rattle.edge_setup.specs.declared.setup.Origin.{Origin}
 use Rattle.edge_setup.specs.declared.flag.Flag.TheVariants as flag
@@ -70,10 +72,14 @@ hosts_said rows = hosts_of (is_some (word_said word.Admin rows)) (word_said word
 
 -- ---- the fields that are passed
 
--- the names of fields that a word writes; without a word there are none
-abbrev pub fields_of : Option Text → Option (Option Text)
-fields_of None = Some None
-fields_of (Some word) = if are_passed word then Some (Some word) else None
+-- the names of fields that a word writes, where there are private URLs or none; without a word there are none
+abbrev pub fields_of : Bool → Option Text → Option (Option Text)
+fields_of is_private None = Some None
+fields_of is_private (Some word) = if are_passed is_private word then Some (Some word) else None
+
+-- the names that the options give
+abbrev pub fields_said : List Row → Option (Option Text)
+fields_said rows = fields_of (has_private rows) (word_said word.PassFields rows)
 
 -- ---- addresses
 
@@ -152,7 +158,12 @@ pub record SaysTokens (rows : List Row) (tokens : Tokens) : Type 0 where
   pub name_is : token_of (word_said word.Name rows) ≡ Some (option_map (λ name. name.now) tokens.name)
   pub forwarded_is : token_of (word_said word.Forwarded rows) ≡ Some (option_map (λ field. field.now) tokens.forwarded)
   pub hosts_are : hosts_said rows ≡ Some (option_map (λ hosts. hosts.now) tokens.hosts)
-  pub fields_are : fields_of (word_said word.PassFields rows) ≡ Some (option_map (λ fields. fields.now) tokens.fields)
+  pub fields_are : fields_said rows ≡ Some (option_map (λ fields. fields.now) tokens.fields)
+
+-- the URLs that are one reader's own, and the names of the cookies by which they are fetched
+pub record SaysPrivate (rows : List Row) (private : Private) : Type 0 where
+  pub prefixes_are : prefixes_said rows ≡ Some private.prefixes.items
+  pub cookies_are : cookies_said rows ≡ Some (option_map (λ cookies. cookies.now) private.cookies)
 
 -- what the options ask for
 pub record SaysSetup (rows : List Row) (setup : Setup) : Type 0 where
@@ -164,7 +175,9 @@ pub record SaysSetup (rows : List Row) (setup : Setup) : Type 0 where
   pub name_is : token_of (word_said word.Name rows) ≡ Some (option_map (λ name. name.items) setup.name)
   pub forwarded_is : token_of (word_said word.Forwarded rows) ≡ Some (option_map (λ field. field.items) setup.forwarded)
   pub hosts_are : hosts_said rows ≡ Some (option_map (λ hosts. hosts.items) setup.admin_hosts)
-  pub fields_are : fields_of (word_said word.PassFields rows) ≡ Some (option_map (λ fields. fields.items) setup.pass_fields)
+  pub fields_are : fields_said rows ≡ Some (option_map (λ fields. fields.items) setup.pass_fields)
+  pub private_are : prefixes_said rows ≡ Some setup.private.items
+  pub cookies_are : cookies_said rows ≡ Some (option_map (λ cookies. cookies.items) setup.private_cookies)
 
 -- the value of an option is invalid
 abbrev pub IsWrong : List Row → Named → Type 0
@@ -176,7 +189,9 @@ IsWrong rows named.LogFormat = log_said rows ≡ None
 IsWrong rows named.Name = token_of (word_said word.Name rows) ≡ None
 IsWrong rows named.Forwarded = token_of (word_said word.Forwarded rows) ≡ None
 IsWrong rows named.AdminHost = hosts_said rows ≡ None
-IsWrong rows named.PassFields = fields_of (word_said word.PassFields rows) ≡ None
+IsWrong rows named.PassFields = fields_said rows ≡ None
+IsWrong rows named.Private = prefixes_said rows ≡ None
+IsWrong rows named.PrivateCookies = cookies_said rows ≡ None
 
 -- the values of these options are valid
 abbrev pub HasListen : List Row → Type 0
@@ -207,10 +222,16 @@ abbrev pub HasHosts : List Row → Type 0
 HasHosts rows = IsSome (hosts_said rows)
 
 abbrev pub HasFields : List Row → Type 0
-HasFields rows = IsSome (fields_of (word_said word.PassFields rows))
+HasFields rows = IsSome (fields_said rows)
 
 abbrev pub HasTokens : List Row → Type 0
 HasTokens rows = HasName rows × HasForwarded rows × HasHosts rows × HasFields rows
+
+abbrev pub HasPrefixes : List Row → Type 0
+HasPrefixes rows = IsSome (prefixes_said rows)
+
+abbrev pub HasCookies : List Row → Type 0
+HasCookies rows = IsSome (cookies_said rows)
 
 -- the values of the options that are read before this one are valid
 abbrev pub AreValidBefore : List Row → Named → Type 0
@@ -222,7 +243,9 @@ AreValidBefore rows named.Name = HasAddresses rows × HasNumbers rows × HasLog 
 AreValidBefore rows named.Forwarded = HasAddresses rows × HasNumbers rows × HasLog rows × HasName rows
 AreValidBefore rows named.AdminHost = HasAddresses rows × HasNumbers rows × HasLog rows × HasName rows × HasForwarded rows
 AreValidBefore rows named.PassFields = HasAddresses rows × HasNumbers rows × HasLog rows × HasName rows × HasForwarded rows × HasHosts rows
-AreValidBefore rows (named.Origin fault) = HasAddresses rows × HasNumbers rows × HasLog rows × HasTokens rows
+AreValidBefore rows named.Private = HasAddresses rows × HasNumbers rows × HasLog rows × HasTokens rows
+AreValidBefore rows named.PrivateCookies = HasAddresses rows × HasNumbers rows × HasLog rows × HasTokens rows × HasPrefixes rows
+AreValidBefore rows (named.Origin fault) = HasAddresses rows × HasNumbers rows × HasLog rows × HasTokens rows × HasPrefixes rows × HasCookies rows
 
 -- this is the first option, in the order of reading, whose value is invalid
 pub record IsFirstWrong (rows : List Row) (option : Named) : Type 0 where
@@ -239,7 +262,9 @@ refusal_of named.LogFormat = codes "error: --log-format takes line, combined or 
 refusal_of named.Name = codes "error: --name takes 1 to 64 letters, digits and marks of a token, as edge-1"
 refusal_of named.Forwarded = codes "error: --forwarded takes the name of a field, as x-forwarded-for"
 refusal_of named.AdminHost = codes "error: --admin-host takes names of hosts with commas between, as edge.internal,edge-1, beside --admin"
-refusal_of named.PassFields = codes "error: --pass-fields takes field names with commas between, as location,cache-control, none of a connection, of a body's length, type or coding, nor set-cookie"
+refusal_of named.PassFields = codes "error: --pass-fields takes field names with commas between, as location,cache-control, none of a connection, of a body's length, type or coding, nor set-cookie without --private"
+refusal_of named.Private = codes "error: --private takes URL prefixes with commas between, as http://shop.test/box/, each with its host and a / at its end"
+refusal_of named.PrivateCookies = codes "error: --private-cookies takes names of cookies with commas between, as SHOPSESS, beside --private"
 
 -- why the options are refused
 abbrev pub IsRefusedBy : List Row → SetupFault → Type 0

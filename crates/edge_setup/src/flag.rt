@@ -18,6 +18,8 @@ pub enum Flag {
     AbortOnClose,
     /// Answers are kept as `Cache-Control` asks where `Surrogate-Control` says nothing of it.
     CacheControl,
+    /// Pages have entity tags, and aren't sent to clients that have them already.
+    Etag,
     /// The server stops once standard input has ended.
     StopWithInput,
     /// Each request is reported on standard error.
@@ -51,6 +53,11 @@ const CACHE_CONTROL: FlagRow = FlagRow {
     help: "Keeps answers as Cache-Control asks where Surrogate-Control doesn't say for how long",
 };
 
+const ETAG: FlagRow = FlagRow {
+    name: "etag",
+    help: "Gives pages an ETag, and answers 304 where If-None-Match has it",
+};
+
 const STOP_WITH_INPUT: FlagRow = FlagRow {
     name: "stop-with-input",
     help: "Stops once standard input has ended: accepts nobody more, and ends what is under way",
@@ -68,10 +75,11 @@ const PRINT_CONFIG: FlagRow = FlagRow {
 
 impl Flag {
     /// All of them, in the order of the options.
-    pub const ALL: [Flag; 6] = [
+    pub const ALL: [Flag; 7] = [
         Flag::Head,
         Flag::AbortOnClose,
         Flag::CacheControl,
+        Flag::Etag,
         Flag::StopWithInput,
         Flag::Log,
         Flag::PrintConfig,
@@ -92,6 +100,7 @@ impl Flag {
             Flag::Head => HEAD,
             Flag::AbortOnClose => ABORT_ON_CLOSE,
             Flag::CacheControl => CACHE_CONTROL,
+            Flag::Etag => ETAG,
             Flag::StopWithInput => STOP_WITH_INPUT,
             Flag::Log => LOG,
             Flag::PrintConfig => PRINT_CONFIG,

@@ -16,6 +16,7 @@ mod options;
 mod origin;
 mod origins;
 mod passed_names;
+mod private;
 mod setup;
 mod word;
 mod words;

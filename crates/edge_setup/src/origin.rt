@@ -67,7 +67,8 @@ impl OriginFault {
     }
 }
 
-fn has_byte(text: &[u8], wanted: u8) -> bool
+/// Whether a text has this byte.
+pub(crate) fn has_byte(text: &[u8], wanted: u8) -> bool
     ensures { result ≡ spec.has_byte wanted text.now }
 {
     text.iter().any(|byte| *byte == wanted)

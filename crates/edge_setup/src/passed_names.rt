@@ -23,13 +23,12 @@ const CONNECTION_FIELDS: [&str; 9] = [
     "upgrade",
 ];
 
-// Fields that the edge itself writes or reads, and the one that sets a cookie: answers are kept, and are anybody's.
-const OWN_FIELDS: [&str; 7] = [
+// Fields that the edge itself writes or reads.
+const OWN_FIELDS: [&str; 6] = [
     "content-encoding",
     "content-length",
     "content-type",
     "date",
-    "set-cookie",
     "surrogate-capability",
     "surrogate-control",
 ];
@@ -59,19 +58,31 @@ fn is_own_field(name: &[u8]) -> bool
     is_among(&OWN_FIELDS, name)
 }
 
-// Whether a field of this name may be passed.
-fn may_pass(name: &[u8]) -> bool
-    ensures { result ≡ spec.may_pass name.now }
+// Whether it is the field that sets a cookie: an answer that is kept is anybody's.
+fn sets_cookie(name: &[u8]) -> bool
+    ensures { result ≡ spec.sets_cookie name.now }
 {
-    is_token(name) && name.len() <= MAX_TOKEN && !is_connection_field(name) && !is_own_field(name)
+    is_named(name, "set-cookie")
 }
 
-/// Whether a text is names of fields that may be passed, with commas between, and blanks around each.
+// Whether a field of this name may be passed, where there are private URLs or none.
+fn may_pass(has_private: bool, name: &[u8]) -> bool
+    ensures { result ≡ spec.may_pass has_private name.now }
+{
+    is_token(name)
+        && name.len() <= MAX_TOKEN
+        && !is_connection_field(name)
+        && !is_own_field(name)
+        && (has_private || !sets_cookie(name))
+}
+
+/// Whether a text is names of fields that may be passed, with commas between, and blanks around each. `Set-Cookie` is one
+/// only where there are private URLs, whose answers are nobody else's.
 ///
 /// Source: RFC 9110, "Field Names", "Lists"; which may be passed: our profile.
-pub(crate) fn are_passed(text: &[u8]) -> bool
-    ensures { result ≡ spec.are_passed text.now }
+pub(crate) fn are_passed(has_private: bool, text: &[u8]) -> bool
+    ensures { result ≡ spec.are_passed has_private text.now }
 {
     text.split(|byte| is_comma(*byte))
-        .all(|name| may_pass(trimmed(name)))
+        .all(|name| may_pass(has_private, trimmed(name)))
 }

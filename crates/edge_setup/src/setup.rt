@@ -9,6 +9,7 @@ use crate::number::Number;
 use crate::numbers::Numbers;
 use crate::origin::{OriginFault, Place};
 use access_log::LogFormat;
+use edge_types::{NoMemory, PageUrl};
 use std::alloc::AllocError;
 use std::net::SocketAddr;
 
@@ -52,6 +53,10 @@ pub struct Setup {
     /// The names of the fields of a page's own answer that reach its reader, with commas between and blanks around them, where
     /// there are some.
     pub pass_fields: Option<Vec<u8>>,
+    /// The prefixes of URLs whose answers are one reader's own, each with a `/` at its end and no query.
+    pub private: Vec<PageUrl>,
+    /// The names of the cookies by which those are fetched, with commas between and blanks around them, where there are some.
+    pub private_cookies: Option<Vec<u8>>,
 }
 
 /// The options of `serve` whose values may be invalid.
@@ -75,6 +80,10 @@ pub enum Named {
     AdminHost,
     /// `--pass-fields`: not names of fields that may be passed.
     PassFields,
+    /// `--private`: not prefixes of URLs.
+    Private,
+    /// `--private-cookies`: not names of cookies, or no URLs to fetch with them.
+    PrivateCookies,
 }
 
 impl Named {
@@ -94,7 +103,11 @@ impl Named {
             Named::AdminHost =>
                 "error: --admin-host takes names of hosts with commas between, as edge.internal,edge-1, beside --admin",
             Named::PassFields =>
-                "error: --pass-fields takes field names with commas between, as location,cache-control, none of a connection, of a body's length, type or coding, nor set-cookie",
+                "error: --pass-fields takes field names with commas between, as location,cache-control, none of a connection, of a body's length, type or coding, nor set-cookie without --private",
+            Named::Private =>
+                "error: --private takes URL prefixes with commas between, as http://shop.test/box/, each with its host and a / at its end",
+            Named::PrivateCookies =>
+                "error: --private-cookies takes names of cookies with commas between, as SHOPSESS, beside --private",
         }
     }
 }
@@ -120,6 +133,14 @@ impl From<AllocError> for SetupFault {
     ghost from_gives = { λ _ refusal. refusal ≡ fault.NoMemory };
 
     fn from(_: AllocError) -> SetupFault {
+        SetupFault::NoMemory
+    }
+}
+
+impl From<NoMemory> for SetupFault {
+    ghost from_gives = { λ _ refusal. refusal ≡ fault.NoMemory };
+
+    fn from(_: NoMemory) -> SetupFault {
         SetupFault::NoMemory
     }
 }

@@ -28,6 +28,10 @@ pub(crate) enum Word {
     Name,
     /// The names of the fields of a page's own answer that reach its reader.
     PassFields,
+    /// The prefixes of URLs whose answers are one reader's own.
+    Private,
+    /// The names of the cookies by which those are fetched.
+    PrivateCookies,
     /// The file of further options.
     Config,
 }
@@ -113,6 +117,20 @@ const PASS_FIELDS: WordRow = WordRow {
     help: "Names of fields, with commas between, that a page's reader gets from the answer of the page itself",
 };
 
+const PRIVATE: WordRow = WordRow {
+    name: "private",
+    occurs: Occurrence::AtMostOnce,
+    value: "PREFIXES",
+    help: "URL prefixes, with commas between, whose answers are one reader's own: never kept, and fetched with --private-cookies",
+};
+
+const PRIVATE_COOKIES: WordRow = WordRow {
+    name: "private-cookies",
+    occurs: Occurrence::AtMostOnce,
+    value: "NAMES",
+    help: "Names of a reader's cookies, with commas between, that fetches of --private URLs carry",
+};
+
 const CONFIG: WordRow = WordRow {
     name: "config",
     occurs: Occurrence::AtMostOnce,
@@ -122,7 +140,7 @@ const CONFIG: WordRow = WordRow {
 
 impl Word {
     /// All of them, in the order of the options.
-    pub const ALL: [Word; 9] = [
+    pub const ALL: [Word; 11] = [
         Word::Listen,
         Word::Origin,
         Word::Admin,
@@ -131,6 +149,8 @@ impl Word {
         Word::Forwarded,
         Word::Name,
         Word::PassFields,
+        Word::Private,
+        Word::PrivateCookies,
         Word::Config,
     ];
 
@@ -147,6 +167,8 @@ impl Word {
             Word::Forwarded => FORWARDED,
             Word::Name => NAME,
             Word::PassFields => PASS_FIELDS,
+            Word::Private => PRIVATE,
+            Word::PrivateCookies => PRIVATE_COOKIES,
             Word::Config => CONFIG,
         }
     }

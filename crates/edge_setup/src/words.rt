@@ -3,7 +3,7 @@ ghost use Rattle.std.specs.Prelude.{◌≡◌, option_map, IfOk, MatchOption, Ma
 ghost use Rattle.std.specs.declared.net.socket_addr.SocketAddr.{SocketAddr};
 ghost use Rattle.clap.specs.Words.{first_of, found_of, rows_of};
 ghost use Rattle.edge_setup.specs.Rules.{is_set};
-ghost use Rattle.edge_setup.specs.Words.{are_hosts, fields_of, hosts_of, hosts_said, log_of, log_said, token_of, IsAddress, IsAdmin, IsNoAdmin, HasAddresses, HasLog, HasNumbers, IsFirstWrong, IsRefusedBy, SaysAddresses, SaysSetup, SaysTokens};
+ghost use Rattle.edge_setup.specs.Words.{are_hosts, fields_of, hosts_of, fields_said, hosts_said, log_of, log_said, token_of, IsAddress, IsAdmin, IsNoAdmin, HasAddresses, HasLog, HasNumbers, IsFirstWrong, IsRefusedBy, SaysAddresses, SaysSetup, SaysTokens};
 
 use crate::flag::Flag;
 use crate::flags::Flags;
@@ -12,6 +12,7 @@ use crate::numbers::Numbers;
 use crate::origin::is_name;
 use crate::origins::origins_of;
 use crate::passed_names::are_passed;
+use crate::private::{has_private, private_of};
 use crate::setup::{Addresses, Named, Setup, SetupFault};
 use crate::word::Word;
 use access_log::LogFormat;
@@ -84,17 +85,24 @@ fn hosts_said<'a>(matches: &ArgMatches<'a>) -> Option<Option<&'a str>>
 }
 
 // The names of fields that a word writes, where there is one; `None` if one of them may not be passed.
-fn fields_of(word: Option<&str>) -> Option<Option<&str>>
-    ensures { option_map (λ fields. option_map (λ f. f.now) fields) result ≡ fields_of (option_map (λ w. w.now) word.entry) }
+fn fields_of(has_private: bool, word: Option<&str>) -> Option<Option<&str>>
+    ensures { option_map (λ fields. option_map (λ f. f.now) fields) result ≡ fields_of has_private (option_map (λ w. w.now) word.entry) }
 {
     let Some(fields) = word else {
         return Some(None);
     };
-    if are_passed(fields.as_bytes()) {
+    if are_passed(has_private, fields.as_bytes()) {
         Some(Some(fields))
     } else {
         None
     }
+}
+
+// The names of the fields that are passed.
+fn fields_said<'a>(matches: &ArgMatches<'a>) -> Option<Option<&'a str>>
+    ensures { option_map (λ fields. option_map (λ f. f.now) fields) result ≡ fields_said (rows_of (found_of matches.now)) }
+{
+    fields_of(has_private(matches), Word::PassFields.said(matches))
 }
 
 // The address that a word writes.
@@ -196,7 +204,7 @@ fn tokens_of<'a>(matches: &ArgMatches<'a>) -> Result<Tokens<'a>, Named>
         name: token_of(Word::Name.said(matches)).ok_or(Named::Name)?,
         forwarded: token_of(Word::Forwarded.said(matches)).ok_or(Named::Forwarded)?,
         hosts: hosts_said(matches).ok_or(Named::AdminHost)?,
-        fields: fields_of(Word::PassFields.said(matches)).ok_or(Named::PassFields)?,
+        fields: fields_said(matches).ok_or(Named::PassFields)?,
     })
 }
 
@@ -211,6 +219,7 @@ pub fn setup_of(alloc: Global, matches: &ArgMatches<'_>) -> Result<Setup, SetupF
     let numbers = Numbers::of(alloc, matches)?;
     let log = reported_of(matches)?;
     let tokens = tokens_of(matches)?;
+    let private = private_of(alloc, matches)?;
     let origins = match origins_of(alloc, matches)? {
         Ok(origins) => origins,
         Err(fault) => return Err(SetupFault::Wrong(Named::Origin(fault))),
@@ -225,5 +234,7 @@ pub fn setup_of(alloc: Global, matches: &ArgMatches<'_>) -> Result<Setup, SetupF
         forwarded: copy_of(alloc, tokens.forwarded)?,
         admin_hosts: copy_of(alloc, tokens.hosts)?,
         pass_fields: copy_of(alloc, tokens.fields)?,
+        private: private.prefixes,
+        private_cookies: copy_of(alloc, private.cookies)?,
     })
 }

@@ -9,5 +9,5 @@ use Rattle.edge_setup.proofs.passed_names.are_passed.Goals as goal
 pub returns : goal.returns
 unfolding are_passed
 returns c =
-    let test : List ℕ → Bool = λ name. may_pass (trimmed name) in
+    let test : List ℕ → Bool = λ name. may_pass c.args.has_private (trimmed name) in
     all_from_yields_List test _ _ c.all.result c.all.ensures.ran (YieldsList-from_slice_split _ is_comma c.args.text.now c.split.ensures.rest c.split.ensures.done c.split.ensures.closure (λ x b q k. search (rules, tests))) (λ x b q k. search (rules, tests))

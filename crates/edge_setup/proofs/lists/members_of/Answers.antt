@@ -1,0 +1,16 @@
+-- What is collected are the pieces between the commas, trimmed.
+use Rattle.std.proofs.Common.{rules, tests}
+use Rattle.std.proofs.lemmas.Iterator.{YieldsList-from_map_by}
+use Rattle.std.proofs.lemmas.Iterator.Consumers.{YieldsList-at, map_from_collect}
+use Rattle.std.proofs.lemmas.Iterator.Splits.{YieldsList-from_slice_split}
+use Rattle.edge_types.specs.Blanks.{trimmed}
+use Rattle.edge_setup.specs.Lists.{is_comma}
+use Rattle.edge_setup.proofs.lists.members_of.Goals as goal
+
+pub returns : goal.returns
+returns c =
+    map_from_collect _ c.collect.ensures.ran
+    (YieldsList-from_map_by _ (λ r. r.now) trimmed
+    (YieldsList-at c.map.ensures.source
+    (YieldsList-from_slice_split _ is_comma c.args.text.now c.split.ensures.rest c.split.ensures.done c.split.ensures.closure (λ x b q k. search (rules, tests))))
+    c.map.ensures.closure (λ x r q k. search (rules, tests)))
