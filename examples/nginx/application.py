@@ -31,6 +31,10 @@ class Handler(http.server.BaseHTTPRequestHandler):
             self.send(200, NEWS, SHARED)
         elif path == "/old":
             self.send(301, "", (("Location", "/"), *SHARED))
+        elif path == "/shop":
+            self.send(200, self.news() + ('<esi:include src="/box/name"/>' if self.is_edge else self.box()), SHARED)
+        elif path == "/box/name":
+            self.send(200, self.box(), PRIVATE)
         elif path == "/own":
             self.send(200, self.box(), (("Cache-Control", "private, s-maxage=60"),))
         elif path == "/aged":

@@ -14,9 +14,9 @@ FRAGMENT = sized("HTTP/1.1 200 OK|content-type: text/plain|x-a: of the fragment|
 ONE_BY_ONE_AND_AT_ONCE = ((), ("--fetches", "8"))
 
 
-def lines_of(edge, target, method="GET"):
+def lines_of(edge, target, method="GET", host="a.test", fields=""):
     """The status of a response, and the lines of its head that the edge doesn't write itself, in order."""
-    head = exchange(edge, wire("%s %s HTTP/1.1|host: a.test||" % (method, target))).partition(b"\r\n\r\n")[0]
+    head = exchange(edge, wire("%s %s HTTP/1.1|host: %s|%s|" % (method, target, host, fields))).partition(b"\r\n\r\n")[0]
     first, *lines = head.decode("latin-1").split("\r\n")
     pairs = [line.partition(": ")[::2] for line in lines]
     return int(first.split(" ")[1]), [(name.lower(), value) for name, value in pairs if name.lower() not in OWN]

@@ -61,7 +61,8 @@ def usage_is_told():
         ["--admin", "127.0.0.1:0", "--admin-host", "a b"], ["--admin", "127.0.0.1:0", "--admin-host", "edge.internal:9081"],
         ["--admin", "127.0.0.1:0", "--admin-host", "*"], ["--admin", "127.0.0.1:0", "--admin-host", "a", "--admin-host", "b"],
         ["--forwarded", ""], ["--forwarded", "a b"], ["--forwarded", "f" * 65],
-        ["--pass-fields"], ["--pass-fields", "a", "--pass-fields", "b"], ["--cache-control", "x"], ["--cache-control=yes"], ["--cache-control", "--cache-control"],
+        ["--pass-fields"], ["--pass-fields", "a", "--pass-fields", "b"], ["--private"], ["--private", "http://a.test/", "--private", "http://b.test/"],
+        ["--private-cookies"], ["--private", "http://a.test/", "--private-cookies", "a", "--private-cookies", "b"], ["--cache-control", "x"], ["--cache-control=yes"], ["--cache-control", "--cache-control"],
     )]
     for words in rows:
         status, printed, said = ended(*words)
@@ -117,15 +118,48 @@ NOT_PASSED = (
 def names_of_fields_that_are_not_passed_are_told():
     """No names, an empty one, one that is no token or too long, and those of fields that can't be passed, whatever the case of their
     letters and wherever they stand: status 2, and a line. Other names are taken, with blanks around them."""
-    said = b"error: --pass-fields takes field names with commas between, as location,cache-control, none of a connection, of a body's length, type or coding, nor set-cookie\n"
+    said = b"error: --pass-fields takes field names with commas between, as location,cache-control, none of a connection, of a body's length, type or coding, nor set-cookie without --private\n"
     words = ["", " ", "\t", ",", "a,", ",a", "a,,b", "a, ,b", "a b", "a\n", "a:", "a\u00e9", "n" * 65, "a," + "n" * 65]
     for name in NOT_PASSED:
         words += [name, name.title(), name.upper() + ",location", "location ,\t%s " % name]
     for word in words:
         same(repr(word), (2, b"", said), ended("--listen", "127.0.0.1:0", "--pass-fields=" + word))
+    for name in NOT_PASSED:
+        if name != "set-cookie":
+            same(name + " beside private URLs", (2, b"", said), ended("--listen", "127.0.0.1:0", "--private", "http://a.test/", "--pass-fields", name))
     for word in ("location", " location ,\tX-A\t", "n" * 64, "!#$%&'*+-.^_`|~", *("x" + name for name in NOT_PASSED)):
         status, printed, _ = ended("--listen", "127.0.0.1:0", "--pass-fields=" + word, "--accept", "0")
         same(repr(word), (0, True), (status, printed.startswith(b"listening on ")))
+
+
+def prefixes_that_are_none_are_told():
+    """No prefix, an empty one, one that is no URL as the edge writes it, and one with no `/` at its end or with a query: status 2, and a
+    line. Other prefixes are taken, with blanks around them."""
+    said = b"error: --private takes URL prefixes with commas between, as http://shop.test/box/, each with its host and a / at its end\n"
+    one = "http://a.test/"
+    words = [
+        "", " ", ",", one + ",", "," + one, one + ",," + one, "/", "/box/", "a.test/", "http://", "http:///", "http://a.test", "http://a.test/box", "http://A.test/", "HTTP://a.test/",
+        "http://a.test:80/", "https://a.test/", "http://me@a.test/", "http://a.test/x/../box/", "http://a.test/./", "http://a.test/a b/", "http://a.test/#/", "http://a.test/?/", "http://a.test/box/?a=1",
+        "http://a.test\\box/", "http://*/box/", "http://*.a.test/", "http://a.test/*/", "http://a.test/" + "b" * 2048 + "/", one + " " + one, one + ", http://a.test/box",
+    ]
+    for word in words:
+        same(repr(word), (2, b"", said), ended("--listen", "127.0.0.1:0", "--private=" + word))
+    for word in (one, " http://a.test/ ,\thttp://a.test:8080/a/b%20c/\t", "http://[::1]:8080/", one + "," + one):
+        status, printed, _ = ended("--listen", "127.0.0.1:0", "--private=" + word, "--accept", "0")
+        same(repr(word), (0, True), (status, printed.startswith(b"listening on ")))
+
+
+def names_of_cookies_that_are_none_are_told():
+    """No names, an empty one, one that is no token or too long, and any where no URL is private: status 2, and a line. Other names are
+    taken, with blanks around them; and then `set-cookie` may be passed."""
+    said = b"error: --private-cookies takes names of cookies with commas between, as SHOPSESS, beside --private\n"
+    here, private = ("--listen", "127.0.0.1:0"), "--private=http://a.test/"
+    for word in ("", " ", ",", "a,", ",a", "a,,b", "a b", "a=b", "a;b", "a\"", "a\u00e9", "n" * 65):
+        same(repr(word), (2, b"", said), ended(*here, private, "--private-cookies=" + word))
+    same("no private URL", (2, b"", said), ended(*here, "--private-cookies", "SHOPSESS"))
+    for words in (["SHOPSESS"], [" SHOPSESS ,\tother\t"], ["n" * 64], ["a,a"], ["a", "--pass-fields", "Set-Cookie, location"]):
+        status, printed, _ = ended(*here, private, "--private-cookies", *words, "--accept", "0")
+        same(repr(words), (0, True), (status, printed.startswith(b"listening on ")))
 
 
 def the_name_of_a_host_is_looked_up():
@@ -158,7 +192,7 @@ def connections_that_no_files_are_left_for_are_told():
 
 def limits_are_taken():
     """The largest and the smallest of each number, an address of IPv6, and a thousand origins."""
-    most = [word for it in numbers() for word in ("--" + it.name, it.most)] + ["--name", "n" * 64, "--pass-fields", "n" * 64, "--head", "--abort-on-close", "--cache-control"]
+    most = [word for it in numbers() for word in ("--" + it.name, it.most)] + ["--name", "n" * 64, "--pass-fields", "n" * 64, "--private", "http://" + "n" * 63 + ".test/" + "n" * 1900 + "/", "--private-cookies", "n" * 64, "--head", "--abort-on-close", "--cache-control", "--etag"]
     # A server that accepts nobody answers nobody.
     least = [word for it in numbers() if it.name != "accept" for word in ("--" + it.name, it.least)] + ["--name", "~"]
     many = [word for at in range(1000) for word in ("--origin", "%d.test=127.0.0.1:80" % at)]
@@ -210,6 +244,8 @@ TESTS = (
     help_says_what_the_document_says,
     what_an_origin_is_instead_is_told,
     names_of_fields_that_are_not_passed_are_told,
+    prefixes_that_are_none_are_told,
+    names_of_cookies_that_are_none_are_told,
     the_name_of_a_host_is_looked_up,
     connections_that_no_files_are_left_for_are_told,
     limits_are_taken,

@@ -51,6 +51,10 @@ class Lasting(Listening):
         with self.lock:
             self.open -= 1
 
+    def answer_to(self, head, count):
+        """What is sent for a head that comes after so many others over its connection, and whether the connection ends."""
+        return self.answer(head.split(b" ")[1].decode(), count)
+
     def serve_all(self, connection):
         came, count, ends = b"", 0, False
         while not ends:
@@ -62,7 +66,7 @@ class Lasting(Listening):
             head, end, came = came.partition(b"\r\n\r\n")
             with self.lock:
                 self.heads.append(head + end)
-            sent, ends = self.answer(head.split(b" ")[1].decode(), count)
+            sent, ends = self.answer_to(head + end, count)
             for piece in sent if isinstance(sent, tuple) else (sent,):
                 connection.sendall(piece) if isinstance(piece, bytes) else time.sleep(piece)
             count += 1
