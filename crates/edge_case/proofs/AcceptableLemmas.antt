@@ -29,7 +29,7 @@ printables-decide text = Decides-by_and is_printable IsPrintable (list_all is_pr
 no_fields : AreHeadFields []
 no_fields = record { valid = λ k d within. absurd (omega arith); short = omega arith }
 
-pub acceptable-decides : (status : ℕ) (content_type body : List ℕ) → Decides (is_acceptable status content_type body) (IsAcceptable (head_of status content_type) body)
+pub acceptable-decides : (status : ℕ) (content_type body : List ℕ) → Decides (is_acceptable status content_type body) (IsAcceptable MAX_BODY (head_of status content_type) body)
 unfolding is_acceptable
 acceptable-decides status content_type body =
     Decides-like (is_acceptable status content_type body)
@@ -45,7 +45,7 @@ acceptable-decides status content_type body =
     (printables-decide content_type)))))
 
 -- what the edge doesn't take in gives nothing
-refused : (status : ℕ) (content_type control body u : List ℕ) → (IsAcceptable (head_of status content_type) body → ⊥) → got_from status content_type control body u ≡ None
+refused : (status : ℕ) (content_type control body u : List ℕ) → (IsAcceptable MAX_BODY (head_of status content_type) body → ⊥) → got_from status content_type control body u ≡ None
 unfolding got_from
 refused status content_type control body u h =
     cond-false (is_acceptable status content_type body) _ None (false_from_ne_true _ (λ e. h ((acceptable-decides status content_type body).0 e)))
@@ -56,7 +56,7 @@ got_from_none status content_type control body u h = refused status content_type
 
 -- what `Answer::got` gives
 got_from_is : (result : Option Answered) (status : ℕ) (content_type control body u : List ℕ)
-    → (IsSome result ↔ IsAcceptable (head_of status content_type) body) → IfSome result (λ answer. answer ≡ got u (head_of status content_type) (control_of control device) body)
+    → (IsSome result ↔ IsAcceptable MAX_BODY (head_of status content_type) body) → IfSome result (λ answer. answer ≡ got u (head_of status content_type) (control_of control device) body)
     → result ≡ got_from status content_type control body u
 unfolding got_from
 got_from_is None status content_type control body u when value = sym (refused status content_type control body u (λ a. false≢true (when.1 a)))
@@ -66,7 +66,7 @@ got_from_is (Some answer) status content_type control body u when value =
 -- the same, of copies of the parts
 pub got_from_copies : (result : Option Answered) (status : ℕ) (content_type control body u type_copy body_copy : List ℕ) (asks : Control)
     → type_copy ≡ content_type → body_copy ≡ body → asks ≡ control_of control device
-    → (IsSome result ↔ IsAcceptable (head_of status type_copy) body_copy) → IfSome result (λ answer. answer ≡ got u (head_of status type_copy) asks body_copy)
+    → (IsSome result ↔ IsAcceptable MAX_BODY (head_of status type_copy) body_copy) → IfSome result (λ answer. answer ≡ got u (head_of status type_copy) asks body_copy)
     → result ≡ got_from status content_type control body u
 got_from_copies result status content_type control body u type_copy body_copy asks e f g when value =
     rw (← e, ← f) (got_from_is result status type_copy control body_copy u when (rw g at value))

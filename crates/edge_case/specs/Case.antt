@@ -32,7 +32,7 @@ device = own_device
 
 -- what was fetched, within the limits of the edge, at a URL
 pub record IsGot (status : ℕ) (u : List ℕ) (content_type control : Option (List ℕ)) (body : List ℕ) (answer : Answered) : Type 0 where
-  pub acceptable : IsAcceptable (head_of status (value_or_empty content_type)) body
+  pub acceptable : IsAcceptable 262144 (head_of status (value_or_empty content_type)) body
   pub says : answer ≡ got u (head_of status (value_or_empty content_type)) (control_of (value_or_empty control) device) body
 
 -- a written answer denotes this one

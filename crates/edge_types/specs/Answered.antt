@@ -19,15 +19,15 @@ failed url = record { url = url; reply = Failed }
 abbrev pub got : List ℕ → Head → Control → List ℕ → Answered
 got url head control body = record { url = url; reply = Got head control body }
 
--- which answers the edge accepts
-pub record IsAcceptable (said : Head) (body : List ℕ) : Type 0 where
+-- which answers the edge accepts, if a body may have this many bytes
+pub record IsAcceptable (most : ℕ) (said : Head) (body : List ℕ) : Type 0 where
   pub head : HeadLimits said
-  pub body_length : length body ≤ 262144
+  pub body_length : length body ≤ most
 
--- a failure, or an answer that the edge accepts
+-- a failure, or an answer that the edge accepts under some limit
 abbrev pub IsWithinLimits : Reply → Type 0
 IsWithinLimits Failed = ⊤
-IsWithinLimits (Got head control body) = IsAcceptable head body
+IsWithinLimits (Got head control body) = IsAcceptable 16777216 head body
 
 -- the fetch gave a resource
 abbrev pub succeeded : Reply → Bool

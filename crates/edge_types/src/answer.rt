@@ -10,8 +10,11 @@ use crate::page_url::PageUrl;
 use crate::shared_bytes::SharedBytes;
 use std::marker::Model;
 
-/// The longest body, in bytes.
+/// The longest body where no other limit is set, in bytes.
 pub const MAX_BODY: usize = 262_144;
+
+/// The longest body that a limit may allow, in bytes.
+pub const LARGEST_BODY: usize = 16_777_216;
 
 /// The result of fetching a URL.
 #[derive(Drop, PartialEq, Eq)]
@@ -62,7 +65,7 @@ impl Answer {
 
     /// The answer of a URL with this status, content type and body, and nothing else in its head. Takes no memory.
     ///
-    /// `None` where `of_head` says so.
+    /// `None` where `of_head` says so, or if the body is longer than `MAX_BODY` bytes.
     pub fn got(
         url: PageUrl,
         status: u16,
@@ -70,21 +73,24 @@ impl Answer {
         control: Control,
         body: SharedBytes,
     ) -> Option<Answer>
-        ensures limits { IsSome result ↔ IsAcceptable (head_of status content_type) body }
+        ensures limits { IsSome result ↔ IsAcceptable MAX_BODY (head_of status content_type) body }
         ensures value { IfSome result (λ answer. answer ≡ got url (head_of status content_type) control body) }
     {
+        if MAX_BODY < body.len() {
+            return None;
+        }
         Answer::of_head(url, Head::of(status, content_type), control, body)
     }
 
     /// The answer of a URL with this head and body. Takes no memory.
     ///
-    /// `None` if the edge doesn't accept the head (`Head::is_acceptable`), or the body is longer than `MAX_BODY`
-    /// bytes; the arguments are dropped then.
+    /// `None` if the edge doesn't accept the head (`Head::is_acceptable`), or the body is longer than
+    /// `LARGEST_BODY` bytes; the arguments are dropped then.
     pub fn of_head(url: PageUrl, head: Head, control: Control, body: SharedBytes) -> Option<Answer>
-        ensures limits { IsSome result ↔ IsAcceptable head body }
+        ensures limits { IsSome result ↔ IsAcceptable LARGEST_BODY head body }
         ensures value { IfSome result (λ answer. answer ≡ got url head control body) }
     {
-        if !head.is_acceptable() || MAX_BODY < body.len() {
+        if !head.is_acceptable() || LARGEST_BODY < body.len() {
             return None;
         }
         Some(Answer {

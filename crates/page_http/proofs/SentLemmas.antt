@@ -65,7 +65,7 @@ carried fields short valid k d within =
     }
 
 pub carries_answers : CarriesAnswers
-carries_answers head body taken = record {
+carries_answers most head body taken = record {
   status_from = taken.head.status_from;
   status_to = taken.head.status_to;
   type_value = λ k d within.

@@ -27,7 +27,7 @@ TellsOneThing = (outcome : Outcome) (one other : Sent) → Tells outcome one →
 -- HTTP carries the head of every answer that the edge accepts
 abbrev pub CarriesAnswers : Type 0
 CarriesAnswers =
-    (head : Head) (body : List ℕ) → IsAcceptable head body → IsSendable head
+    (most : ℕ) (head : Head) (body : List ℕ) → IsAcceptable most head body → IsSendable head
 
 -- the bytes that came, whatever lack of memory was reported in between
 abbrev pub bytes_of : List (Result (Frame (List ℕ)) AllocError) → List ℕ
