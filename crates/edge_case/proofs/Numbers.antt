@@ -6,8 +6,8 @@ use Rattle.std.proofs.lemmas.Str.Parse.{digits_value_short, not_in_digits}
 use Rattle.std.specs.Char.{is_ascii_digit}
 use Rattle.std.specs.List.{list_all}
 use Rattle.std.specs.Str.Parse.{digits_value}
-use Rattle.decimals.specs.Decimal.{decimal_of}
-use Rattle.decimals.proofs.Decimals.{AreDigits, own, short_digits}
+use Rattle.edge_types.specs.Decimal.{decimal_of}
+use Rattle.edge_types.proofs.DecimalLemmas.{AreDigits, own, short_digits}
 use Rattle.edge_case.specs.declared.number.TheConstants.{MAX_DIGITS, MAX_NUMBER}
 use Rattle.edge_case.specs.Reading.{has_needless_zero, is_number, number_of}
 use Rattle.edge_case.proofs.Steps.{guarded}

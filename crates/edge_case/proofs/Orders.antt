@@ -10,8 +10,8 @@ use Rattle.std.proofs.lemmas.List.{length-drop}
 use Rattle.std.proofs.lemmas.Bool.{eqb-true, ne_eqb, leb-true, le-leb, ltb-true, cond-true}
 use Rattle.std.proofs.lemmas.Option.{none-some}
 use Rattle.std.proofs.lemmas.Slice.Eq.{bytes_eq-Decides}
-use Rattle.decimals.specs.Decimal.{decimal_of}
-use Rattle.decimals.proofs.Decimals.{decimal_sound, decimal_complete, short_value}
+use Rattle.edge_types.specs.Decimal.{decimal_of}
+use Rattle.edge_types.proofs.DecimalLemmas.{decimal_sound, decimal_complete, short_value}
 use Rattle.edge_types.specs.Halves.{around}
 use Rattle.plan_runner.specs.declared.events.Event.{Event}
 use Rattle.plan_runner.specs.declared.events.Event.TheVariants.{Claim, Post, Advance}

@@ -3,7 +3,7 @@ use Rattle.std.specs.Prelude.{◌≡◌, ℕ, ◌<◌, ◌≤◌, ◌==◌, nat_
 use Rattle.std.specs.Option.{option_map}
 use Rattle.std.specs.List.{slice_split, join_with_byte}
 use Rattle.std.specs.Str.{byte}
-use Rattle.decimals.specs.Decimal.{WritesNumber, decimal_of}
+use Rattle.edge_types.specs.Decimal.{WritesNumber, decimal_of}
 use Rattle.plan_runner.specs.declared.events.Event.{Event}
 use Rattle.plan_runner.specs.declared.events.Event.TheVariants.{Claim, Post, Advance}
 use Rattle.edge_case.specs.Reading.{◌>>=◌}

@@ -2,7 +2,7 @@
 ghost use Rattle.std.specs.Prelude.{◌≡◌};
 ghost use Rattle.edge_case.specs.Reading.{has_needless_zero, number_of};
 
-use decimals::decimal_of;
+use edge_types::decimal_of;
 
 /// The most digits of a number: the longest body needs them; a status needs fewer.
 pub(crate) const MAX_DIGITS: usize = 6;

@@ -4,8 +4,7 @@ ghost use Rattle.std.specs.Option.{option_map};
 ghost use Rattle.edge_case.specs.Order.{place_of, event_of, events_of, after_item};
 
 use crate::line::COMMA;
-use decimals::decimal_of;
-use edge_types::{NoMemory, around};
+use edge_types::{NoMemory, around, decimal_of};
 use plan_runner::Event;
 use std::alloc::Global;
 

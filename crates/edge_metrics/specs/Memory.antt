@@ -2,7 +2,7 @@
 -- which the second is that of the resident ones.
 use Rattle.std.specs.Prelude.{ℕ, ◌*◌, ◌-◌, ◌^◌, List, Option, option_and_then, option_map}
 use Rattle.std.specs.Str.{byte}
-use Rattle.decimals.specs.Decimal.{decimal_of}
+use Rattle.edge_types.specs.Decimal.{decimal_of}
 use Rattle.edge_types.specs.Halves.{around}
 
 -- the second of several fields, behind which a space stands

@@ -4,8 +4,7 @@ ghost use Rattle.std.specs.Prelude.{◌≡◌};
 ghost use Rattle.std.specs.Option.{option_copied};
 ghost use Rattle.edge_metrics.specs.Memory as spec;
 
-use decimals::decimal_of;
-use edge_types::around;
+use edge_types::{around, decimal_of};
 
 // The bytes of a page.
 const PAGE: u64 = 4_096;

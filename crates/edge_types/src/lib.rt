@@ -1,11 +1,12 @@
 //! The values that every layer of the edge speaks of: URLs, answers, requests, tables and outcomes; and the small readers
-//! of bytes that several layers share: white space, blanks, tokens, and the first place of a byte.
+//! of bytes that several layers share: white space, blanks, tokens, decimal numbers, and the first place of a byte.
 #![tactic(auto)]
 
 mod answer;
 mod blanks;
 mod compare;
 mod control;
+mod decimal;
 mod halves;
 mod head;
 mod head_fields;
@@ -22,9 +23,10 @@ mod table;
 mod token;
 mod white_space;
 
-pub use answer::{Answer, MAX_BODY, Reply};
+pub use answer::{Answer, LARGEST_BODY, MAX_BODY, Reply};
 pub use blanks::{is_blank, skip_blanks, trimmed};
 pub use control::Control;
+pub use decimal::decimal_of;
 pub use halves::{around, find_byte};
 pub use head::{Head, MAX_CONTENT_TYPE, MAX_STATUS, MIN_STATUS, is_content_type};
 pub use head_fields::{HeadField, HeadFields, MAX_FIELDS};

@@ -1,7 +1,7 @@
 -- How long a server that is to stop may take.
 use Rattle.std.specs.Prelude.{ℕ, ◌+◌, ◌-◌, ◌*◌, ◌^◌, min, Bool, false, nat_le, List, length, take, drop, codes, bytes_eq, ◌==◌, Option, Some, None, if◌then◌else◌}
 use Rattle.std.specs.Option.{option_map}
-use Rattle.decimals.specs.Decimal.{decimal_of}
+use Rattle.edge_types.specs.Decimal.{decimal_of}
 use Rattle.operator_http.specs.declared.grace.Grace.{Grace}
 use Rattle.operator_http.specs.declared.grace.Grace.TheVariants as grace
 

@@ -3,7 +3,7 @@
 ghost use Rattle.std.specs.Prelude.{◌≡◌};
 ghost use Rattle.operator_http.specs.Stopped as spec;
 
-use decimals::decimal_of;
+use edge_types::decimal_of;
 
 // The most seconds of a grace.
 const MOST_SECONDS: u64 = u32::MAX as u64;

@@ -4,8 +4,8 @@ use Rattle.std.proofs.lemmas.Bool.{and_from}
 use Rattle.std.proofs.lemmas.Bool.Decides.{nat_tests}
 use Rattle.std.proofs.lemmas.Int.Digits.{digits_value_more}
 use Rattle.std.proofs.lemmas.List.Folds.{list_all_more}
-use Rattle.decimals.proofs.Decimals.{capped}
-use Rattle.decimals.proofs.decimal.decimal_of.Goals as goal
+use Rattle.edge_types.proofs.DecimalLemmas.{capped}
+use Rattle.edge_types.proofs.decimal.decimal_of.Goals as goal
 
 pub loop-digit-preserved : goal.loop-digit-preserved
 loop-digit-preserved c =

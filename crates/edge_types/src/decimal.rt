@@ -1,6 +1,6 @@
 //! Decimal numbers of up to 64 bits.
 ghost use Rattle.std.specs.Prelude.{◌≡◌, ◌≤◌, IfSome};
-ghost use Rattle.decimals.specs.Decimal.{decimal_of};
+ghost use Rattle.edge_types.specs.Decimal.{decimal_of};
 
 /// The number that a text writes in decimal digits, with any number of leading zeros; `None` if it
 /// isn't one, or is above `most`. Takes no memory.
