@@ -45,8 +45,8 @@ fn has_name(names: &[u8], cookie: &[u8]) -> bool
     }
 }
 
-// Whether a name is a member of the list.
-fn is_member(names: &[u8], name: &[u8]) -> bool
+/// Whether a name is a member of a list, in which commas stand between the names, and blanks may stand around each.
+pub(crate) fn is_member(names: &[u8], name: &[u8]) -> bool
     ensures { result ≡ spec.is_member names.now name.now }
 {
     names

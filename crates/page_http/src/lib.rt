@@ -10,6 +10,7 @@ mod entity_tag;
 mod field;
 mod head;
 pub mod laws;
+mod named_lines;
 mod passed;
 mod response;
 
@@ -18,5 +19,6 @@ pub use cookies::cookies_named;
 pub use entity_tag::entity_tag_of;
 pub use field::Field;
 pub use head::{HeadFault, answer_head};
+pub use named_lines::lines_named;
 pub use passed::{has_passed, passed_edges};
 pub use response::{refusal_of, response_of};

@@ -68,6 +68,20 @@ pub fn cookies_named(alloc: Global, row: &[u8], line: &mut Line) -> Option<()> {
     Some(())
 }
 
+/// A row is names with commas between, and the lines of a head, with a bar before each, as is each that is printed.
+pub fn lines_named(alloc: Global, row: &[u8], line: &mut Line) -> Option<()> {
+    let (names, lines) = around(b'|', row).unwrap_or((row, b""));
+    let fields = fields(alloc, lines)?;
+    let named = page_http::lines_named(alloc, names, fields.as_slice()).ok()?;
+    for field in named.as_slice() {
+        line.push("|");
+        line.show(field.name.as_bytes());
+        line.push(" ");
+        line.show(field.value.as_bytes());
+    }
+    Some(())
+}
+
 /// A row is two bytes as numbers; those in this range that may be in a host are printed.
 pub fn hosts(alloc: Global, row: &[u8], line: &mut Line) -> Option<()> {
     let (first, last) = pair(row);

@@ -104,6 +104,7 @@ fn answer_of_pages(rt: &HostRuntime, table: &str, row: &[u8], line: &mut Line) -
         "has_passed" => heads::has_passed(alloc, row, line),
         "passed_edges" => heads::passed_edges(alloc, row, line),
         "cookies_named" => heads::cookies_named(alloc, row, line),
+        "lines_named" => heads::lines_named(alloc, row, line),
         "hosts" => heads::hosts(alloc, row, line),
         "response_of" => responses::response_of(rt, row, line),
         "fields" => responses::fields(rt, row, line),

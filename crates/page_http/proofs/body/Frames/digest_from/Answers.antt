@@ -8,18 +8,20 @@ use Rattle.page_http.specs.Frames.{frames_in}
 use Rattle.page_http.proofs.FrameLemmas.{left-next, none-left}
 use Rattle.page_http.proofs.body.Frames.digest_from.Goals as goal
 
+-- the bytes before the next frame and its own, and those after it
+one-more : (frames : List (List ℕ)) (n : ℕ) (bytes m : List ℕ) → slice_get frames n ≡ Some bytes
+    → (m ++ bytes) ++ joined (drop (n + 1) frames) ≡ m ++ joined (drop n frames)
+one-more frames n bytes m some =
+    append_assoc m bytes (joined (drop (n + 1) frames))
+    ∙ ap (λ (left : List (List ℕ)). m ++ joined left) (sym (left-next frames n bytes some))
+
 pub loop-frame-preserved-in-Some : goal.loop-frame-preserved-in-Some
 loop-frame-preserved-in-Some c =
     let frames = frames_in c.args.self.now in
     let bytes = c.deref.result.now in
     let some : slice_get frames c.loop-frame.next ≡ Some bytes = search rules in
-    let (m, held, whole) = c.loop-frame.invariant in (
-      m ++ bytes,
-      c.update.ensures m held,
-      append_assoc m bytes (joined (drop (c.loop-frame.next + 1) frames))
-          ∙ ap (λ (left : List (List ℕ)). m ++ joined left) (sym (left-next frames c.loop-frame.next bytes some))
-          ∙ whole,
-    )
+    let (m, held, whole) = c.loop-frame.invariant in
+    (m ++ bytes, c.update.ensures m held, one-more frames c.loop-frame.next bytes m some ∙ whole)
 
 pub loop-frame-smaller : goal.loop-frame-smaller
 loop-frame-smaller c =
@@ -32,13 +34,8 @@ loop-frame-preserved c =
     let frames = frames_in c.args.self.now in
     let bytes = c.deref.result.now in
     let some : slice_get frames c.loop-frame.next ≡ Some bytes = search rules in
-    let (m, held, whole) = c.loop-frame.invariant in (
-      m ++ bytes,
-      c.update.ensures m held,
-      append_assoc m bytes (joined (drop (c.loop-frame.next + 1) frames))
-          ∙ ap (λ (left : List (List ℕ)). m ++ joined left) (sym (left-next frames c.loop-frame.next bytes some))
-          ∙ whole,
-    )
+    let (m, held, whole) = c.loop-frame.invariant in
+    (m ++ bytes, c.update.ensures m held, one-more frames c.loop-frame.next bytes m some ∙ whole)
 
 pub returns : goal.returns
 returns c =
