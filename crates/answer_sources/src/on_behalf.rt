@@ -4,7 +4,7 @@ ghost use Rattle.std.specs.Prelude.{◌≡◌, ◌&&◌, ◌==◌, ℕ, List, le
 ghost use Rattle.edge_types.specs.Answered.{Answered};
 
 use crate::answers::Answers;
-use edge_types::NoMemory;
+use edge_types::{HeadFields, NoMemory};
 use std::alloc::Global;
 
 /// What a source may tell of a request to those whom it asks.
@@ -12,16 +12,16 @@ use std::alloc::Global;
 pub struct Behalf<'a> {
     /// The edges that the request has passed, a list as in `CDN-Loop`, so that a circle of several edges ends.
     pub passed: &'a [u8],
-    /// The cookies of its reader, as in `Cookie`: they are told for private URLs alone.
-    pub cookies: &'a [u8],
+    /// Fields of its head that are its reader's own: they are told for private URLs alone.
+    pub own: &'a HeadFields,
 }
 
 impl Behalf<'_> {
     /// Whether there is nothing to tell.
     pub fn is_empty(&self) -> bool
-        ensures { result ≡ (length self.now.passed.now == 0 && length self.now.cookies.now == 0) }
+        ensures { result ≡ (length self.now.passed.now == 0 && length self.now.own.now == 0) }
     {
-        self.passed.is_empty() && self.cookies.is_empty()
+        self.passed.is_empty() && self.own.as_slice().is_empty()
     }
 }
 
@@ -33,7 +33,7 @@ pub trait OnBehalf<R>: Answers<R> {
     ///
     /// `NoMemory` if an allocation fails.
     ///
-    /// Source: RFC 8586, "The CDN-Loop Request Header Field"; RFC 6265, "The Cookie Header"; our profile.
+    /// Source: RFC 8586, "The CDN-Loop Request Header Field"; our profile.
     fn on_behalf(&self, _alloc: Global, _behalf: Behalf<'_>) -> Result<Option<Self>, NoMemory>
     where
         Self: Sized,

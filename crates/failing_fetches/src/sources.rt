@@ -6,7 +6,7 @@ use answer_sources::{
     Answers, Behalf, Clock as Seconds, Given, OnBehalf, OneByOne, Source, TableSource,
 };
 use edge_connections::ServerRuntime;
-use edge_types::{NoMemory, PageUrl, SharedBytes, Table};
+use edge_types::{HeadField, HeadFields, NoMemory, Octets, PageUrl, SharedBytes, Table};
 use fragment_cache::UrlHashing;
 use hyper_source::{EdgeName, HyperSource, Origin};
 use shared_cache::Cache;
@@ -162,8 +162,9 @@ where
     let edge = EdgeName::of(alloc, b"edge-1").ok()??;
     let source = HyperSource::new(rt, alloc, Vec::new(alloc), None).ok()?;
     let cache = Cache::new(alloc, source.named(edge), Still, CAPACITY).ok()?;
+    let own = own_fields(alloc)?;
     calls(rt, name)?;
-    let made = made_for(rt, &cache);
+    let made = made_for(rt, &cache, &own);
     answers(rt)?;
     match &made {
         Ok(Some(made)) => print_again(rt, made, "/x"),
@@ -190,14 +191,26 @@ where
     }
 }
 
-fn made_for<R, S>(rt: &R, source: &S) -> Result<Option<S>, NoMemory>
+// Fields of a reader, of which each source shares one list.
+fn own_fields(alloc: Global) -> Option<HeadFields> {
+    let mut fields = Vec::new(alloc);
+    fields
+        .push(HeadField {
+            name: Octets::copy_of(alloc, b"cookie").ok()?,
+            value: Octets::copy_of(alloc, b"session=1").ok()?,
+        })
+        .ok()?;
+    HeadFields::of(alloc, fields).ok()
+}
+
+fn made_for<R, S>(rt: &R, source: &S, own: &HeadFields) -> Result<Option<S>, NoMemory>
 where
     R: AllocGlobal,
     S: OnBehalf<R>,
 {
     let behalf = Behalf {
         passed: b"edge-2",
-        cookies: b"session=1",
+        own,
     };
     source.on_behalf(rt.alloc(), behalf)
 }

@@ -9,3 +9,4 @@ pub mod Lines
 pub mod Methods
 pub mod Forwarded
 pub mod Circles
+pub mod OwnFields

@@ -8,6 +8,7 @@ mod faults;
 mod finishing;
 mod forwarded;
 mod journal;
+mod own_fields;
 mod page_time;
 mod privacy;
 mod responding;

@@ -5,23 +5,23 @@ ghost use Rattle.std.specs.Arc.{arc_value};
 ghost use Rattle.http_header.specs.FieldName.{IsFieldName};
 ghost use Rattle.http_header.specs.Token.{lowercase};
 ghost use Rattle.http_header.specs.declared.name.HeaderNameError.TheVariants as header_name_error;
-ghost use Rattle.page_http.specs.Cookies.{cookies_named};
 ghost use Rattle.page_http.specs.Passed.{passed_edges};
 ghost use Rattle.hyper_edge.specs.Circles.{is_circle};
 ghost use Rattle.hyper_edge.specs.Lines.{line, lines_of};
 ghost use Rattle.hyper_edge.specs.Methods.{answered_as};
 
 use crate::forwarded::client_of;
+use crate::own_fields::own_fields;
 use crate::page_time::WithinTime;
 use crate::responding::{Begun, RequestHead, begin_response, no_room, refused};
 use access_log::Reason;
 use answer_sources::{Behalf, ConcurrentSource, OnBehalf};
 use edge_connections::{ClientWatch, DateClock, deadline, watch_of};
-use edge_types::NoMemory;
+use edge_types::{HeadFields, NoMemory};
 use fetch_workers::Assembling;
 use http::header::{HeaderName, HeaderNameError, HeaderValue};
 use http::{HeaderMap, Request, Uri};
-use page_http::{Field, cookies_named, has_passed, passed_edges};
+use page_http::{Field, has_passed, passed_edges};
 use std::alloc::Global;
 use std::borrow::CowStr;
 use std::hash::RandomState;
@@ -54,7 +54,8 @@ pub struct EdgeService<S, R> {
     gives_tags: bool,
     // The name by which the edge knows a request that it has sent itself.
     name: Option<Vec<u8>>,
-    // The names of the cookies that origins of private URLs are told, with commas between.
+    // The names of the fields and of the cookies that origins of private URLs are told, with commas between.
+    private_fields: Option<Vec<u8>>,
     private_cookies: Option<Vec<u8>>,
     // The field by which a trusted proxy names the client.
     forwarded: Option<HeaderName>,
@@ -84,6 +85,7 @@ impl<S: Drop, R: Drop> EdgeService<S, R> {
             answers_head: false,
             gives_tags: false,
             name: None,
+            private_fields: None,
             private_cookies: None,
             forwarded: None,
             keys,
@@ -142,6 +144,17 @@ impl<S: Drop, R: Drop> EdgeService<S, R> {
         ensures { result ≡ record self { name = Some name } }
     {
         self.name = Some(name);
+        self
+    }
+
+    /// The same, and the source is told of each request the fields of these names, which are in lower case and have commas
+    /// between, for private URLs.
+    ///
+    /// Our profile.
+    pub fn telling_fields(mut self, names: Vec<u8>) -> EdgeService<S, R>
+        ensures { result ≡ record self { private_fields = Some names } }
+    {
+        self.private_fields = Some(names);
         self
     }
 
@@ -222,12 +235,17 @@ where
         begin_response(rt, alloc, source, &head, self.how)
     }
 
+    // What the source is told of a request with these lines.
+    fn own_fields(&self, fields: &[Field<'_>]) -> Result<HeadFields, NoMemory> {
+        let names = self.private_fields.as_deref();
+        own_fields(self.alloc, names, self.private_cookies.as_deref(), fields)
+    }
+
     // The source for a request with these lines that has passed these edges: one of its own, where it needs one.
     fn source_for(&self, passed: &[u8], fields: &[Field<'_>]) -> Result<Arc<S>, NoMemory> {
-        let cookies = cookies_told(self.alloc, self.private_cookies.as_deref(), fields)?;
         let behalf = Behalf {
             passed,
-            cookies: cookies.as_slice(),
+            own: &self.own_fields(fields)?,
         };
         if !behalf.is_empty() {
             if let Some(own) = self.source.on_behalf(self.alloc, behalf)? {
@@ -297,20 +315,6 @@ fn passed_by(alloc: Global, name: Option<&[u8]>, fields: &[Field<'_>]) -> Result
 {
     match name {
         Some(_) => passed_edges(alloc, fields),
-        None => Ok(Vec::new(alloc)),
-    }
-}
-
-// The cookies of a request with these lines that the source is told, where some are named.
-fn cookies_told(
-    alloc: Global,
-    names: Option<&[u8]>,
-    fields: &[Field<'_>],
-) -> Result<Vec<u8>, NoMemory>
-    ensures { IfOk result (λ cookies. MatchOption names.entry (cookies.items ≡ []) (λ names. cookies.items ≡ cookies_named names.now fields.now)) }
-{
-    match names {
-        Some(names) => cookies_named(alloc, names, fields),
         None => Ok(Vec::new(alloc)),
     }
 }

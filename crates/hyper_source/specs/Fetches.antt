@@ -1,5 +1,5 @@
 -- What a fetch results in.
-use Rattle.std.specs.Prelude.{◌≡◌, ℕ, ◌<◌, ◌≤◌, ◌⊎◌, ⊤, Bool, true, false, ◌&&◌, List, [], codes, Option, Some, None, is_some, Result, IfOk, IsErr, MatchOption, if◌then◌else◌}
+use Rattle.std.specs.Prelude.{◌≡◌, ℕ, ◌<◌, ◌≤◌, ◌⊎◌, ⊤, Bool, true, false, ◌&&◌, List, [], length, codes, Option, Some, None, is_some, Result, IfOk, IsErr, MatchOption, if◌then◌else◌}
 use Rattle.std.specs.List.{join_by}
 use Rattle.edge_types.specs.Answered.{failed}
 use Rattle.edge_types.specs.Head.{IsContentType, is_success}
@@ -19,6 +19,7 @@ use Rattle.hyper_source.specs.declared.gathered.Lost.TheVariants.{Fault, NoMemor
 use Rattle.hyper_source.specs.declared.head_rules.HeadRules.{HeadRules}
 use Rattle.hyper_source.specs.Heads.{EndsByClose, is_coded}
 use Rattle.hyper_source.specs.Passing.{fields_passed}
+use Rattle.hyper_source.specs.Lengths.{most_bytes, allow}
 use Rattle.hyper_source.specs.declared.answers.Fetched.{Fetched}
 use Rattle.fetch_outcomes.specs.declared.fetch_fault.FetchFault.{FetchFault}
 
@@ -101,6 +102,19 @@ HasHead rules (Got head control body) parts = SaysHead rules parts head
 abbrev pub HasControl : HeadRules → Reply → Parts → Type 0
 HasControl rules Failed parts = ⊤
 HasControl rules (Got head control body) parts = IsControlFor rules parts control
+
+-- a reply with these bytes as its body, no more than it may have, or a failure
+abbrev pub HasBody : HeadRules → Reply → List ℕ → Type 0
+HasBody rules Failed bytes = ⊤
+HasBody rules (Got head control body) bytes = (body ≡ bytes) × (allow rules.limits (Got head control body) ≡ true)
+
+-- an answer may have the head, but not so long a body
+pub record IsTooLong (rules : HeadRules) (parts : Parts) (body : List ℕ) : Type 0 where
+  pub plain : is_coded parts.headers ≡ false
+  pub status_from : 200 ≤ parts.status
+  pub status_to : parts.status ≤ 599
+  pub fields : AreHeadFields (fields_for rules parts)
+  pub long : most_bytes rules.limits (is_template rules parts) < length body
 
 -- an answer may have the status, but not the fields
 pub record IsOverfull (rules : HeadRules) (parts : Parts) : Type 0 where

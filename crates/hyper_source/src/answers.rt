@@ -2,7 +2,7 @@
 
 ghost use Rattle.std.specs.Prelude.{◌≡◌, None, IsTrue, IfOk, IfErr};
 ghost use Rattle.fetch_outcomes.specs.declared.fetch_fault.FetchFault.TheVariants as faults;
-ghost use Rattle.hyper_source.specs.Fetches.{AnswersLost, HasControl, HasHead, IsOverfull, IsRefused, NamesFault, lost_with};
+ghost use Rattle.hyper_source.specs.Fetches.{AnswersLost, HasBody, HasControl, HasHead, IsOverfull, IsRefused, IsTooLong, NamesFault, lost_with};
 ghost use Rattle.hyper_source.specs.Heads as heads;
 
 use crate::fields::{control_for, head_of};
@@ -55,8 +55,10 @@ pub(crate) fn answered(
     ensures coded { IfOk came (λ page. IsTrue (heads.is_coded page.0.headers) → IfOk result (λ fetched. fetched ≡ lost_with faults.Coded url.now)) }
     ensures status { IfOk came (λ page. IsRefused page.0 → IfOk result (λ fetched. fetched ≡ lost_with faults.Status url.now)) }
     ensures overfull { IfOk came (λ page. IsOverfull rules.entry page.0 → IfOk result (λ fetched. fetched ≡ lost_with faults.Fields url.now)) }
+    ensures long { IfOk came (λ page. IsTooLong rules.entry page.0 page.1.items → IfOk result (λ fetched. fetched ≡ lost_with faults.TooLong url.now)) }
     ensures head { IfOk came (λ page. IfOk result (λ fetched. HasHead rules.entry fetched.answer.reply page.0)) }
     ensures control { IfOk came (λ page. IfOk result (λ fetched. HasControl rules.entry fetched.answer.reply page.0)) }
+    ensures body { IfOk came (λ page. IfOk result (λ fetched. HasBody rules.entry fetched.answer.reply page.1.items)) }
     ensures lost { IfErr came (λ lost. AnswersLost lost url.now result) }
 {
     match came {
@@ -79,19 +81,24 @@ fn answer_of(
     ensures coded { IsTrue (heads.is_coded parts.now.headers) → IfOk result (λ fetched. fetched ≡ lost_with faults.Coded url.now) }
     ensures status { IsRefused parts.now → IfOk result (λ fetched. fetched ≡ lost_with faults.Status url.now) }
     ensures overfull { IsOverfull rules.entry parts.now → IfOk result (λ fetched. fetched ≡ lost_with faults.Fields url.now) }
+    ensures long { IsTooLong rules.entry parts.now body.items → IfOk result (λ fetched. fetched ≡ lost_with faults.TooLong url.now) }
     ensures head { IfOk result (λ fetched. HasHead rules.entry fetched.answer.reply parts.now) }
     ensures control { IfOk result (λ fetched. HasControl rules.entry fetched.answer.reply parts.now) }
+    ensures body { IfOk result (λ fetched. HasBody rules.entry fetched.answer.reply body.items) }
 {
     if is_coded(&parts.headers) {
         return Fetched::failed(url, FetchFault::Coded);
     }
     let control = control_for(alloc, rules, parts)?;
     let head = head_of(alloc, rules, parts, control)?;
-    if head.has_status() && !head.fields.are_acceptable() {
+    if !head.has_status() {
+        return Fetched::failed(url, FetchFault::Status);
+    }
+    if !head.fields.are_acceptable() {
         return Fetched::failed(url, FetchFault::Fields);
     }
     match Answer::of_head(url.share()?, head, control, SharedBytes::of(body)?) {
-        Some(answer) => Ok(Fetched::got(answer)),
-        None => Fetched::failed(url, FetchFault::Status),
+        Some(answer) if rules.limits.allow(&answer) => Ok(Fetched::got(answer)),
+        _ => Fetched::failed(url, FetchFault::TooLong),
     }
 }

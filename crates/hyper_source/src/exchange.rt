@@ -57,18 +57,22 @@ pub(crate) struct Exchange {
     // What a connection that has ended has left.
     behind: Behind<OriginStream>,
     socket: RawFd,
+    // How many bytes of the body are gathered.
+    most: usize,
     body: BodyCount,
     signals: Arc<StreamSignals>,
 }
 
 impl Exchange {
-    /// Begins an exchange over a socket that doesn't block. Nothing is sent before it is polled.
+    /// Begins an exchange over a socket that doesn't block, by which a body of so many bytes may come. Nothing is sent
+    /// before it is polled.
     pub(crate) fn begun(
         alloc: Global,
         keys: RandomState,
         socket: OriginSocket,
         signals: StreamSignals,
         request: Request<Empty<Bytes>>,
+        most: usize,
     ) -> Result<Exchange, Lost> {
         let descriptor = socket.stream().as_raw_fd();
         let Ok(signals) = Arc::new(alloc, signals) else {
@@ -93,6 +97,7 @@ impl Exchange {
             connection: Some(connection),
             behind: Behind::End,
             socket: descriptor,
+            most,
             body,
             signals,
         })
@@ -159,7 +164,7 @@ impl Exchange {
         match response.poll(cx) {
             Poll::Ready(Ok(response)) => {
                 self.page = match self.body.share() {
-                    Ok(body) => Page::Head(Rest::of(alloc, response, body)),
+                    Ok(body) => Page::Head(Rest::of(alloc, response, self.most, body)),
                     Err(lost) => Page::Whole(Err(lost)),
                 }
             }
@@ -186,6 +191,7 @@ impl Exchange {
             connection: _,
             behind,
             socket: _,
+            most: _,
             body: _,
             signals: _,
         } = self;

@@ -1,6 +1,8 @@
-//! How the heads of responses are read.
+//! How responses are read.
 
-/// What counts in the head of a response, beside its status and its type.
+use crate::body_limits::BodyLimits;
+
+/// What counts in a response, beside the status and the type that its head says.
 #[derive(Clone, Copy)]
 pub(crate) struct HeadRules<'a> {
     /// The device for which `Surrogate-Control` is read.
@@ -11,4 +13,6 @@ pub(crate) struct HeadRules<'a> {
     pub(crate) is_private: bool,
     /// Whether `Cache-Control` counts where `Surrogate-Control` doesn't say for how long the answer is fresh.
     pub(crate) heeds_cache_control: bool,
+    /// How long its body may be.
+    pub(crate) limits: BodyLimits,
 }

@@ -6,6 +6,7 @@
 
 mod answers;
 mod behind;
+mod body_limits;
 mod bounded;
 mod deadline;
 mod edge_name;
@@ -37,6 +38,7 @@ mod reuse;
 mod source;
 mod stream_signals;
 
+pub use body_limits::BodyLimits;
 pub use edge_name::{EdgeName, MAX_NAME};
 pub use gate::Bounds;
 pub use in_flight::FetchesInFlight;

@@ -1,10 +1,10 @@
-//! Which URLs are private.
+//! Which URLs are private, and what is told of a reader for them.
 
-ghost use Rattle.std.specs.Prelude.{◌≡◌, nat_eq, option_map};
+ghost use Rattle.std.specs.Prelude.{◌≡◌, nat_eq};
 ghost use Rattle.std.specs.List.{starts_with};
 ghost use Rattle.hyper_source.specs.Private as spec;
 
-use edge_types::PageUrl;
+use edge_types::{HeadField, HeadFields, PageUrl};
 
 /// Whether a URL begins with one of these. Takes no memory.
 ///
@@ -21,15 +21,11 @@ fn begins_with(url: &PageUrl, prefix: &PageUrl) -> bool
     url.as_bytes().starts_with(prefix.as_bytes())
 }
 
-/// The cookies that an origin is sent for a URL: none, where it isn't private.
+/// Which of a reader's own fields an origin is told for a URL: none, where it isn't private. Takes no memory.
 ///
-/// Source: RFC 6265, "The Cookie Header"; our profile.
-pub(crate) fn cookie_for(is_private: bool, cookies: &[u8]) -> Option<&[u8]>
-    ensures { option_map (λ cookie. cookie.now) result ≡ spec.cookie_for is_private cookies.now }
+/// Our profile.
+pub(crate) fn told_for(is_private: bool, own: &HeadFields) -> &[HeadField]
+    ensures { result.now ≡ spec.told_for is_private own.now }
 {
-    if is_private && !cookies.is_empty() {
-        Some(cookies)
-    } else {
-        None
-    }
+    if is_private { own.as_slice() } else { &[] }
 }

@@ -3,9 +3,9 @@
 use crate::edge_name::{EdgeName, capability_for};
 use crate::gathered::Lost;
 use bytes::Bytes;
-use edge_types::PageUrl;
+use edge_types::{HeadField, PageUrl};
 use fetch_outcomes::FetchFault;
-use http::header::{ACCEPT_ENCODING, CONNECTION, COOKIE, HOST};
+use http::header::{ACCEPT_ENCODING, CONNECTION, HOST};
 use http::request::Builder;
 use http::{Error, Request};
 use http_body_util::Empty;
@@ -16,17 +16,16 @@ use surrogate_headers::own_capability;
 // The field that names those through whom a request goes.
 const LOOP: &str = "cdn-loop";
 
-/// The request for a URL by an edge of this name, if it has one, over a connection that may be kept or not. It says
+/// A request for a URL by an edge of this name, if it has one, over a connection that may be kept or not. It says
 /// nothing of the client but the way, if there is one: the edges through which what led to the request came, and this
-/// one; and his cookies, if there are some that the origin is to know.
+/// one.
 pub(crate) fn request_of(
     alloc: Global,
     url: &PageUrl,
     name: &Option<EdgeName>,
     way: Option<&[u8]>,
-    cookie: Option<&[u8]>,
     keeps: bool,
-) -> Result<Request<Empty<Bytes>>, Lost> {
+) -> Result<Builder, Lost> {
     let Some((authority, target)) = parts_of(url) else {
         return Err(Lost::Fault(FetchFault::Cut));
     };
@@ -34,7 +33,20 @@ pub(crate) fn request_of(
         .header(HOST, authority)
         .header(own_capability().0, capability_for(name));
     let request = for_connection(request, keeps).header(ACCEPT_ENCODING, "identity");
-    let request = with_cookie(identified(request, name, way), cookie);
+    Ok(identified(request, name, way))
+}
+
+/// The request with these fields behind its own.
+pub(crate) fn with_fields(request: Builder, fields: &[HeadField]) -> Builder {
+    let mut request = request;
+    for field in fields {
+        request = request.header(field.name.as_bytes(), field.value.as_bytes());
+    }
+    request
+}
+
+/// The request, which has no body, once it has all its fields.
+pub(crate) fn whole(request: Builder) -> Result<Request<Empty<Bytes>>, Lost> {
     match request.body(Empty::new()) {
         Ok(request) => Ok(request),
         Err(Error::OutOfMemory) => Err(Lost::NoMemory),
@@ -56,14 +68,6 @@ fn identified(request: Builder, name: &Option<EdgeName>, way: Option<&[u8]>) -> 
         (Some(way), _) => request.header(LOOP, way),
         (None, Some(name)) => request.header(LOOP, name.as_bytes()),
         (None, None) => request,
-    }
-}
-
-// The request with a reader's cookies, if there are some.
-fn with_cookie(request: Builder, cookie: Option<&[u8]>) -> Builder {
-    match cookie {
-        Some(cookie) => request.header(COOKIE, cookie),
-        None => request,
     }
 }
 

@@ -1,6 +1,6 @@
 //! A source that fetches from origins.
 
-ghost use Rattle.std.specs.Prelude.{◌≡◌, option_map, IfOk, Some, true};
+ghost use Rattle.std.specs.Prelude.{◌≡◌, IfOk, Some, true};
 ghost use Rattle.std.specs.Arc.{arc_value};
 ghost use Rattle.hyper_source.specs.Names.{device_of};
 ghost use Rattle.hyper_source.specs.Private as spec;
@@ -8,6 +8,7 @@ ghost use Rattle.hyper_source.specs.Private as spec;
 mod concurrent;
 
 use crate::answers::{Fetched, answered};
+use crate::body_limits::BodyLimits;
 use crate::bounded::{OriginGate, gates_of};
 use crate::edge_name::{EdgeName, copy_of, device_of, way_behind};
 use crate::errand::Errand;
@@ -19,11 +20,11 @@ use crate::origin::{Chosen, Origin, origin_for};
 use crate::origin_runtime::OriginRuntime;
 use crate::poller::IdlePollers;
 use crate::pool::Pool;
-use crate::private_urls::{cookie_for, is_private};
-use crate::request::request_of;
+use crate::private_urls::{is_private, told_for};
+use crate::request::{request_of, whole, with_fields};
 use answer_sources::{Answers, Behalf, Given, OnBehalf, Source, fetch_or_fail};
 use bytes::Bytes;
-use edge_types::{Answer, NoMemory, PageUrl, SharedBytes};
+use edge_types::{Answer, HeadField, HeadFields, NoMemory, PageUrl, SharedBytes};
 use fetch_outcomes::FetchFault;
 use http::Request;
 use http_body_util::Empty;
@@ -36,12 +37,12 @@ use std::time::{Clock, Duration};
 
 /// A source that fetches from origins over HTTP: for each URL one `GET`, which names the host and says what
 /// this edge can do, by its name if it has one, and nothing of the client but which edges its request has passed, and, for
-/// private URLs alone, cookies of his (`on_behalf`). Each has a connection of its own, unless some are kept (`keeping`).
+/// private URLs alone, fields of his own (`on_behalf`). Each has a connection of its own, unless some are kept (`keeping`).
 ///
 /// An answer can't be fetched, and is a failed one, if no origin has the URL's authority, if the
 /// socket or HTTP fails (also by the time limit), if the body ends before its length, is coded or
-/// longer than `MAX_BODY`, and if no answer may have the status, or the fields that are to reach a page's reader
-/// (`passing`).
+/// longer than it may be (`holding`), and if no answer may have the status, or the fields that are to reach a page's
+/// reader (`passing`).
 ///
 /// Each fetch is noted at its end, by the origin that was asked (`notes`).
 ///
@@ -61,8 +62,11 @@ pub struct HyperSource {
     way: Option<Vec<u8>>,
     // The prefixes of private URLs.
     private: Arc<Vec<PageUrl>>,
-    // The cookies of the reader, for private URLs alone.
-    cookies: Vec<u8>,
+    // The reader's own fields, for private URLs alone.
+    own: HeadFields,
+    // The fields that each request has.
+    sent: HeadFields,
+    limits: BodyLimits,
     pool: Pool,
     // Of each address, where fetches are bounded.
     gates: Arc<Vec<OriginGate>>,
@@ -105,7 +109,9 @@ impl HyperSource {
             name: None,
             way: None,
             private: Arc::new(alloc, Vec::new(alloc))?,
-            cookies: Vec::new(alloc),
+            own: HeadFields::none(),
+            sent: HeadFields::none(),
+            limits: BodyLimits::unset(),
             pool,
             gates: Arc::new(alloc, Vec::new(alloc))?,
             passed: SharedBytes::new(),
@@ -152,6 +158,27 @@ impl HyperSource {
         Ok(self)
     }
 
+    /// The same source, whose bodies may be so long. A longer one is a failed answer.
+    ///
+    /// Our profile.
+    pub fn holding(mut self, limits: BodyLimits) -> HyperSource
+        ensures { result ≡ record self { limits = limits } }
+    {
+        self.limits = limits;
+        self
+    }
+
+    /// The same source, each of whose requests has these fields behind its own, so that what an origin answers still
+    /// depends on the URL alone.
+    ///
+    /// Our profile.
+    pub fn sending(mut self, fields: HeadFields) -> HyperSource
+        ensures { result ≡ record self { sent = fields } }
+    {
+        self.sent = fields;
+        self
+    }
+
     /// The same source with these bounds for the fetches to each address. A fetch that is one too many, or is to
     /// an origin that rests, isn't made: its answer is a failed one at once. Before that as many wait as may, each until
     /// all who asked before have gone, and no longer than half the time that a fetch may take.
@@ -162,9 +189,10 @@ impl HyperSource {
     }
 
     /// The same source, whose answers have in their heads the lines of these fields, as they came: names, with commas
-    /// between and blanks around them, in any case. Of `set-cookie` only those of private URLs. Those that describe the bytes of a template (`etag`, `last-modified`,
-    /// `accept-ranges`, `content-md5`, `digest`, `content-digest`, `repr-digest`) are left out where the body is one. An
-    /// answer whose names and values have more than `MAX_FIELDS` bytes is a failed one.
+    /// between and blanks around them, in any case. Of `set-cookie` only those of private URLs. Those that describe the
+    /// bytes of a template (`etag`, `last-modified`, `accept-ranges`, `content-md5`, `digest`, `content-digest`,
+    /// `repr-digest`) are left out where the body is one. An answer whose names and values have more than `MAX_FIELDS`
+    /// bytes is a failed one.
     pub fn passing(mut self, names: SharedBytes) -> HyperSource
         ensures { result ≡ record self { passed = names } }
     {
@@ -190,18 +218,20 @@ impl HyperSource {
         is_private(self.private.as_slice(), url)
     }
 
-    // How this source reads the heads of responses for a URL.
+    // How this source reads the responses for a URL.
     fn rules(&self, url: &PageUrl) -> HeadRules<'_>
         ensures device { result.device.now ≡ device_of self.now.name }
         ensures passed { result.passed.now ≡ self.now.passed }
         ensures private { result.is_private ≡ spec.is_private (arc_value self.now.private).items url.now }
         ensures heeds { result.heeds_cache_control ≡ self.now.heeds_cache_control }
+        ensures limits { result.limits ≡ self.now.limits }
     {
         HeadRules {
             device: device_of(&self.name),
             passed: self.passed.as_bytes(),
             is_private: self.has_private(url),
             heeds_cache_control: self.heeds_cache_control,
+            limits: self.limits,
         }
     }
 
@@ -212,19 +242,21 @@ impl HyperSource {
         Ok(Arc::try_clone(&self.shared.notes)?)
     }
 
-    // The same source for a request that goes this way, of a reader with these cookies.
+    // The same source for a request that goes this way, of a reader with these fields of his own.
     fn behind(
         &self,
         alloc: Global,
         way: Option<Vec<u8>>,
-        cookies: &[u8],
+        own: &HeadFields,
     ) -> Result<HyperSource, NoMemory>
         ensures shared { IfOk result (λ source. arc_value source.shared ≡ arc_value self.now.shared) }
         ensures limit { IfOk result (λ source. source.limit ≡ self.now.limit) }
         ensures name { IfOk result (λ source. source.name ≡ self.now.name) }
         ensures way { IfOk result (λ source. source.way ≡ way) }
         ensures private { IfOk result (λ source. arc_value source.private ≡ arc_value self.now.private) }
-        ensures cookies { IfOk result (λ source. source.cookies.items ≡ cookies.now) }
+        ensures own { IfOk result (λ source. source.own ≡ own.now) }
+        ensures sent { IfOk result (λ source. source.sent ≡ self.now.sent) }
+        ensures limits { IfOk result (λ source. source.limits ≡ self.now.limits) }
         ensures pool { IfOk result (λ source. (source.pool.most ≡ self.now.pool.most) × (arc_value source.pool.shared ≡ arc_value self.now.pool.shared)) }
         ensures gates { IfOk result (λ source. arc_value source.gates ≡ arc_value self.now.gates) }
         ensures heads { IfOk result (λ source. (source.passed ≡ self.now.passed) × (source.heeds_cache_control ≡ self.now.heeds_cache_control)) }
@@ -236,7 +268,9 @@ impl HyperSource {
             name: copy_of(alloc, &self.name)?,
             way,
             private: Arc::try_clone(&self.private)?,
-            cookies: cookies.to_vec(alloc)?,
+            own: own.share()?,
+            sent: self.sent.share()?,
+            limits: self.limits,
             pool: self.pool.share()?,
             gates: Arc::try_clone(&self.gates)?,
             passed: self.passed.share()?,
@@ -265,23 +299,19 @@ impl HyperSource {
         Errand::begun(clock, url, origin, self.limit)
     }
 
-    // The cookies that an origin is sent for a URL.
-    fn cookie_for(&self, url: &PageUrl) -> Option<&[u8]>
-        ensures { option_map (λ cookie. cookie.now) result ≡ spec.cookie_for (spec.is_private (arc_value self.now.private).items url.now) self.now.cookies.items }
+    // Which of the reader's own fields an origin is told for a URL.
+    fn told_for(&self, url: &PageUrl) -> &[HeadField]
+        ensures { result.now ≡ spec.told_for (spec.is_private (arc_value self.now.private).items url.now) self.now.own }
     {
-        cookie_for(self.has_private(url), self.cookies.as_slice())
+        told_for(self.has_private(url), &self.own)
     }
 
     // What an origin is asked for a URL.
     fn request(&self, alloc: Global, url: &PageUrl) -> Result<Request<Empty<Bytes>>, Lost> {
-        request_of(
-            alloc,
-            url,
-            &self.name,
-            self.way.as_deref(),
-            self.cookie_for(url),
-            self.pool.keeps(),
-        )
+        let way = self.way.as_deref();
+        let request = request_of(alloc, url, &self.name, way, self.pool.keeps())?;
+        let request = with_fields(request, self.sent.as_slice());
+        whole(with_fields(request, self.told_for(url)))
     }
 
     // The answer that a fetch results in, once that is noted.
@@ -330,9 +360,9 @@ impl<R> OnBehalf<R> for HyperSource {
         behalf: Behalf<'_>,
     ) -> Result<Option<HyperSource>, NoMemory> {
         let way = way_behind(alloc, behalf.passed, &self.name)?;
-        if way.is_none() && behalf.cookies.is_empty() {
+        if way.is_none() && behalf.own.as_slice().is_empty() {
             return Ok(None);
         }
-        Ok(Some(self.behind(alloc, way, behalf.cookies)?))
+        Ok(Some(self.behind(alloc, way, behalf.own)?))
     }
 }

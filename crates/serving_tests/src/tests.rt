@@ -10,6 +10,7 @@ use std::sync::Arc;
 use std::sync::atomic::{AtomicU64, Ordering};
 
 mod assembling;
+mod behalf;
 mod caching;
 mod failing;
 mod fetching;

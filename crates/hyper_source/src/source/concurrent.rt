@@ -206,8 +206,9 @@ impl HyperSource {
     ) -> Result<Attempt, Lost> {
         let request = self.request(alloc, url)?;
         let signals = StreamSignals::new(told);
+        let most = self.limits.most();
         Ok(Attempt {
-            exchange: Exchange::begun(alloc, self.keys, socket, signals, request)?,
+            exchange: Exchange::begun(alloc, self.keys, socket, signals, request, most)?,
             is_kept,
             watched: Watched::Nothing,
         })
