@@ -1,12 +1,12 @@
 -- What one line of a configuration file denotes. Each line is read as a TOML text by itself, by the grammar of `toml`.
-use Rattle.std.specs.Prelude.{ℕ, Bool, true, false, ◌||◌, ◌&&◌, ◌==◌, bytes_eq, List, [], ◌∷◌, ◌++◌, codes, Option, Some, None, Result, Ok, Err, is_some, option_map, string_bytes, if◌then◌else◌}
+use Rattle.std.specs.Prelude.{ℕ, Bool, true, false, ◌||◌, ◌&&◌, ◌==◌, bytes_eq, List, [], ◌∷◌, ◌++◌, map, codes, Option, Some, None, Result, Ok, Err, is_some, option_and_then, string_bytes, if◌then◌else◌}
 use Rattle.std.specs.Borrow.{Bor}
 use Rattle.std.specs.Fmt.{signed_decimal}
 use Rattle.std.specs.List.{list_any}
 use Rattle.std.specs.Option.{option_map_or}
 use Rattle.std.specs.Str.{byte}
 use Rattle.edge_types.specs.Blanks.{skip_blanks}
-use Rattle.toml.specs.Data.{Data, Members, no_members, member, as_bool, as_integer, as_str, as_table}
+use Rattle.toml.specs.Data.{Data, Items, no_items, item, Members, no_members, member, as_array, as_bool, as_integer, as_str, as_table}
 use Rattle.config_file.specs.declared.fault.Reason.{Reason}
 use Rattle.config_file.specs.declared.fault.Reason.TheVariants as reason
 use Rattle.config_file.specs.declared.line.Line.{Line}
@@ -19,12 +19,12 @@ Text = List ℕ
 
 -- ---- what a line denotes
 
--- nothing; that the rows below it are origins; or that an option, `--NAME` or `--origin=AUTHORITY`, has the value in this
--- word of the command line, or is a flag that isn't set
+-- nothing; that the rows below it are origins; or that an option, `--NAME` or `--origin=AUTHORITY`, has the values in these
+-- words of the command line, or is a flag that isn't set, without a word
 pub data Said : Type 0 where
   nothing : Said
   origins : Said
-  setting : Text → Option Text → Said
+  setting : Text → List Text → Said
 
 -- why a line is refused, by the name that stands there
 pub record Refused : Type 0 where
@@ -34,7 +34,7 @@ pub record Refused : Type 0 where
 abbrev pub shown_said : Line → Said
 shown_said line.Nothing = nothing
 shown_said line.Origins = origins
-shown_said (line.Setting subject word) = setting (string_bytes subject) (option_map string_bytes word)
+shown_said (line.Setting subject words) = setting (string_bytes subject) (map string_bytes words.items)
 
 abbrev pub shown : Result Line Reason → Result Said Reason
 shown (Ok said) = Ok (shown_said said)
@@ -59,9 +59,13 @@ is_among names name = list_any (λ known. bytes_eq known.now name) names
 
 -- ---- values
 
--- an option with the value of this text: the word `--NAME=TEXT`
+-- the word of an option with the value of this text, `--NAME=TEXT`
+abbrev pub word_of : Text → Text → Text
+word_of subject text = (subject ++ codes "=") ++ text
+
+-- an option with this value alone
 abbrev pub set : Text → Text → Result Said Reason
-set subject text = Ok (setting subject (Some ((subject ++ codes "=") ++ text)))
+set subject text = Ok (setting subject (word_of subject text ∷ []))
 
 -- a string is taken as it is, an integer as its digits
 abbrev pub valued : Text → Data → Result Said Reason
@@ -70,10 +74,26 @@ valued subject value =
     (option_map_or (λ number. set subject (signed_decimal number)) (as_integer value)
     (Err (if is_some (as_table value) then reason.Table else reason.NoWord)))
 
+-- the words of a list's elements, behind those of the elements before them; none if an element is no string
+abbrev pub words_behind : Text → List Text → Items → Option (List Text)
+words_behind subject words no_items = Some words
+words_behind subject words (item value rest) = option_and_then (λ text. words_behind subject (words ++ word_of subject text ∷ []) rest) (as_str value)
+
+abbrev pub words_of : Text → Items → Option (List Text)
+words_of subject elements = words_behind subject [] elements
+
+-- an option with these values, in order
+abbrev pub listed : Text → Items → Result Said Reason
+listed subject elements = option_map_or (λ words. Ok (setting subject words)) (words_of subject elements) (Err reason.NoList)
+
+-- an option that may be given more than once: a list of strings, or a value alone
+abbrev pub repeated : Text → Data → Result Said Reason
+repeated subject value = option_map_or (listed subject) (as_array value) (valued subject value)
+
 -- a flag: the word `--NAME`, or none
 abbrev pub flagged : Text → Data → Result Said Reason
 flagged subject value =
-    option_map_or (λ on. Ok (setting subject (if on then Some subject else None))) (as_bool value) (Err reason.NoFlag)
+    option_map_or (λ on. Ok (setting subject (if on then subject ∷ [] else []))) (as_bool value) (Err reason.NoFlag)
 
 -- ---- rows and headers
 
@@ -83,7 +103,8 @@ option_of names name value =
     else (if is_origin name || bytes_eq name (codes "origins") then Err reason.Origin
     else (if is_among names.flags.items name then flagged (codes "--" ++ name) value
     else (if is_among names.valued.items name then valued (codes "--" ++ name) value
-    else Err reason.Unknown)))
+    else (if is_among names.repeated.items name then repeated (codes "--" ++ name) value
+    else Err reason.Unknown))))
 
 abbrev pub origin_of : Text → Data → Result Said Reason
 origin_of name value = valued (codes "--origin=" ++ name) value

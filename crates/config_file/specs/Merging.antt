@@ -1,5 +1,5 @@
 -- The words of a configuration file before those of a command line.
-use Rattle.std.specs.Prelude.{Bool, true, false, ◌||◌, ◌&&◌, ◌==◌, bytes_eq, List, [], ◌∷◌, ◌++◌, length, take, drop, codes, Option, Some, None, string_bytes, option_map, if◌then◌else◌}
+use Rattle.std.specs.Prelude.{Bool, true, false, ◌||◌, ◌&&◌, ◌==◌, bytes_eq, List, [], ◌∷◌, ◌++◌, length, map, take, drop, codes, Option, Some, None, string_bytes, if◌then◌else◌}
 use Rattle.std.specs.List.{flat_map}
 use Rattle.std.specs.Str.{byte}
 use Rattle.config_file.specs.Lines.{Text}
@@ -53,13 +53,9 @@ is_given (w ∷ ws) subject = gives subject w || gives_apart subject w ws || is_
 
 -- ---- the words
 
-abbrev words_in : Option Text → List Text
-words_in None = []
-words_in (Some word) = word ∷ []
-
--- the word of a setting, unless the line gives its subject
+-- the words of a setting, unless the line gives its subject
 abbrev pub left_of : List Text → Setting → List Text
-left_of line s = if is_given line (string_bytes s.subject) then [] else words_in (option_map string_bytes s.word)
+left_of line s = if is_given line (string_bytes s.subject) then [] else map string_bytes s.words.items
 
 -- the program's name and `serve`, the words of the file, and those of the line
 abbrev pub merged : List Text → List Setting → List Text

@@ -1,5 +1,5 @@
 -- What the lines of a configuration file set, read one after another.
-use Rattle.std.specs.Prelude.{◌≡◌, ◌≤◌, ℕ, zero, suc, Bool, true, false, bytes_eq, map, List, [], ◌∷◌, ◌++◌, length, get_or, Option, Result, Ok, Err, string_bytes, option_map, if◌then◌else◌}
+use Rattle.std.specs.Prelude.{◌≡◌, ◌≤◌, ℕ, zero, suc, Bool, true, false, bytes_eq, map, List, [], ◌∷◌, ◌++◌, length, get_or, Result, Ok, Err, string_bytes, if◌then◌else◌}
 use Rattle.std.specs.List.{list_any}
 use Rattle.toml.specs.Parse.{parse_document}
 use Rattle.config_file.specs.Lines.{Text, Said, nothing, origins, setting, Refused, line_of}
@@ -14,7 +14,7 @@ use Rattle.config_file.specs.declared.reading.Setting.{Setting}
 pub record Row : Type 0 where
   pub line : ℕ
   pub subject : Text
-  pub word : Option Text
+  pub words : List Text
 
 -- a file as far as it has been read: whether further rows are origins, and what the lines so far set
 pub record File : Type 0 where
@@ -28,7 +28,7 @@ pub record Fault : Type 0 where
   pub reason : Reason
 
 abbrev pub shown_setting : Setting → Row
-shown_setting s = record { line = s.line; subject = string_bytes s.subject; word = option_map string_bytes s.word }
+shown_setting s = record { line = s.line; subject = string_bytes s.subject; words = map string_bytes s.words.items }
 
 abbrev pub shown_file : Reading → File
 shown_file file = record { among_origins = file.among_origins; rows = map shown_setting file.settings.items }
@@ -46,15 +46,15 @@ has subject rows = list_any (λ row. bytes_eq row.subject subject) rows
 -- ---- one more line
 
 -- a subject is set once
-abbrev pub with_setting : ℕ → Text → Option Text → File → Result File Fault
-with_setting number subject word file =
+abbrev pub with_setting : ℕ → Text → List Text → File → Result File Fault
+with_setting number subject words file =
     if has subject file.rows then Err (record { line = number; name = subject; reason = reason.Twice })
-    else Ok (record file { rows = file.rows ++ (record { line = number; subject = subject; word = word }) ∷ [] })
+    else Ok (record file { rows = file.rows ++ (record { line = number; subject = subject; words = words }) ∷ [] })
 
 abbrev with_said : ℕ → File → Result Said Refused → Result File Fault
 with_said number file (Ok nothing) = Ok file
 with_said number file (Ok origins) = Ok (record file { among_origins = true })
-with_said number file (Ok (setting subject word)) = with_setting number subject word file
+with_said number file (Ok (setting subject words)) = with_setting number subject words file
 with_said number file (Err refused) = Err (record { line = number; name = refused.name; reason = refused.reason })
 
 abbrev pub with_line : OptionNames → ℕ → Text → File → Result File Fault

@@ -22,6 +22,8 @@ pub enum Reason {
     NoFlag,
     /// The value is neither a string nor an integer.
     NoWord,
+    /// An element of the list is no string.
+    NoList,
     /// The name stands in an earlier line.
     Twice,
 }
@@ -41,6 +43,7 @@ impl Reason {
                 "an origin is a row of the table [origins], as \"a.test\" = \"127.0.0.1:8080\"",
             Reason::NoFlag => "takes true or false",
             Reason::NoWord => "takes a string or an integer",
+            Reason::NoList => "takes a string, or a list of strings",
             Reason::Twice => "stands in an earlier line too",
         }
     }

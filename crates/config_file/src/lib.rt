@@ -13,4 +13,4 @@ pub use fault::{ConfigFault, Reason};
 pub use merging::{config_named, is_given, merged};
 pub use naming::{OptionNames, is_of_line, is_origin};
 pub use reading::{Setting, settings_of};
-pub use writing::{push_option, push_origin};
+pub use writing::{push_list, push_option, push_origin};

@@ -1,7 +1,7 @@
 //! What one line of a configuration file denotes.
 
-ghost use Rattle.std.specs.Prelude.{◌≡◌, ◌++◌, string_bytes, IfOk};
-ghost use Rattle.toml.specs.View.{view};
+ghost use Rattle.std.specs.Prelude.{◌≡◌, ◌∷◌, ◌++◌, [], map, option_map, string_bytes, IfOk, OnOk};
+ghost use Rattle.toml.specs.View.{items_view, view};
 ghost use Rattle.toml.specs.Parse.{parse_document};
 ghost use Rattle.config_file.specs.Lines as spec;
 
@@ -23,8 +23,8 @@ pub(crate) enum Line {
     Setting {
         /// `--NAME`, and of an origin `--origin=AUTHORITY`.
         subject: String,
-        /// The word of the command line; `None` for a flag that isn't set.
-        word: Option<String>,
+        /// The words of the command line; none for a flag that isn't set.
+        words: Vec<String>,
     },
 }
 
@@ -121,26 +121,32 @@ fn option_of(
     } else if is_origin(name) || name == "origins" {
         Ok(Err(Reason::Origin))
     } else if is_among(names.flags.as_slice(), name) {
-        flagged(joined(alloc, "--", name)?, value)
+        flagged(alloc, joined(alloc, "--", name)?, value)
     } else if is_among(names.valued.as_slice(), name) {
         valued(alloc, joined(alloc, "--", name)?, value)
+    } else if is_among(names.repeated.as_slice(), name) {
+        repeated(alloc, joined(alloc, "--", name)?, value)
     } else {
         Ok(Err(Reason::Unknown))
     }
 }
 
 // What a flag with this value denotes.
-fn flagged(subject: String, value: &Value) -> Result<Result<Line, Reason>, AllocError>
+fn flagged(
+    alloc: Global,
+    subject: String,
+    value: &Value,
+) -> Result<Result<Line, Reason>, AllocError>
     ensures { IfOk result (λ found. spec.shown found ≡ spec.flagged (string_bytes subject) (view value.now)) }
 {
     match value.as_bool() {
         Some(true) => {
-            let word = Some(subject.clone()?);
-            Ok(Ok(Line::Setting { subject, word }))
+            let words = one(alloc, subject.clone()?)?;
+            Ok(Ok(Line::Setting { subject, words }))
         }
         Some(false) => Ok(Ok(Line::Setting {
             subject,
-            word: None,
+            words: Vec::new(alloc),
         })),
         None => Ok(Err(Reason::NoFlag)),
     }
@@ -167,12 +173,85 @@ fn valued(alloc: Global, subject: String, value: &Value) -> Result<Result<Line, 
 fn set(alloc: Global, subject: String, text: &str) -> Result<Result<Line, Reason>, AllocError>
     ensures { IfOk result (λ found. spec.shown found ≡ spec.set (string_bytes subject) text.now) }
 {
-    let mut word = joined(alloc, subject.as_str(), "=")?;
+    let words = one(alloc, word_of(alloc, subject.as_str(), text)?)?;
+    Ok(Ok(Line::Setting { subject, words }))
+}
+
+// The word of an option with the value of this text.
+fn word_of(alloc: Global, subject: &str, text: &str) -> Result<String, AllocError>
+    ensures { IfOk result (λ word. string_bytes word ≡ spec.word_of subject.now text.now) }
+{
+    let mut word = joined(alloc, subject, "=")?;
     word.push_str(text)?;
-    Ok(Ok(Line::Setting {
-        subject,
-        word: Some(word),
-    }))
+    Ok(word)
+}
+
+// This word alone.
+fn one(alloc: Global, word: String) -> Result<Vec<String>, AllocError>
+    ensures { IfOk result (λ words. map string_bytes words.items ≡ string_bytes word ∷ []) }
+{
+    let mut words = Vec::new(alloc);
+    push(&mut words, word)?;
+    Ok(words)
+}
+
+// What an option that may be given more than once denotes with this value.
+fn repeated(
+    alloc: Global,
+    subject: String,
+    value: &Value,
+) -> Result<Result<Line, Reason>, AllocError>
+    ensures { IfOk result (λ found. spec.shown found ≡ spec.repeated (string_bytes subject) (view value.now)) }
+{
+    match value.as_array() {
+        Some(elements) => listed(alloc, subject, elements.as_slice()),
+        None => valued(alloc, subject, value),
+    }
+}
+
+// What an option with these values denotes.
+fn listed(
+    alloc: Global,
+    subject: String,
+    elements: &[Value],
+) -> Result<Result<Line, Reason>, AllocError>
+    ensures { IfOk result (λ found. spec.shown found ≡ spec.listed (string_bytes subject) (items_view elements.now)) }
+{
+    match words_of(alloc, subject.as_str(), elements)? {
+        Some(words) => Ok(Ok(Line::Setting { subject, words })),
+        None => Ok(Err(Reason::NoList)),
+    }
+}
+
+// The words of an option with these values; `None` if one of them is no string.
+fn words_of(
+    alloc: Global,
+    subject: &str,
+    elements: &[Value],
+) -> Result<Option<Vec<String>>, AllocError>
+    ensures { IfOk result (λ found. option_map (λ words. map string_bytes words.items) found ≡ spec.words_of subject.now (items_view elements.now)) }
+{
+    let mut words = Vec::new(alloc);
+    let mut left = elements;
+    while let [first, rest @ ..] = left {
+        let Some(text) = first.as_str() else {
+            return Ok(None);
+        };
+        let word = word_of(alloc, subject, text)?;
+        push(&mut words, word)?;
+        left = rest;
+    }
+    Ok(Some(words))
+}
+
+// Adds a word.
+fn push(words: &mut Vec<String>, word: String) -> Result<(), AllocError>
+    ensures { OnOk result (map string_bytes words.new.items ≡ map string_bytes words.old.items ++ string_bytes word ∷ []) }
+{
+    match words.push(word) {
+        Ok(()) => Ok(()),
+        Err(_) => Err(AllocError),
+    }
 }
 
 // A text after another.

@@ -105,14 +105,14 @@ fn push_settings(
     Ok(())
 }
 
-// Adds the word of a setting, unless the line gives it.
+// Adds the words of a setting, unless the line gives it.
 fn push_setting(all: &mut Vec<String>, line: &[String], setting: &Setting) -> Result<(), AllocError>
     ensures { OnOk result (map string_bytes all.new.items ≡ map string_bytes all.old.items ++ spec.left_of (map string_bytes line.now) setting.now) }
 {
-    match &setting.word {
-        Some(word) if !is_given(line, setting) => push_word(all, word),
-        _ => Ok(()),
+    if is_given(line, setting) {
+        return Ok(());
     }
+    push_words(all, setting.words.as_slice())
 }
 
 /// Whether the words of a line, behind the subcommand, give what a setting sets: its option; of an origin, one for the

@@ -10,6 +10,8 @@ pub struct OptionNames<'a> {
     pub flags: Vec<&'a str>,
     /// Those with one.
     pub valued: Vec<&'a str>,
+    /// Those with one, which may be given more than once.
+    pub repeated: Vec<&'a str>,
 }
 
 /// Whether an option of this name has no place in a file: that which names the file, and that which prints one.

@@ -1,6 +1,6 @@
 //! The settings of a configuration file.
 
-ghost use Rattle.std.specs.Prelude.{◌≡◌, ◌++◌, ◌∷◌, [], map, Ok, Err, option_map, string_bytes, IfOk, OnOk, MatchResult};
+ghost use Rattle.std.specs.Prelude.{◌≡◌, ◌++◌, ◌∷◌, [], map, Ok, Err, string_bytes, IfOk, OnOk, MatchResult};
 ghost use Rattle.std.specs.Str.Lines.{lines};
 ghost use Rattle.config_file.specs.Reading as spec;
 
@@ -16,8 +16,9 @@ pub struct Setting {
     pub line: usize,
     /// The option, as `--threads`; of an origin with its authority, as `--origin=a.test`.
     pub subject: String,
-    /// The word of the command line, as `--threads=64`; `None` for a flag that isn't set.
-    pub word: Option<String>,
+    /// The words of the command line, as `--threads=64`: one, none for a flag that isn't set, and of a list one for each
+    /// of its elements.
+    pub words: Vec<String>,
 }
 
 /// What the lines of a file set, in order, or the first line that is refused.
@@ -89,7 +90,7 @@ impl Reading {
         match line_of(alloc, names, self.among_origins, text)? {
             Ok(Line::Nothing) => {}
             Ok(Line::Origins) => self.among_origins = true,
-            Ok(Line::Setting { subject, word }) => return self.add(number, subject, word),
+            Ok(Line::Setting { subject, words }) => return self.add(number, subject, words),
             Err(fault) => {
                 return Ok(Err(ConfigFault {
                     line: number,
@@ -107,11 +108,11 @@ impl Reading {
         &mut self,
         line: usize,
         subject: String,
-        word: Option<String>,
+        words: Vec<String>,
     ) -> Result<Result<(), ConfigFault>, AllocError>
         ensures { IfOk result (λ found. MatchResult found
-            (λ _. spec.with_setting line (string_bytes subject) (option_map string_bytes word) (spec.shown_file self.old) ≡ Ok (spec.shown_file self.new))
-            (λ fault. spec.with_setting line (string_bytes subject) (option_map string_bytes word) (spec.shown_file self.old) ≡ Err (spec.shown_fault fault))) }
+            (λ _. spec.with_setting line (string_bytes subject) (map string_bytes words.items) (spec.shown_file self.old) ≡ Ok (spec.shown_file self.new))
+            (λ fault. spec.with_setting line (string_bytes subject) (map string_bytes words.items) (spec.shown_file self.old) ≡ Err (spec.shown_fault fault))) }
     {
         if is_set(self.settings.as_slice(), subject.as_str()) {
             return Ok(Err(ConfigFault {
@@ -123,7 +124,7 @@ impl Reading {
         let setting = Setting {
             line,
             subject,
-            word,
+            words,
         };
         push(&mut self.settings, setting)?;
         Ok(Ok(()))

@@ -1,6 +1,6 @@
 //! A configuration file of options that hold.
 
-ghost use Rattle.std.specs.Prelude.{◌≡◌, ◌==◌, ◌++◌, Some, string_bytes, OnOk};
+ghost use Rattle.std.specs.Prelude.{◌≡◌, ◌==◌, ◌++◌, map, Some, string_bytes, OnOk};
 ghost use Rattle.std.specs.List.{after_first, before_first, list_all};
 ghost use Rattle.std.specs.Str.{byte};
 ghost use Rattle.toml_writer.specs.Text.{string_text};
@@ -28,6 +28,38 @@ pub fn push_option(
         push_quoted(text, word)?;
     }
     text.push_str("\n")
+}
+
+/// Adds the line of an option that may be given more than once: its name without the dashes, and the list of its words.
+pub fn push_list(text: &mut String, name: &str, words: &[&str]) -> Result<(), AllocError>
+    ensures { OnOk result (string_bytes text.new ≡ string_bytes text.old ++ spec.list_text name.now (map (λ word. word.now) words.now)) }
+{
+    text.push_str(name)?;
+    text.push_str(" = [")?;
+    push_elements(text, words)?;
+    text.push_str("]\n")
+}
+
+// Adds strings with commas between.
+fn push_elements(text: &mut String, words: &[&str]) -> Result<(), AllocError>
+    ensures { OnOk result (string_bytes text.new ≡ string_bytes text.old ++ spec.elements_text (map (λ word. word.now) words.now)) }
+{
+    let [first, behind @ ..] = words else {
+        return Ok(());
+    };
+    push_quoted(text, first)?;
+    push_behind(text, behind)
+}
+
+// Adds strings behind another.
+fn push_behind(text: &mut String, words: &[&str]) -> Result<(), AllocError>
+    ensures { OnOk result (string_bytes text.new ≡ string_bytes text.old ++ spec.behind_text (map (λ word. word.now) words.now)) }
+{
+    for word in words {
+        text.push_str(", ")?;
+        push_quoted(text, word)?;
+    }
+    Ok(())
 }
 
 /// Adds the row of an origin, by its word `AUTHORITY=PLACE`, to the table of a file.

@@ -4,15 +4,18 @@ use allocation_tools::printing::{answers, bytes, calls, number, out_of_memory};
 use config_file::{OptionNames, Setting};
 use std::alloc::{AllocError, Global};
 
-const TEXT: &str = "threads = 8\nhead = true\n[origins]\n\"a.test\" = \"127.0.0.1:1\"\n";
+const TEXT: &str =
+    "threads = 8\nhead = true\nsend-fields = [\"a: b\", \"c: d\"]\n[origins]\n\"a.test\" = \"127.0.0.1:1\"\n";
 
 fn names(alloc: Global) -> Option<OptionNames<'static>> {
     let mut names = OptionNames {
         flags: Vec::new(alloc),
         valued: Vec::new(alloc),
+        repeated: Vec::new(alloc),
     };
     names.flags.push("head").ok()?;
     names.valued.push("threads").ok()?;
+    names.repeated.push("send-fields").ok()?;
     Some(names)
 }
 
@@ -61,6 +64,17 @@ fn print_words(rt: &HostRuntime, words: &[String]) -> Option<()> {
         bytes(rt, word.as_bytes())?;
     }
     Some(())
+}
+
+pub fn push_list(rt: &HostRuntime, name: &str) -> Option<()> {
+    let mut text = String::new(rt.alloc());
+    calls(rt, name)?;
+    let pushed = config_file::push_list(&mut text, "send-fields", &["a: b", "c: d"]);
+    answers(rt)?;
+    match pushed {
+        Ok(()) => bytes(rt, text.as_str().trim_end().as_bytes()),
+        Err(AllocError) => out_of_memory(rt),
+    }
 }
 
 pub fn push_origin(rt: &HostRuntime, name: &str) -> Option<()> {

@@ -93,6 +93,21 @@ pub fn cookies_named(rt: &HostRuntime, name: &str) -> Option<()> {
     }
 }
 
+pub fn lines_named(rt: &HostRuntime, name: &str) -> Option<()> {
+    calls(rt, name)?;
+    let read = page_http::lines_named(rt.alloc(), b"cookie, host", &FIELDS);
+    answers(rt)?;
+    match &read {
+        Ok(lines) => {
+            for line in lines.as_slice() {
+                bytes(rt, line.value.as_bytes())?;
+            }
+            Some(())
+        }
+        Err(NoMemory) => out_of_memory(rt),
+    }
+}
+
 // A page of one piece, with a field of its own.
 fn page(alloc: Global) -> Option<Arc<Outcome>> {
     let mut body = PageBody::new(alloc);

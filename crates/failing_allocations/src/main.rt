@@ -37,6 +37,7 @@ fn call(rt: &HostRuntime, name: &str) -> Option<()> {
         "answer_head" => heads::answer_head(rt, name),
         "passed_edges" => heads::passed_edges(rt, name),
         "cookies_named" => heads::cookies_named(rt, name),
+        "lines_named" => heads::lines_named(rt, name),
         "response_of:page" => heads::page_response(rt, name),
         "response_of:fault" => heads::fault_response(rt, name),
         "refusal_of:503" => heads::refusal(rt, name),
@@ -64,6 +65,7 @@ fn call_of_text(rt: &HostRuntime, name: &str) -> Option<()> {
         "read_events" => texts::read_events(rt, name),
         "settings_of" => configs::settings_of(rt, name),
         "merged" => configs::merged(rt, name),
+        "push_list" => configs::push_list(rt, name),
         "push_origin" => configs::push_origin(rt, name),
         _ => call_of_page(rt, name),
     }
