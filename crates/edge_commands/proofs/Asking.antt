@@ -3,8 +3,8 @@ use Rattle.std.proofs.Common.{◌≡◌, ◌≤◌, ◌↔◌, ℕ, true, false,
 use Rattle.std.proofs.lemmas.Bool.{leb-true, le-leb}
 use Rattle.clap.specs.Words.{Text, fault_of}
 use Rattle.clap.specs.declared.error.kind.ErrorKind.{ErrorKind}
-use Rattle.decimals.specs.Decimal.{decimal_of}
-use Rattle.decimals.proofs.Decimals.{decimal_sound, decimal_complete}
+use Rattle.edge_types.specs.Decimal.{decimal_of}
+use Rattle.edge_types.proofs.DecimalLemmas.{decimal_sound, decimal_complete}
 use Rattle.esi_meaning.specs.declared.limits.TheConstants.{MIN_LEVELS, MAX_LEVELS}
 use Rattle.plan_runner.specs.declared.events.Event.{Event}
 use Rattle.plan_runner.specs.declared.page.TheConstants.{MAX_AHEAD}

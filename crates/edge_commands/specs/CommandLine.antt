@@ -3,7 +3,7 @@ use Rattle.std.specs.Prelude.{◌≡◌, ◌≢◌, ◌≤◌, ℕ, Bool, true, 
 use Rattle.std.specs.Str.{bytes_eq}
 use Rattle.clap.specs.Words.{App, Row, Text, HasKind, fault_of, first_of, new_app, subcommand_of, with_subcommand}
 use Rattle.clap.specs.Simple.{on_top}
-use Rattle.decimals.specs.Decimal.{decimal_of}
+use Rattle.edge_types.specs.Decimal.{decimal_of}
 use Rattle.esi_meaning.specs.declared.limits.TheConstants.{MIN_LEVELS, MAX_LEVELS}
 use Rattle.esi_meaning.specs.Meaning.{AreLevels}
 use Rattle.plan_runner.specs.declared.events.Event.{Event}

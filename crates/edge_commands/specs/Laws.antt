@@ -2,7 +2,7 @@
 use Rattle.std.specs.Prelude.{◌≡◌, ◌≢◌, ◌↔◌, ◌≤◌, ℕ, Bool, true, false, List, [], ◌∷◌, map, codes}
 use Rattle.std.specs.Str.{byte}
 use Rattle.clap.specs.Words.{Text}
-use Rattle.decimals.specs.Decimal.{WritesNumber}
+use Rattle.edge_types.specs.Decimal.{WritesNumber}
 use Rattle.esi_meaning.specs.Meaning.{AreLevels}
 use Rattle.plan_runner.specs.declared.events.Event.{Event}
 use Rattle.plan_runner.specs.declared.page.TheConstants.{MAX_AHEAD}

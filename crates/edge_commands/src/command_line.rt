@@ -6,12 +6,11 @@ ghost use Rattle.edge_commands.specs.CommandLine.{program, word_of, order_of, ah
 
 use crate::command::{Invocation, Refusal};
 use clap::{ArgMatches, Command};
-use decimals::decimal_of;
 use edge_case::read_events;
 use edge_setup::{
     SetupFault, case_command, check_command, checking_of, is_set, serve_command, setup_of,
 };
-use edge_types::NoMemory;
+use edge_types::{NoMemory, decimal_of};
 use esi_meaning::{MAX_LEVELS, are_levels};
 use plan_runner::{Event, MAX_AHEAD};
 use std::alloc::{AllocError, Global};

@@ -173,7 +173,7 @@ fn gives(alloc: Global, setting: &Setting, option: Named) -> Result<bool, AllocE
     let Named::Origin(_) = option else {
         return Ok(subject == named_in(option.refusal()));
     };
-    let Some(word) = &setting.word else {
+    let Some(word) = setting.words.first() else {
         return Ok(false);
     };
     match word.as_str().strip_prefix("--origin=") {

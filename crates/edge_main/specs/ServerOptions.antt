@@ -8,6 +8,7 @@ use Rattle.edge_setup.specs.declared.number.Number.TheVariants as number
 use Rattle.edge_setup.specs.declared.numbers.Numbers.{Numbers}
 use Rattle.edge_setup.specs.declared.setup.Setup.{Setup}
 use Rattle.fetch_workers.specs.declared.assembler.Assembling.{Assembling}
+use Rattle.hyper_source.specs.declared.body_limits.BodyLimits.{BodyLimits}
 use Rattle.hyper_source.specs.declared.gate.Bounds.{Bounds}
 use Rattle.edge_main.specs.declared.server_options.Fetches.{Fetches}
 use Rattle.edge_main.specs.declared.server_options.ServerOptions.{ServerOptions}
@@ -62,6 +63,11 @@ pub record AreBounds (numbers : Numbers) (bounds : Bounds) : Type 0 where
   pub queue_is : bounds.most_waiting ≡ queue_for (number_of numbers number.Connections) (value_of numbers number.OriginQueue)
   pub rest_is : bounds.rest ≡ number_of numbers number.OriginRest * 1_000
 
+-- the bodies of answers may be so long
+pub record AreBodyLimits (numbers : Numbers) (limits : BodyLimits) : Type 0 where
+  pub body_is : limits.body ≡ number_of numbers number.BodyBytes
+  pub template_is : limits.template ≡ number_of numbers number.TemplateBytes
+
 -- origins are asked as their options say
 pub record AreFetchesOf (numbers : Numbers) (fetches : Fetches) : Type 0 where
   pub limit_is : nanos_of fetches.limit ≡ limit_of (fetch_millis (number_of numbers number.Timeout) (number_of numbers number.PageTimeout))
@@ -69,6 +75,7 @@ pub record AreFetchesOf (numbers : Numbers) (fetches : Fetches) : Type 0 where
   pub bounds_are : MatchOption fetches.bounds (IsUnbounded numbers) (AreBounds numbers)
   pub crowd_is : fetches.crowd ≡ crowd_of (number_of numbers number.Fetches) (number_of numbers number.OriginFetches)
   pub url_rest_is : fetches.url_rest ≡ number_of numbers number.UrlRest
+  pub bodies_are : AreBodyLimits numbers fetches.bodies
 
 -- pages are assembled as theirs say
 pub record ArePagesOf (numbers : Numbers) (pages : Assembling) : Type 0 where
@@ -102,5 +109,7 @@ pub record AreAskedBy (setup : Setup) (options : ServerOptions) : Type 0 where
   pub forwarded_is : options.forwarded ≡ setup.forwarded
   pub hosts_are : options.admin_hosts ≡ setup.admin_hosts
   pub fields_are : options.pass_fields ≡ setup.pass_fields
+  pub sent_are : options.send_fields ≡ setup.send_fields
   pub private_are : options.private ≡ setup.private
   pub cookies_are : options.private_cookies ≡ setup.private_cookies
+  pub told_are : options.forward_fields ≡ setup.forward_fields

@@ -2,13 +2,13 @@
 ghost use Rattle.std.specs.Prelude.{◌≡◌, MatchOption};
 ghost use Rattle.edge_setup.specs.Said.{number_of, value_of};
 ghost use Rattle.edge_setup.specs.declared.number.Number.TheVariants as number;
-ghost use Rattle.edge_main.specs.ServerOptions.{ahead_for, AreAskedBy, AreBounds, AreClientsOf, AreFetchesOf, ArePagesOf, IsUnbounded, bytes_of, crowd_of, fetch_millis, idle_of, limit_of, nanos_of, queue_for};
+ghost use Rattle.edge_main.specs.ServerOptions.{ahead_for, AreAskedBy, AreBodyLimits, AreBounds, AreClientsOf, AreFetchesOf, ArePagesOf, IsUnbounded, bytes_of, crowd_of, fetch_millis, idle_of, limit_of, nanos_of, queue_for};
 
 use crate::server_options::{Fetches, ServerOptions};
 use edge_connections::{Capacity, Limits};
 use edge_setup::{Number, Numbers, Setup};
 use fetch_workers::Assembling;
-use hyper_source::Bounds;
+use hyper_source::{BodyLimits, Bounds};
 use std::time::Duration;
 
 // A limit of this many milliseconds; 0 means no limit.
@@ -107,6 +107,16 @@ fn crowd_of(numbers: &Numbers) -> Option<u32>
     }
 }
 
+// How long the bodies of answers may be.
+fn bodies_of(numbers: &Numbers) -> BodyLimits
+    ensures { AreBodyLimits numbers.now result }
+{
+    BodyLimits {
+        body: numbers.u32_of(Number::BodyBytes) as usize,
+        template: numbers.u32_of(Number::TemplateBytes) as usize,
+    }
+}
+
 // How origins are asked.
 fn fetches_of(numbers: &Numbers) -> Fetches
     ensures { AreFetchesOf numbers.now result }
@@ -119,6 +129,7 @@ fn fetches_of(numbers: &Numbers) -> Fetches
         bounds: bounds_of(numbers),
         crowd: crowd_of(numbers),
         url_rest: numbers.u32_of(Number::UrlRest),
+        bodies: bodies_of(numbers),
     }
 }
 
@@ -159,8 +170,10 @@ pub(crate) fn options_of(setup: Setup) -> ServerOptions
         forwarded,
         admin_hosts,
         pass_fields,
+        send_fields,
         private,
         private_cookies,
+        forward_fields,
     } = setup;
     ServerOptions {
         addresses,
@@ -181,7 +194,9 @@ pub(crate) fn options_of(setup: Setup) -> ServerOptions
         forwarded,
         admin_hosts,
         pass_fields,
+        send_fields,
         private,
         private_cookies,
+        forward_fields,
     }
 }

@@ -4,9 +4,9 @@ ghost use Rattle.std.specs.Prelude.{◌≤◌};
 use access_log::LogFormat;
 use edge_connections::{Capacity, Limits};
 use edge_setup::{Addresses, Flags, Origin};
-use edge_types::PageUrl;
+use edge_types::{HeadFields, PageUrl};
 use fetch_workers::Assembling;
-use hyper_source::Bounds;
+use hyper_source::{BodyLimits, Bounds};
 use std::time::Duration;
 
 /// How origins are asked.
@@ -22,6 +22,8 @@ pub(crate) struct Fetches {
     pub crowd: Option<u32>,
     /// For how many seconds a URL that failed isn't asked again.
     pub url_rest: u32,
+    /// How long their bodies may be.
+    pub bodies: BodyLimits,
 }
 
 /// What is asked of a server that is to run.
@@ -57,10 +59,14 @@ pub(crate) struct ServerOptions {
     pub admin_hosts: Option<Vec<u8>>,
     /// The names of the fields of a page's own answer that reach its reader, with commas between, where there are some.
     pub pass_fields: Option<Vec<u8>>,
+    /// The fields that each request to an origin carries.
+    pub send_fields: HeadFields,
     /// The prefixes of URLs whose answers are one reader's own.
     pub private: Vec<PageUrl>,
     /// The names of the cookies by which those are fetched, with commas between, where there are some.
     pub private_cookies: Option<Vec<u8>>,
+    /// The names of the reader's fields that go with them, in lower case, with commas between, where there are some.
+    pub forward_fields: Option<Vec<u8>>,
     ghost some_capacity: { 1 ≤ capacity },
     ghost few_capacity: { capacity ≤ 1024 },
 }

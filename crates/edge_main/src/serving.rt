@@ -246,7 +246,9 @@ where
             return Err(Status::NoMemory);
         }
     }
-    let source = HyperSource::new(rt, alloc, asked, fetches.limit)?.keeping(fetches.idle);
+    let source = HyperSource::new(rt, alloc, asked, fetches.limit)?
+        .keeping(fetches.idle)
+        .holding(fetches.bodies);
     let Some(bounds) = fetches.bounds else {
         return Ok(source);
     };
@@ -268,13 +270,14 @@ fn named(
     }
 }
 
-// The same, which reads of answers what the options ask for: fields for readers of pages, and how long caches may keep them.
+// The same, which sends the fields that the options ask for, and reads of answers what they ask for: fields for readers of
+// pages, and how long caches may keep them.
 fn heeding(
     rt: &impl AllocGlobal,
     source: HyperSource,
     options: &ServerOptions,
 ) -> Result<HyperSource, NoMemory> {
-    let mut source = source;
+    let mut source = source.sending(options.send_fields.share()?);
     if let Some(names) = &options.pass_fields {
         source = source.passing(SharedBytes::copy_of(rt.alloc(), names.as_slice())?);
     }
@@ -333,12 +336,9 @@ where
         return Err(Status::NoMemory);
     };
     let service = EdgeService::new(own, rt.alloc(), cache, options.pages)?;
-    let mut service = service.limited_to(options.page);
+    let mut service = telling(service.limited_to(options.page), options);
     if let Some(name) = options.name.take() {
         service = service.named(name);
-    }
-    if let Some(names) = options.private_cookies.take() {
-        service = service.telling_cookies(names);
     }
     if let Some(field) = &options.forwarded {
         // The setup has a name of a field, so only memory may be missing.
@@ -357,6 +357,21 @@ where
         service = service.aborting_on_close();
     }
     Ok(service)
+}
+
+// The same, which tells the origins of private URLs what the options name of the reader. The names are taken out of them.
+fn telling<R>(service: EdgeService<Kept, R>, options: &mut ServerOptions) -> EdgeService<Kept, R>
+where
+    R: RandomSource + AllocGlobal + Clone + Drop,
+{
+    let mut service = service;
+    if let Some(names) = options.private_cookies.take() {
+        service = service.telling_cookies(names);
+    }
+    if let Some(names) = options.forward_fields.take() {
+        service = service.telling_fields(names);
+    }
+    service
 }
 
 // The printable form of the name of a host.

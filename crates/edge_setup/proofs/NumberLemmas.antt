@@ -2,8 +2,8 @@
 use Rattle.std.proofs.Common.{◌≡◌, ◌≤◌, ◌<◌, ◌+◌, ℕ, zero, suc, Bool, true, false, cond, ◌&&◌, nat_le, List, [], ◌∷◌, ◌++◌, length, take, map, fold, IfSome, IsSome, Option, Some, None, is_none, option_map, option_and_then, slice_get, slice_index_or, unwrap_or, refl, ap, arith}
 use Rattle.std.proofs.lemmas.Bool.{leb-true, le-leb}
 use Rattle.clap.specs.Words.{Row, Text, first_of}
-use Rattle.decimals.specs.Decimal.{decimal_of}
-use Rattle.decimals.proofs.Decimals.{decimal_sound}
+use Rattle.edge_types.specs.Decimal.{decimal_of}
+use Rattle.edge_types.proofs.DecimalLemmas.{decimal_sound}
 use Rattle.edge_setup.specs.Numbers.{Numeric, all_fit, all_said, at_least, fits, or_default, row_of, said_by, said_of}
 use Rattle.edge_setup.specs.declared.number.Number.{Number}
 

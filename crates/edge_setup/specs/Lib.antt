@@ -7,7 +7,10 @@ pub mod Case
 pub mod OriginWord
 pub mod Lists
 pub mod PassedNames
+pub mod CarriedNames
 pub mod Private
+pub mod SentFields
+pub mod ToldFields
 pub mod Words
 pub mod Origins
 pub mod Check

@@ -1,10 +1,10 @@
 -- The options that take a number, and what they say by the rows of `clap`'s matches.
 use Rattle.std.specs.Prelude.{ℕ, Bool, true, false, ◌&&◌, nat_le, List, [], ◌∷◌, map, codes, Option, Some, None, option_and_then, option_map, is_none, if◌then◌else◌}
 use Rattle.clap.specs.Words.{App, Row, Rule, Text, first_of, with_rule}
-use Rattle.decimals.specs.Decimal.{decimal_of}
+use Rattle.edge_types.specs.Decimal.{decimal_of}
 use Rattle.edge_setup.specs.Rules.{named_option, with_default}
 use Rattle.edge_setup.specs.declared.number.Number.{Number}
-use Rattle.edge_setup.specs.declared.number.Number.TheVariants.{Workers, Fetches, Ahead, Levels, Capacity, PageBytes, Timeout, PageTimeout, OriginKeepAlive, OriginFetches, OriginQueue, OriginRest, UrlRest, Accept, ClientTimeout, KeepAlive, Threads, Connections}
+use Rattle.edge_setup.specs.declared.number.Number.TheVariants.{Workers, Fetches, Ahead, Levels, Capacity, BodyBytes, TemplateBytes, PageBytes, Timeout, PageTimeout, OriginKeepAlive, OriginFetches, OriginQueue, OriginRest, UrlRest, Accept, ClientTimeout, KeepAlive, Threads, Connections}
 use Rattle.edge_setup.specs.declared.number.NumberRow.{NumberRow}
 
 -- its name, its limits, the word that counts where it isn't there, if one does, and the line for a word that is no such number
@@ -31,6 +31,8 @@ row_of Fetches = numeric (codes "fetches") 1 256 (Some (codes "1")) (codes "erro
 row_of Ahead = numeric (codes "ahead") 0 256 None (codes "error: --ahead takes a number from 0 to 256")
 row_of Levels = numeric (codes "levels") 1 8 (Some (codes "4")) (codes "error: --levels takes a number from 1 to 8")
 row_of Capacity = numeric (codes "capacity") 1 1024 (Some (codes "128")) (codes "error: --capacity takes a number from 1 to 1024")
+row_of BodyBytes = numeric (codes "body-bytes") 262144 16777216 (Some (codes "262144")) (codes "error: --body-bytes takes a number from 262144 to 16777216")
+row_of TemplateBytes = numeric (codes "template-bytes") 262144 16777216 (Some (codes "262144")) (codes "error: --template-bytes takes a number from 262144 to 16777216")
 row_of PageBytes = numeric (codes "page-bytes") 0 4294967295 (Some (codes "0")) (codes "error: --page-bytes takes a number from 0 to 4294967295")
 row_of Timeout = numeric (codes "timeout") 0 86400000 (Some (codes "10000")) (codes "error: --timeout takes milliseconds, from 0 to 86400000")
 row_of PageTimeout = numeric (codes "page-timeout") 0 86400000 (Some (codes "0")) (codes "error: --page-timeout takes milliseconds, from 0 to 86400000")
@@ -48,8 +50,9 @@ row_of Connections = numeric (codes "connections") 1 65536 (Some (codes "64")) (
 -- all of them, in the order of the command
 abbrev pub numbers : List Number
 numbers =
-    Workers ∷ Fetches ∷ Ahead ∷ Levels ∷ Capacity ∷ PageBytes ∷ Timeout ∷ PageTimeout ∷ OriginKeepAlive ∷ OriginFetches
-    ∷ OriginQueue ∷ OriginRest ∷ UrlRest ∷ Accept ∷ ClientTimeout ∷ KeepAlive ∷ Threads ∷ Connections ∷ []
+    Workers ∷ Fetches ∷ Ahead ∷ Levels ∷ Capacity ∷ BodyBytes ∷ TemplateBytes ∷ PageBytes ∷ Timeout ∷ PageTimeout
+    ∷ OriginKeepAlive ∷ OriginFetches ∷ OriginQueue ∷ OriginRest ∷ UrlRest ∷ Accept ∷ ClientTimeout ∷ KeepAlive ∷ Threads
+    ∷ Connections ∷ []
 
 -- the place of each in this order
 abbrev pub place_of : Number → ℕ
@@ -58,19 +61,21 @@ place_of Fetches = 1
 place_of Ahead = 2
 place_of Levels = 3
 place_of Capacity = 4
-place_of PageBytes = 5
-place_of Timeout = 6
-place_of PageTimeout = 7
-place_of OriginKeepAlive = 8
-place_of OriginFetches = 9
-place_of OriginQueue = 10
-place_of OriginRest = 11
-place_of UrlRest = 12
-place_of Accept = 13
-place_of ClientTimeout = 14
-place_of KeepAlive = 15
-place_of Threads = 16
-place_of Connections = 17
+place_of BodyBytes = 5
+place_of TemplateBytes = 6
+place_of PageBytes = 7
+place_of Timeout = 8
+place_of PageTimeout = 9
+place_of OriginKeepAlive = 10
+place_of OriginFetches = 11
+place_of OriginQueue = 12
+place_of OriginRest = 13
+place_of UrlRest = 14
+place_of Accept = 15
+place_of ClientTimeout = 16
+place_of KeepAlive = 17
+place_of Threads = 18
+place_of Connections = 19
 
 -- ---- what they are to `clap`
 

@@ -34,13 +34,17 @@ word_row word.LogFormat = worded (codes "log-format") AtMostOnce
 word_row word.Forwarded = worded (codes "forwarded") AtMostOnce
 word_row word.Name = worded (codes "name") AtMostOnce
 word_row word.PassFields = worded (codes "pass-fields") AtMostOnce
+word_row word.SendFields = worded (codes "send-fields") AnyTimes
 word_row word.Private = worded (codes "private") AtMostOnce
 word_row word.PrivateCookies = worded (codes "private-cookies") AtMostOnce
+word_row word.ForwardFields = worded (codes "forward-fields") AtMostOnce
 word_row word.Config = worded (codes "config") AtMostOnce
 
 -- all of them, in the order of the command
 abbrev pub word_options : List Word
-word_options = word.Listen ∷ word.Origin ∷ word.Admin ∷ word.AdminHost ∷ word.LogFormat ∷ word.Forwarded ∷ word.Name ∷ word.PassFields ∷ word.Private ∷ word.PrivateCookies ∷ word.Config ∷ []
+word_options =
+    word.Listen ∷ word.Origin ∷ word.Admin ∷ word.AdminHost ∷ word.LogFormat ∷ word.Forwarded ∷ word.Name ∷ word.PassFields ∷ word.SendFields
+    ∷ word.Private ∷ word.PrivateCookies ∷ word.ForwardFields ∷ word.Config ∷ []
 
 -- to `clap` an option that may be given so often
 abbrev pub occurring : Occurrence → Rule → Rule

@@ -6,7 +6,7 @@ use Rattle.std.specs.List.{list_all, list_any, ends_with}
 use Rattle.std.specs.Net.Grammar.{IsSocketText}
 use Rattle.std.specs.declared.net.socket_addr.SocketAddr.{SocketAddr}
 use Rattle.clap.specs.Words.{Text}
-use Rattle.decimals.specs.Decimal.{decimal_of}
+use Rattle.edge_types.specs.Decimal.{decimal_of}
 use Rattle.edge_types.specs.Asked.{asked, authority_of}
 use Rattle.edge_types.specs.Halves.{around}
 use Rattle.edge_setup.specs.declared.origin.Place.{Place}

@@ -8,6 +8,7 @@ use Rattle.clap.specs.Words.{Row, Text}
 use Rattle.access_log.specs.declared.format.LogFormat.{LogFormat}
 use Rattle.access_log.specs.declared.format.LogFormat.TheVariants as format
 use Rattle.edge_types.specs.Halves.{around}
+use Rattle.edge_types.specs.declared.head_fields.HeadField.{HeadField}
 use Rattle.edge_setup.specs.Lists.{is_comma}
 use Rattle.edge_setup.specs.Numbers.{all_said, numbers, place_of, row_of, said_of}
 use Rattle.edge_setup.specs.Options.{all_words_said, is_flag_set, word_said}
@@ -17,6 +18,8 @@ use Rattle.edge_setup.specs.OriginWord.{is_authority, is_name, IsFaultOf, IsPlac
 use Rattle.edge_setup.specs.OriginWord.{refusal_of as origin_refusal}
 use Rattle.edge_setup.specs.PassedNames.{are_passed}
 use Rattle.edge_setup.specs.Private.{cookies_said, has_private, prefixes_said}
+use Rattle.edge_setup.specs.SentFields.{sent_said, AreSent}
+use Rattle.edge_setup.specs.ToldFields.{lower_told, told_said}
 use Rattle.edge_setup.specs.declared.origin.OriginFault.{OriginFault}
 use Rattle.edge_setup.specs.declared.origin.OriginFault.TheVariants as origin_fault
 use Rattle.edge_setup.specs.declared.origin.Place.{Place}
@@ -160,10 +163,15 @@ pub record SaysTokens (rows : List Row) (tokens : Tokens) : Type 0 where
   pub hosts_are : hosts_said rows ≡ Some (option_map (λ hosts. hosts.now) tokens.hosts)
   pub fields_are : fields_said rows ≡ Some (option_map (λ fields. fields.now) tokens.fields)
 
--- the URLs that are one reader's own, and the names of the cookies by which they are fetched
+-- the URLs that are one reader's own, and the names of the cookies and of the reader's fields with which they are fetched
 pub record SaysPrivate (rows : List Row) (private : Private) : Type 0 where
   pub prefixes_are : prefixes_said rows ≡ Some private.prefixes.items
   pub cookies_are : cookies_said rows ≡ Some (option_map (λ cookies. cookies.now) private.cookies)
+  pub told_are : told_said rows ≡ Some (option_map (λ names. names.now) private.told)
+
+-- the fields that requests carry are those that the options give, and they may
+abbrev pub SaysSent : List Row → List HeadField → Type 0
+SaysSent rows fields = (fields ≡ sent_said rows) × AreSent (sent_said rows)
 
 -- what the options ask for
 pub record SaysSetup (rows : List Row) (setup : Setup) : Type 0 where
@@ -176,8 +184,10 @@ pub record SaysSetup (rows : List Row) (setup : Setup) : Type 0 where
   pub forwarded_is : token_of (word_said word.Forwarded rows) ≡ Some (option_map (λ field. field.items) setup.forwarded)
   pub hosts_are : hosts_said rows ≡ Some (option_map (λ hosts. hosts.items) setup.admin_hosts)
   pub fields_are : fields_said rows ≡ Some (option_map (λ fields. fields.items) setup.pass_fields)
+  pub sent_are : SaysSent rows setup.send_fields
   pub private_are : prefixes_said rows ≡ Some setup.private.items
   pub cookies_are : cookies_said rows ≡ Some (option_map (λ cookies. cookies.items) setup.private_cookies)
+  pub told_are : lower_told rows ≡ Some (option_map (λ names. names.items) setup.forward_fields)
 
 -- the value of an option is invalid
 abbrev pub IsWrong : List Row → Named → Type 0
@@ -190,8 +200,10 @@ IsWrong rows named.Name = token_of (word_said word.Name rows) ≡ None
 IsWrong rows named.Forwarded = token_of (word_said word.Forwarded rows) ≡ None
 IsWrong rows named.AdminHost = hosts_said rows ≡ None
 IsWrong rows named.PassFields = fields_said rows ≡ None
+IsWrong rows named.SendFields = ¬ AreSent (sent_said rows)
 IsWrong rows named.Private = prefixes_said rows ≡ None
 IsWrong rows named.PrivateCookies = cookies_said rows ≡ None
+IsWrong rows named.ForwardFields = told_said rows ≡ None
 
 -- the values of these options are valid
 abbrev pub HasListen : List Row → Type 0
@@ -233,6 +245,15 @@ HasPrefixes rows = IsSome (prefixes_said rows)
 abbrev pub HasCookies : List Row → Type 0
 HasCookies rows = IsSome (cookies_said rows)
 
+abbrev pub HasTold : List Row → Type 0
+HasTold rows = IsSome (told_said rows)
+
+abbrev pub HasPrivate : List Row → Type 0
+HasPrivate rows = HasPrefixes rows × HasCookies rows × HasTold rows
+
+abbrev pub HasSent : List Row → Type 0
+HasSent rows = AreSent (sent_said rows)
+
 -- the values of the options that are read before this one are valid
 abbrev pub AreValidBefore : List Row → Named → Type 0
 AreValidBefore rows named.Listen = Unit {0}
@@ -245,7 +266,9 @@ AreValidBefore rows named.AdminHost = HasAddresses rows × HasNumbers rows × Ha
 AreValidBefore rows named.PassFields = HasAddresses rows × HasNumbers rows × HasLog rows × HasName rows × HasForwarded rows × HasHosts rows
 AreValidBefore rows named.Private = HasAddresses rows × HasNumbers rows × HasLog rows × HasTokens rows
 AreValidBefore rows named.PrivateCookies = HasAddresses rows × HasNumbers rows × HasLog rows × HasTokens rows × HasPrefixes rows
-AreValidBefore rows (named.Origin fault) = HasAddresses rows × HasNumbers rows × HasLog rows × HasTokens rows × HasPrefixes rows × HasCookies rows
+AreValidBefore rows named.ForwardFields = HasAddresses rows × HasNumbers rows × HasLog rows × HasTokens rows × HasPrefixes rows × HasCookies rows
+AreValidBefore rows named.SendFields = HasAddresses rows × HasNumbers rows × HasLog rows × HasTokens rows × HasPrivate rows
+AreValidBefore rows (named.Origin fault) = HasAddresses rows × HasNumbers rows × HasLog rows × HasTokens rows × HasPrivate rows × HasSent rows
 
 -- this is the first option, in the order of reading, whose value is invalid
 pub record IsFirstWrong (rows : List Row) (option : Named) : Type 0 where
@@ -263,8 +286,10 @@ refusal_of named.Name = codes "error: --name takes 1 to 64 letters, digits and m
 refusal_of named.Forwarded = codes "error: --forwarded takes the name of a field, as x-forwarded-for"
 refusal_of named.AdminHost = codes "error: --admin-host takes names of hosts with commas between, as edge.internal,edge-1, beside --admin"
 refusal_of named.PassFields = codes "error: --pass-fields takes field names with commas between, as location,cache-control, none of a connection, of a body's length, type or coding, nor set-cookie without --private"
+refusal_of named.SendFields = codes "error: --send-fields takes a field with a value, as x-forwarded-proto: https, and at most 8192 bytes of fields; none that the edge sets, nor one of a connection, a body, a condition or a range"
 refusal_of named.Private = codes "error: --private takes URL prefixes with commas between, as http://shop.test/box/, each with its host and a / at its end"
 refusal_of named.PrivateCookies = codes "error: --private-cookies takes names of cookies with commas between, as SHOPSESS, beside --private"
+refusal_of named.ForwardFields = codes "error: --forward-fields takes names of fields with commas between, as x-forwarded-for,user-agent, beside --private; none that the edge sets, nor one of a connection, a body, a condition or a range"
 
 -- why the options are refused
 abbrev pub IsRefusedBy : List Row → SetupFault → Type 0

@@ -2,24 +2,28 @@
 
 ghost use Rattle.std.specs.Prelude.{◌≡◌, ◌∷◌, ◌++◌, [], map, option_map, string_bytes, IfOk, OnOk};
 ghost use Rattle.std.specs.List.{flat_map};
+ghost use Rattle.std.specs.Option.{option_map_or};
+ghost use Rattle.config_file.specs.Writing.{list_text};
 ghost use Rattle.clap.specs.Words.{found_of, rows_of};
 ghost use Rattle.clap.specs.declared.builder.command.Command.TheViews.{out-Command as fields_of};
 ghost use Rattle.edge_setup.specs.Held as spec;
 
 use crate::word::Word;
-use crate::words::word_of;
+use crate::words::{word_of, words_of};
 use clap::{Arg, ArgAction, ArgMatches, Command};
-use config_file::{OptionNames, is_of_line, is_origin, push_option, push_origin};
+use config_file::{OptionNames, is_of_line, is_origin, push_list, push_option, push_origin};
 use std::alloc::{AllocError, Global};
 
 /// The options that the command of `serve` has, by their names.
 pub fn option_names<'a>(alloc: Global, command: &Command<'a>) -> Result<OptionNames<'a>, AllocError>
     ensures flags { IfOk result (λ names. names.flags.items ≡ flat_map spec.flag_of (fields_of command.now).args.items) }
     ensures valued { IfOk result (λ names. names.valued.items ≡ flat_map spec.valued_of (fields_of command.now).args.items) }
+    ensures repeated { IfOk result (λ names. names.repeated.items ≡ flat_map spec.repeated_of (fields_of command.now).args.items) }
 {
     let mut names = OptionNames {
         flags: Vec::new(alloc),
         valued: Vec::new(alloc),
+        repeated: Vec::new(alloc),
     };
     for option in command.get_arguments() {
         add_name(&mut names, option)?;
@@ -31,9 +35,12 @@ pub fn option_names<'a>(alloc: Global, command: &Command<'a>) -> Result<OptionNa
 fn add_name<'a>(names: &mut OptionNames<'a>, option: &Arg<'a>) -> Result<(), AllocError>
     ensures flags { OnOk result (names.new.flags.items ≡ names.old.flags.items ++ spec.flag_of option.now) }
     ensures valued { OnOk result (names.new.valued.items ≡ names.old.valued.items ++ spec.valued_of option.now) }
+    ensures repeated { OnOk result (names.new.repeated.items ≡ names.old.repeated.items ++ spec.repeated_of option.now) }
 {
     if is_flag(option) {
         push(&mut names.flags, option.get_id())
+    } else if is_repeated(option) {
+        push(&mut names.repeated, option.get_id())
     } else {
         push(&mut names.valued, option.get_id())
     }
@@ -53,6 +60,13 @@ fn is_flag(option: &Arg<'_>) -> bool
     ensures { result ≡ spec.is_flag option.now }
 {
     matches!(option.get_action(), ArgAction::SetTrue)
+}
+
+// Whether an option may be given more than once.
+fn is_repeated(option: &Arg<'_>) -> bool
+    ensures { result ≡ spec.is_repeated option.now }
+{
+    matches!(option.get_action(), ArgAction::Append)
 }
 
 /// A configuration file of the options that hold, by the matches of `serve`: in the order of the command, and the
@@ -98,8 +112,21 @@ fn push_held(
     if is_of_line(name) || is_origin(name) {
         return Ok(());
     }
+    if is_repeated(option) {
+        return push_words(text, name, words_of(matches, name));
+    }
     match word_of(matches, name) {
         Some(word) => push_option(text, name, is_flag(option), word),
+        None => Ok(()),
+    }
+}
+
+// Adds the line of an option that may be given more than once, where it is there.
+fn push_words(text: &mut String, name: &str, words: Option<&[&str]>) -> Result<(), AllocError>
+    ensures { OnOk result (string_bytes text.new ≡ string_bytes text.old ++ option_map_or (list_text name.now) (option_map (λ found. map (λ word. word.now) found.now) words.entry) []) }
+{
+    match words {
+        Some(words) => push_list(text, name, words),
         None => Ok(()),
     }
 }

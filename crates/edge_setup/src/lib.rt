@@ -3,6 +3,7 @@
 //! checked.
 #![tactic(auto)]
 
+mod carried_names;
 mod case;
 mod check;
 mod command;
@@ -17,7 +18,9 @@ mod origin;
 mod origins;
 mod passed_names;
 mod private;
+mod sent_fields;
 mod setup;
+mod told_fields;
 mod word;
 mod words;
 

@@ -7,7 +7,7 @@ ghost use Rattle.edge_setup.specs.Rules.{named_option};
 use crate::options::option;
 use crate::words::word_of;
 use clap::{Arg, ArgMatches};
-use decimals::decimal_of;
+use edge_types::decimal_of;
 use std::alloc::Global;
 
 /// An option that takes a number.
@@ -23,6 +23,10 @@ pub enum Number {
     Levels,
     /// The answers that each shard of the cache keeps.
     Capacity,
+    /// The bytes that an answer may have that is no template.
+    BodyBytes,
+    /// The bytes that a template may have.
+    TemplateBytes,
     /// The bytes that a page may have; 0 means any number.
     PageBytes,
     /// The milliseconds that a fetch may take; 0 means no limit.
@@ -130,6 +134,26 @@ const CAPACITY: NumberRow = row!(
     Some("128"),
     "Answers that each of 8 shards keeps",
     "",
+    "a number"
+);
+
+const BODY_BYTES: NumberRow = row!(
+    "body-bytes",
+    262144,
+    16777216,
+    Some("262144"),
+    "Bytes of an answer that is no template",
+    "; a longer one can't be fetched",
+    "a number"
+);
+
+const TEMPLATE_BYTES: NumberRow = row!(
+    "template-bytes",
+    262144,
+    16777216,
+    Some("262144"),
+    "Bytes of a template",
+    "; a longer one can't be fetched",
     "a number"
 );
 
@@ -265,12 +289,14 @@ const CONNECTIONS: NumberRow = row!(
 
 impl Number {
     /// All of them, in the order of the options.
-    pub const ALL: [Number; 18] = [
+    pub const ALL: [Number; 20] = [
         Number::Workers,
         Number::Fetches,
         Number::Ahead,
         Number::Levels,
         Number::Capacity,
+        Number::BodyBytes,
+        Number::TemplateBytes,
         Number::PageBytes,
         Number::Timeout,
         Number::PageTimeout,
@@ -304,6 +330,8 @@ impl Number {
             Number::Ahead => AHEAD,
             Number::Levels => LEVELS,
             Number::Capacity => CAPACITY,
+            Number::BodyBytes => BODY_BYTES,
+            Number::TemplateBytes => TEMPLATE_BYTES,
             Number::PageBytes => PAGE_BYTES,
             Number::Timeout => TIMEOUT,
             Number::PageTimeout => PAGE_TIMEOUT,

@@ -5,8 +5,7 @@ ghost use Rattle.edge_setup.specs.OriginWord as spec;
 ghost use Rattle.edge_setup.specs.Words.{IsJudged, NamesOrigin};
 
 use crate::setup::Origin;
-use decimals::decimal_of;
-use edge_types::{NoMemory, PageUrl, around};
+use edge_types::{NoMemory, PageUrl, around, decimal_of};
 use std::alloc::{AllocError, Global};
 use std::net::SocketAddr;
 

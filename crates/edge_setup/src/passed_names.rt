@@ -39,14 +39,15 @@ fn is_named(name: &[u8], known: &str) -> bool
     name.eq_ignore_ascii_case(known.as_bytes())
 }
 
-// Whether a name is one of these, whatever the case of its letters.
-fn is_among(names: &[&str], name: &[u8]) -> bool
+/// Whether a name is one of these, whatever the case of its letters.
+pub(crate) fn is_among(names: &[&str], name: &[u8]) -> bool
     ensures { result ≡ spec.is_among (map (λ known. known.now) names.now) name.now }
 {
     names.iter().any(|known| is_named(name, known))
 }
 
-fn is_connection_field(name: &[u8]) -> bool
+/// Whether it is the name of a field that is about one connection.
+pub(crate) fn is_connection_field(name: &[u8]) -> bool
     ensures { result ≡ spec.is_connection_field name.now }
 {
     is_among(&CONNECTION_FIELDS, name)

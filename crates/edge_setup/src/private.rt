@@ -1,4 +1,4 @@
-//! The URLs whose answers are one reader's own, and the names of the cookies by which they are fetched.
+//! The URLs whose answers are one reader's own, and what of the reader their origins are told.
 ghost use Rattle.std.specs.Prelude.{◌≡◌, map, option_map, IfOk, MatchResult};
 ghost use Rattle.clap.specs.Words.{found_of, rows_of};
 ghost use Rattle.edge_setup.specs.Private as spec;
@@ -7,6 +7,7 @@ ghost use Rattle.edge_setup.specs.Words.{HasAddresses, HasLog, HasNumbers, HasTo
 use crate::lists::{is_comma, members_of};
 use crate::origin::has_byte;
 use crate::setup::{Named, SetupFault};
+use crate::told_fields::told_said;
 use crate::word::Word;
 use crate::words::MAX_TOKEN;
 use clap::ArgMatches;
@@ -20,6 +21,8 @@ pub(crate) struct Private<'a> {
     pub prefixes: Vec<PageUrl>,
     /// The names of the cookies by which it is fetched, with commas between, where there are some.
     pub cookies: Option<&'a str>,
+    /// The names of the reader's fields that go with it, with commas between, where there are some.
+    pub told: Option<&'a str>,
 }
 
 /// What the options say is one reader's own.
@@ -36,7 +39,14 @@ pub(crate) fn private_of<'a>(
     let Some(cookies) = cookies_of(has_private(matches), Word::PrivateCookies.said(matches)) else {
         return Err(SetupFault::Wrong(Named::PrivateCookies));
     };
-    Ok(Private { prefixes, cookies })
+    let Some(told) = told_said(matches) else {
+        return Err(SetupFault::Wrong(Named::ForwardFields));
+    };
+    Ok(Private {
+        prefixes,
+        cookies,
+        told,
+    })
 }
 
 /// Whether the options name private URLs.

@@ -9,7 +9,7 @@ use crate::number::Number;
 use crate::numbers::Numbers;
 use crate::origin::{OriginFault, Place};
 use access_log::LogFormat;
-use edge_types::{NoMemory, PageUrl};
+use edge_types::{HeadFields, NoMemory, PageUrl};
 use std::alloc::AllocError;
 use std::net::SocketAddr;
 
@@ -53,10 +53,15 @@ pub struct Setup {
     /// The names of the fields of a page's own answer that reach its reader, with commas between and blanks around them, where
     /// there are some.
     pub pass_fields: Option<Vec<u8>>,
+    /// The fields that each request to an origin carries.
+    pub send_fields: HeadFields,
     /// The prefixes of URLs whose answers are one reader's own, each with a `/` at its end and no query.
     pub private: Vec<PageUrl>,
     /// The names of the cookies by which those are fetched, with commas between and blanks around them, where there are some.
     pub private_cookies: Option<Vec<u8>>,
+    /// The names of the reader's fields that go with them, in lower case, with commas between and blanks around them, where there
+    /// are some.
+    pub forward_fields: Option<Vec<u8>>,
 }
 
 /// The options of `serve` whose values may be invalid.
@@ -80,10 +85,14 @@ pub enum Named {
     AdminHost,
     /// `--pass-fields`: not names of fields that may be passed.
     PassFields,
+    /// `--send-fields`: not fields that requests may carry, or too many.
+    SendFields,
     /// `--private`: not prefixes of URLs.
     Private,
     /// `--private-cookies`: not names of cookies, or no URLs to fetch with them.
     PrivateCookies,
+    /// `--forward-fields`: not names of fields that may be told, or no URLs to fetch with them.
+    ForwardFields,
 }
 
 impl Named {
@@ -104,10 +113,14 @@ impl Named {
                 "error: --admin-host takes names of hosts with commas between, as edge.internal,edge-1, beside --admin",
             Named::PassFields =>
                 "error: --pass-fields takes field names with commas between, as location,cache-control, none of a connection, of a body's length, type or coding, nor set-cookie without --private",
+            Named::SendFields =>
+                "error: --send-fields takes a field with a value, as x-forwarded-proto: https, and at most 8192 bytes of fields; none that the edge sets, nor one of a connection, a body, a condition or a range",
             Named::Private =>
                 "error: --private takes URL prefixes with commas between, as http://shop.test/box/, each with its host and a / at its end",
             Named::PrivateCookies =>
                 "error: --private-cookies takes names of cookies with commas between, as SHOPSESS, beside --private",
+            Named::ForwardFields =>
+                "error: --forward-fields takes names of fields with commas between, as x-forwarded-for,user-agent, beside --private; none that the edge sets, nor one of a connection, a body, a condition or a range",
         }
     }
 }

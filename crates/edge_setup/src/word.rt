@@ -28,10 +28,14 @@ pub(crate) enum Word {
     Name,
     /// The names of the fields of a page's own answer that reach its reader.
     PassFields,
+    /// A field that each request to an origin carries.
+    SendFields,
     /// The prefixes of URLs whose answers are one reader's own.
     Private,
     /// The names of the cookies by which those are fetched.
     PrivateCookies,
+    /// The names of the reader's fields that go with them.
+    ForwardFields,
     /// The file of further options.
     Config,
 }
@@ -117,6 +121,13 @@ const PASS_FIELDS: WordRow = WordRow {
     help: "Names of fields, with commas between, that a page's reader gets from the answer of the page itself",
 };
 
+const SEND_FIELDS: WordRow = WordRow {
+    name: "send-fields",
+    occurs: Occurrence::AnyTimes,
+    value: "FIELD",
+    help: "Field that each request to an origin carries, as 'x-forwarded-proto: https'; once for each",
+};
+
 const PRIVATE: WordRow = WordRow {
     name: "private",
     occurs: Occurrence::AtMostOnce,
@@ -131,6 +142,13 @@ const PRIVATE_COOKIES: WordRow = WordRow {
     help: "Names of a reader's cookies, with commas between, that fetches of --private URLs carry",
 };
 
+const FORWARD_FIELDS: WordRow = WordRow {
+    name: "forward-fields",
+    occurs: Occurrence::AtMostOnce,
+    value: "NAMES",
+    help: "Names of a reader's fields, with commas between, that fetches of --private URLs carry",
+};
+
 const CONFIG: WordRow = WordRow {
     name: "config",
     occurs: Occurrence::AtMostOnce,
@@ -140,7 +158,7 @@ const CONFIG: WordRow = WordRow {
 
 impl Word {
     /// All of them, in the order of the options.
-    pub const ALL: [Word; 11] = [
+    pub const ALL: [Word; 13] = [
         Word::Listen,
         Word::Origin,
         Word::Admin,
@@ -149,8 +167,10 @@ impl Word {
         Word::Forwarded,
         Word::Name,
         Word::PassFields,
+        Word::SendFields,
         Word::Private,
         Word::PrivateCookies,
+        Word::ForwardFields,
         Word::Config,
     ];
 
@@ -167,8 +187,10 @@ impl Word {
             Word::Forwarded => FORWARDED,
             Word::Name => NAME,
             Word::PassFields => PASS_FIELDS,
+            Word::SendFields => SEND_FIELDS,
             Word::Private => PRIVATE,
             Word::PrivateCookies => PRIVATE_COOKIES,
+            Word::ForwardFields => FORWARD_FIELDS,
             Word::Config => CONFIG,
         }
     }

@@ -1,7 +1,7 @@
 //! What the options of `serve` ask for.
-ghost use Rattle.std.specs.Prelude.{◌≡◌, option_map, IfOk, MatchOption, MatchResult};
+ghost use Rattle.std.specs.Prelude.{◌≡◌, map, option_map, IfOk, MatchOption, MatchResult};
 ghost use Rattle.std.specs.declared.net.socket_addr.SocketAddr.{SocketAddr};
-ghost use Rattle.clap.specs.Words.{first_of, found_of, rows_of};
+ghost use Rattle.clap.specs.Words.{all_of, first_of, found_of, rows_of};
 ghost use Rattle.edge_setup.specs.Rules.{is_set};
 ghost use Rattle.edge_setup.specs.Words.{are_hosts, fields_of, hosts_of, fields_said, hosts_said, log_of, log_said, token_of, IsAddress, IsAdmin, IsNoAdmin, HasAddresses, HasLog, HasNumbers, IsFirstWrong, IsRefusedBy, SaysAddresses, SaysSetup, SaysTokens};
 
@@ -13,7 +13,9 @@ use crate::origin::is_name;
 use crate::origins::origins_of;
 use crate::passed_names::are_passed;
 use crate::private::{has_private, private_of};
+use crate::sent_fields::sent_said;
 use crate::setup::{Addresses, Named, Setup, SetupFault};
+use crate::told_fields::lowered_of;
 use crate::word::Word;
 use access_log::LogFormat;
 use clap::ArgMatches;
@@ -26,6 +28,13 @@ pub(crate) fn word_of<'a>(matches: &ArgMatches<'a>, name: &str) -> Option<&'a st
     ensures { option_map (λ word. word.now) result ≡ first_of name.now (rows_of (found_of matches.now)) }
 {
     matches.get_str(name)
+}
+
+/// The values of an option.
+pub(crate) fn words_of<'b, 'a>(matches: &'b ArgMatches<'a>, name: &str) -> Option<&'b [&'a str]>
+    ensures { option_map (λ words. map (λ word. word.now) words.now) result ≡ all_of name.now (rows_of (found_of matches.now)) }
+{
+    matches.get_raw(name)
 }
 
 /// The longest name of an edge or of a field.
@@ -220,6 +229,9 @@ pub fn setup_of(alloc: Global, matches: &ArgMatches<'_>) -> Result<Setup, SetupF
     let log = reported_of(matches)?;
     let tokens = tokens_of(matches)?;
     let private = private_of(alloc, matches)?;
+    let Some(send_fields) = sent_said(alloc, matches)? else {
+        return Err(SetupFault::Wrong(Named::SendFields));
+    };
     let origins = match origins_of(alloc, matches)? {
         Ok(origins) => origins,
         Err(fault) => return Err(SetupFault::Wrong(Named::Origin(fault))),
@@ -234,7 +246,9 @@ pub fn setup_of(alloc: Global, matches: &ArgMatches<'_>) -> Result<Setup, SetupF
         forwarded: copy_of(alloc, tokens.forwarded)?,
         admin_hosts: copy_of(alloc, tokens.hosts)?,
         pass_fields: copy_of(alloc, tokens.fields)?,
+        send_fields,
         private: private.prefixes,
         private_cookies: copy_of(alloc, private.cookies)?,
+        forward_fields: lowered_of(alloc, private.told)?,
     })
 }
