@@ -62,7 +62,8 @@ def usage_is_told():
         ["--admin", "127.0.0.1:0", "--admin-host", "*"], ["--admin", "127.0.0.1:0", "--admin-host", "a", "--admin-host", "b"],
         ["--forwarded", ""], ["--forwarded", "a b"], ["--forwarded", "f" * 65],
         ["--pass-fields"], ["--pass-fields", "a", "--pass-fields", "b"], ["--private"], ["--private", "http://a.test/", "--private", "http://b.test/"],
-        ["--private-cookies"], ["--private", "http://a.test/", "--private-cookies", "a", "--private-cookies", "b"], ["--cache-control", "x"], ["--cache-control=yes"], ["--cache-control", "--cache-control"],
+        ["--private-cookies"], ["--private", "http://a.test/", "--private-cookies", "a", "--private-cookies", "b"], ["--send-fields"], ["--forward-fields"],
+        ["--private", "http://a.test/", "--forward-fields", "a", "--forward-fields", "b"], ["--body-bytes", "300000", "--body-bytes", "300000"], ["--cache-control", "x"], ["--cache-control=yes"], ["--cache-control", "--cache-control"],
     )]
     for words in rows:
         status, printed, said = ended(*words)
@@ -192,7 +193,7 @@ def connections_that_no_files_are_left_for_are_told():
 
 def limits_are_taken():
     """The largest and the smallest of each number, an address of IPv6, and a thousand origins."""
-    most = [word for it in numbers() for word in ("--" + it.name, it.most)] + ["--name", "n" * 64, "--pass-fields", "n" * 64, "--private", "http://" + "n" * 63 + ".test/" + "n" * 1900 + "/", "--private-cookies", "n" * 64, "--head", "--abort-on-close", "--cache-control", "--etag"]
+    most = [word for it in numbers() for word in ("--" + it.name, it.most)] + ["--name", "n" * 64, "--pass-fields", "n" * 64, "--private", "http://" + "n" * 63 + ".test/" + "n" * 1900 + "/", "--private-cookies", "n" * 64, "--send-fields", "n" * 8191 + ":1", "--forward-fields", "n" * 64, "--head", "--abort-on-close", "--cache-control", "--etag"]
     # A server that accepts nobody answers nobody.
     least = [word for it in numbers() if it.name != "accept" for word in ("--" + it.name, it.least)] + ["--name", "~"]
     many = [word for at in range(1000) for word in ("--origin", "%d.test=127.0.0.1:80" % at)]
