@@ -1,5 +1,5 @@
 -- What an origin answered, and which answers the edge accepts.
-use Rattle.std.specs.Prelude.{ℕ, ◌≤◌, Bool, false, ◌&&◌, List, [], length, ⊤}
+use Rattle.std.specs.Prelude.{ℕ, ◌≤◌, Bool, false, ◌&&◌, ◌||◌, List, [], length, ⊤}
 use Rattle.edge_types.specs.declared.answer.Reply.{Reply}
 use Rattle.edge_types.specs.declared.answer.Reply.TheVariants.{Failed, Got}
 use Rattle.edge_types.specs.declared.control.Control.{Control}
@@ -34,10 +34,15 @@ abbrev pub succeeded : Reply → Bool
 succeeded Failed = false
 succeeded (Got head control body) = is_success head.status
 
--- the body is an ESI template, to be processed
+-- the body is an ESI template, to be processed where it is a page's
 abbrev pub processed : Reply → Bool
 processed Failed = false
-processed (Got head control body) = is_success head.status && control.esi
+processed (Got head control body) = control.esi && (is_success head.status || control.errors)
+
+-- and where it is a fragment's: a fragment under an error is none, whatever its body
+abbrev pub processed_as_fragment : Reply → Bool
+processed_as_fragment Failed = false
+processed_as_fragment (Got head control body) = is_success head.status && control.esi
 
 -- the body; a failure has none
 abbrev pub body_of : Reply → List ℕ

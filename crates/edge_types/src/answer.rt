@@ -50,7 +50,7 @@ impl Model for Answer {
 }
 
 impl Answer {
-    ghost use Rattle.edge_types.specs.Answered.{IsAcceptable, IsWithinLimits, failed, got, succeeded, processed, body_of};
+    ghost use Rattle.edge_types.specs.Answered.{IsAcceptable, IsWithinLimits, failed, got, succeeded, processed, processed_as_fragment, body_of};
     ghost use Rattle.edge_types.specs.Head.{head_of};
 
     /// The answer of a URL that could not be fetched. Takes no memory.
@@ -148,10 +148,22 @@ impl Answer {
         }
     }
 
-    /// Whether the body is an ESI template, to be processed: the fetch succeeded and its control
-    /// asks for it. Takes no memory.
+    /// Whether the body is an ESI template, to be processed where it is a page's: its control asks for it, and
+    /// the fetch succeeded or its control asks the same of errors. Takes no memory.
     pub fn processed(&self) -> bool
         ensures { result ≡ processed self.now.reply }
+    {
+        match &self.reply {
+            Reply::Failed => false,
+            Reply::Got { head, control, .. } => control.esi
+                && (head.is_success() || control.errors),
+        }
+    }
+
+    /// Whether the body is an ESI template, to be processed where it is a fragment's: the fetch succeeded and
+    /// its control asks for it. Takes no memory.
+    pub fn processed_as_fragment(&self) -> bool
+        ensures { result ≡ processed_as_fragment self.now.reply }
     {
         match &self.reply {
             Reply::Failed => false,

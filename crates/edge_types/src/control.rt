@@ -15,4 +15,6 @@ pub struct Control {
     pub extension: u32,
     /// The body is an ESI template, to be processed.
     pub esi: bool,
+    /// So is the body of a page whose status is no success. No header asks this: whoever runs the edge does.
+    pub errors: bool,
 }

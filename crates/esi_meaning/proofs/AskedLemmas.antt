@@ -6,9 +6,10 @@ use Rattle.std.specs.Option.{option_or}
 use Rattle.std.proofs.lemmas.Slice.Eq.{bytes_eq-Decides}
 use Rattle.std.proofs.lemmas.List.Elements.{Contains-append_left, Contains-append_right}
 use Rattle.edge_types.specs.declared.request.Request.{Request}
-use Rattle.edge_types.specs.Answered.{Answered, processed, body_of}
+use Rattle.edge_types.specs.Answered.{Answered, processed, processed_as_fragment, body_of}
 use Rattle.edge_types.specs.Asked.{resolve}
 use Rattle.edge_types.specs.Table.{is_of, answer_of, reply_in, reply_of}
+use Rattle.edge_types.proofs.AnswerLemmas.{processed_as_page}
 use Rattle.esi_vars.specs.declared.part.Part.{Part}
 use Rattle.esi_vars.specs.Values.{substituted}
 use Rattle.esi_tree.specs.Reading.{tree_of}
@@ -125,14 +126,14 @@ module _ (r : Request) (T : List Answered) where
   named_template below h w p (Ok t) e = of_elements r (OfLeg (Named r T)) (below w t) t (λ s c. h w t s (record { is_processed = p; is_tree = e }) c)
   named_template below h w p (Err place) e = tt
 
-  named_reply : (below : List ℕ → Elements → List Part → Run) → Below below → (w : List ℕ) → (b : Bool) → processed (reply_of T w) ≡ b
+  named_reply : (below : List ℕ → Elements → List Part → Run) → Below below → (w : List ℕ) → (b : Bool) → processed_as_fragment (reply_of T w) ≡ b
       → OfLegs (OfLeg (Named r T)) (if b then template_run r below w (tree_of (body_of (reply_of T w))) else unprocessed_run (reply_of T w))
-  named_reply below h w true p = named_template below h w p (tree_of (body_of (reply_of T w))) refl
+  named_reply below h w true p = named_template below h w (processed_as_page (reply_of T w) p) (tree_of (body_of (reply_of T w))) refl
   named_reply below h w false p = tt
 
   named_inline : (below : List ℕ → Elements → List Part → Run) → Below below → (n : ℕ) (u : List ℕ) (t : Elements) (w : List ℕ) → Stands T u t → HasSource r u t w
       → (inline : Option Elements) → inline_for u w t ≡ inline → OfLegs (OfLeg (Named r T)) (named_run r below T n u t w inline)
-  named_inline below h n u t w stands is None e = (record { v = u; t = t; stands = stands; is = is; unnamed = e }, named_reply below h w (processed (reply_of T w)) refl)
+  named_inline below h n u t w stands is None e = (record { v = u; t = t; stands = stands; is = is; unnamed = e }, named_reply below h w (processed_as_fragment (reply_of T w)) refl)
   named_inline below h n u t w stands is (Some content) e =
       (tt, of_elements r (OfLeg (Named r T)) (below u t) content (λ s c. h u t s stands (within_elements u w t content e s c)))
 

@@ -4,7 +4,7 @@ use Rattle.std.specs.List.{AllByRecursion, Contains}
 use Rattle.std.proofs.lemmas.List.Elements.{Contains-append_left, Contains-append_right}
 use Rattle.edge_types.specs.declared.request.Request.{Request}
 use Rattle.edge_types.specs.declared.answer.Reply.{Reply}
-use Rattle.edge_types.specs.Answered.{Answered, processed, body_of}
+use Rattle.edge_types.specs.Answered.{Answered, processed, processed_as_fragment, body_of}
 use Rattle.edge_types.specs.Asked.{resolve}
 use Rattle.edge_types.specs.Table.{reply_of}
 use Rattle.esi_vars.specs.declared.part.Part.{Part}
@@ -130,7 +130,7 @@ module _ (r : Request) (T : List Answered) where
     level_template w (Err place) = tt
 
     level_reply : (w : List ℕ) (reply : Reply) → OfLegs (IsAtLevel n) (reply_run r below w reply)
-    level_reply w reply = of_if (IsAtLevel n) (processed reply) (template_run r below w (tree_of (body_of reply))) (unprocessed_run reply) (level_template w (tree_of (body_of reply))) tt
+    level_reply w reply = of_if (IsAtLevel n) (processed_as_fragment reply) (template_run r below w (tree_of (body_of reply))) (unprocessed_run reply) (level_template w (tree_of (body_of reply))) tt
 
     above : (run : Run) → OfLegs (IsAtLevel n) run → OfLegs (IsAtLevel (suc n)) run
     above run all = all_mapped (IsAtLevel n) (IsAtLevel (suc n)) (one_more n) run.legs all

@@ -2,7 +2,7 @@
 use Rattle.std.proofs.Common.{ℕ, zero, suc, Bool, true, false, if◌then◌else◌, List, Option, Some, None, Result, Ok, Err}
 use Rattle.edge_types.specs.declared.request.Request.{Request}
 use Rattle.edge_types.specs.declared.answer.Reply.{Reply}
-use Rattle.edge_types.specs.Answered.{Answered, processed, body_of}
+use Rattle.edge_types.specs.Answered.{Answered, processed_as_fragment, body_of}
 use Rattle.edge_types.specs.Asked.{resolve}
 use Rattle.edge_types.specs.Table.{reply_of}
 use Rattle.esi_vars.specs.declared.part.Part.{Part}
@@ -50,7 +50,7 @@ module _ {S T : List Answered} (r : Request) (f g : List ℕ → Elements → Li
   near-template w (Err place) = near_refl
 
   near-reply : (w : List ℕ) (reply : Reply) → Near S T (reply_run r f w reply) (reply_run r g w reply)
-  near-reply w reply = near_if (processed reply) (near-template w (tree_of (body_of reply))) near_refl
+  near-reply w reply = near_if (processed_as_fragment reply) (near-template w (tree_of (body_of reply))) near_refl
 
   near-named : (m : ℕ) (u : List ℕ) (t : Elements) (w : List ℕ) (inline : Option Elements) → Near S T (named_run r f S m u t w inline) (named_run r g T m u t w inline)
   near-named m u t w (Some content) = near-tries AsksNobody (λ _. near-elements r (f u t) (g u t) (n u t) content)

@@ -7,7 +7,7 @@ use Rattle.edge_types.specs.declared.request.Request.{Request}
 use Rattle.edge_types.specs.declared.answer.Reply.{Reply}
 use Rattle.edge_types.specs.declared.answer.Reply.TheVariants.{Failed, Got}
 use Rattle.edge_types.specs.declared.outcome.PageFault.TheVariants.{PageFetch, BadTemplate, IncludeFailed, TooManyLegs}
-use Rattle.edge_types.specs.Answered.{Answered, succeeded, processed, body_of}
+use Rattle.edge_types.specs.Answered.{Answered, succeeded, processed, processed_as_fragment, body_of}
 use Rattle.edge_types.specs.Asked.{resolve}
 use Rattle.edge_types.specs.Table.{reply_of}
 use Rattle.edge_types.specs.Outcome.{Shown, Page, Fault}
@@ -86,7 +86,7 @@ module _ (r : Request) (below : List ℕ → Elements → List Part → Run) whe
 
   -- what an origin's reply results in
   abbrev pub reply_run : List ℕ → Reply → Run
-  reply_run w reply = if processed reply then template_run w (tree_of (body_of reply)) else unprocessed_run reply
+  reply_run w reply = if processed_as_fragment reply then template_run w (tree_of (body_of reply)) else unprocessed_run reply
 
   -- a leg with the URL w in the template of the URL u with the tree t: the content of an inline of this template, for
   -- which nothing is fetched, or else what the origin replies; the leg is tried at level n

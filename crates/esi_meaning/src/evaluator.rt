@@ -288,7 +288,7 @@ fn answered(
     ensures { IfOk result
         (Ends (reply_at setting.now level url.now (arc_value answer.now).reply) draft.old draft.new) }
 {
-    if answer.processed() {
+    if answer.processed_as_fragment() {
         processed(setting, level, url, &answer.share_body()?, draft)
     } else {
         unprocessed(answer, draft)

@@ -6,7 +6,7 @@ use Rattle.std.proofs.Math.Seq.{take-length}
 use borrow.Author.Tests.{ltb-true}
 use Rattle.edge_types.specs.declared.request.Request.{Request}
 use Rattle.edge_types.specs.declared.answer.Reply.{Reply}
-use Rattle.edge_types.specs.Answered.{Answered, succeeded, processed, body_of}
+use Rattle.edge_types.specs.Answered.{Answered, succeeded, processed_as_fragment, body_of}
 use Rattle.edge_types.specs.Asked.{resolve}
 use Rattle.edge_types.specs.Pieces.{joined, with_piece, with_pieces}
 use Rattle.edge_types.specs.Table.{answer_of, reply_in, reply_of}
@@ -196,7 +196,7 @@ module _ (r : Request) (log : List Answered) where
       asking_kept n w (Some a) is m e =
           let logged : is_missing log w ≡ false = ap is_none is in
           let reply : reply_of log w ≡ a.reply = ap reply_in is in
-          rw reply (reply_kept n w a.reply logged (processed a.reply) m e)
+          rw reply (reply_kept n w a.reply logged (processed_as_fragment a.reply) m e)
 
       -- the inline of the template, if one names the URL
       abbrev NamedAs : ℕ → List ℕ → Option Elements → Option Inline → Type 0

@@ -3,7 +3,7 @@ use Rattle.std.proofs.Common.{◌≡◌, inl, inr, ℕ, zero, suc, ◌+◌, ◌<
 use borrow.Author.Tests.{ltb-true}
 use Rattle.edge_types.specs.declared.request.Request.{Request}
 use Rattle.edge_types.specs.declared.answer.Reply.{Reply}
-use Rattle.edge_types.specs.Answered.{Answered, succeeded, processed, body_of}
+use Rattle.edge_types.specs.Answered.{Answered, succeeded, processed_as_fragment, body_of}
 use Rattle.edge_types.specs.Asked.{resolve}
 use Rattle.edge_types.specs.Pieces.{with_piece, with_pieces}
 use Rattle.edge_types.specs.Table.{answer_of}
@@ -63,7 +63,7 @@ module _ (r : Request) (log : List Answered) where
 
   asking_with : (legs : ℕ) (out : List (List ℕ)) (fs : List Frame) (n : ℕ) (w : List ℕ) (o : Option Answered) → IsWith legs (asking_leg r log legs out fs n w o)
   asking_with legs out fs n w None m e = absurd (cc)
-  asking_with legs out fs n w (Some a) m e = answered_with legs out fs n w a.reply (processed a.reply) m e
+  asking_with legs out fs n w (Some a) m e = answered_with legs out fs n w a.reply (processed_as_fragment a.reply) m e
 
   named_with : (legs : ℕ) (out : List (List ℕ)) (f : Frame) (fs : List Frame) (n : ℕ) (w : List ℕ) (o : Option Inline) → IsWith legs (named_leg r log legs out f fs n w o)
   named_with legs out f fs n w (Some p) m e = goes_with legs out (record { url = f.url; tree = f.tree; level = n; at = p.first; end = p.end; handlers = [] } ∷ f ∷ fs) m e

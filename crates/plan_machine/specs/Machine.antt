@@ -2,7 +2,7 @@
 use Rattle.std.specs.Prelude.{ℕ, zero, suc, ◌+◌, max, Bool, true, false, nat_lt, List, [], ◌∷◌, length, take, slice_get, Option, Some, None, Result, Ok, Err, if◌then◌else◌}
 use Rattle.edge_types.specs.declared.request.Request.{Request}
 use Rattle.edge_types.specs.declared.answer.Reply.{Reply}
-use Rattle.edge_types.specs.Answered.{Answered, succeeded, processed, body_of}
+use Rattle.edge_types.specs.Answered.{Answered, succeeded, processed_as_fragment, body_of}
 use Rattle.edge_types.specs.Asked.{resolve}
 use Rattle.edge_types.specs.Pieces.{with_piece, with_pieces}
 use Rattle.edge_types.specs.Table.{answer_of}
@@ -90,7 +90,7 @@ module _ (r : Request) (log : List Answered) where
   template_leg legs out fs n w (Err place) = unwound legs out fs
 
   abbrev pub answered_leg : ℕ → List (List ℕ) → List Frame → ℕ → List ℕ → Reply → Machine
-  answered_leg legs out fs n w reply = if processed reply then template_leg legs out fs n w (tree_of (body_of reply)) else plain_leg legs out fs reply
+  answered_leg legs out fs n w reply = if processed_as_fragment reply then template_leg legs out fs n w (tree_of (body_of reply)) else plain_leg legs out fs reply
 
   abbrev pub asking_leg : ℕ → List (List ℕ) → List Frame → ℕ → List ℕ → Option Answered → Next
   asking_leg legs out fs n w None = Waits (suc n) w

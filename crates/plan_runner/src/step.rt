@@ -1,6 +1,5 @@
 //! One step of a page.
 ghost use Rattle.std.specs.Prelude.{◌≡◌, false, [], ◌∷◌, ◌+◌, ◌≤◌, OnOk, IfOk, length};
-ghost use Rattle.std.specs.Arc.{arc_value};
 ghost use Rattle.answer_board.specs.Board.{State, answer_at, log_of};
 ghost use Rattle.edge_types.specs.declared.request.Request.{Request};
 ghost use Rattle.edge_types.specs.Pieces.{with_piece, with_pieces};
@@ -11,7 +10,7 @@ ghost use Rattle.plan_compiler.specs.Plan as spec;
 ghost use Rattle.plan_compiler.specs.Shown.{step_of};
 ghost use Rattle.plan_compiler.specs.Urls.{entries_of};
 ghost use Rattle.plan_machine.specs.LastLeg.{leg_as, tried_by};
-ghost use Rattle.plan_machine.specs.Machine.{Went, goes, unwound, moved, handled, without_first, plain_leg, doing};
+ghost use Rattle.plan_machine.specs.Machine.{Went, goes, unwound, moved, handled, without_first, doing};
 ghost use Rattle.plan_runner.specs.LastLeg.{IsHeldAt, Remembers};
 ghost use Rattle.plan_runner.specs.Reached.{with_frame, Reaches};
 ghost use Rattle.plan_runner.specs.Shown.{shown_frame, shown_frames, shown_machine, IsPlaced, ArePlaced};
@@ -21,13 +20,12 @@ use crate::frames::Frame;
 use crate::handlers::Handlers;
 use crate::leg::{Setting, Target, find_target};
 use crate::machine::{Machine, give, go_on, unwind};
-use edge_types::{Answer, NoMemory, PageUrl, SharedBytes};
+use edge_types::{NoMemory, PageUrl, SharedBytes};
 use esi_meaning::MAX_LEGS;
 use esi_tree::Parts;
 use esi_vars::push_values;
 use plan_compiler::{Form, Leg, Prepared, Step};
 use plan_machine::Handler;
-use std::sync::Arc;
 
 // How a step ends.
 #[derive(Drop)]
@@ -193,26 +191,6 @@ fn give_values(
     Ok(())
 }
 
-// An answer that isn't processed: its body as it is, if the fetch succeeded.
-fn give_plain(
-    machine: &mut Machine,
-    frame: Frame,
-    answer: &Arc<Answer>,
-    most: usize,
-) -> Result<(), NoMemory>
-    requires { frame.at + 1 ≤ usize.MAX }
-    ensures shown { OnOk result ((board : State) (r : Request) → shown_machine board machine.new ≡ plain_leg r (log_of board) machine.old.legs machine.old.out (moved (shown_frame board frame) (frame.at + 1) ∷ shown_frames board machine.old.frames) (arc_value answer.now).reply) }
-    ensures placed { OnOk result ((board : State) → IsPlaced board frame → ArePlaced board machine.old.frames → ArePlaced board machine.new.frames) }
-{
-    if !answer.succeeded() {
-        fail(machine, frame)?;
-        return Ok(());
-    }
-    let body = answer.share_body()?;
-    give_next(machine, frame, body, most)?;
-    Ok(())
-}
-
 // What the answer in the slot with this number results in.
 fn enter(
     machine: &mut Machine,
@@ -232,9 +210,16 @@ fn enter(
         machine.last = None;
         return Ok(());
     };
+    // A page's own answer may be a template under an error; a fragment under an error is none.
+    if !prepared.answer().succeeded() {
+        fail(machine, frame)?;
+        machine.last = Some(number);
+        return Ok(());
+    }
     match prepared.form() {
         Form::Plain => {
-            give_plain(machine, frame, prepared.answer(), setting.most)?;
+            let body = prepared.answer().share_body()?;
+            give_next(machine, frame, body, setting.most)?;
             machine.last = Some(number);
             Ok(())
         }

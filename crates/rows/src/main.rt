@@ -98,6 +98,7 @@ fn answer_of_pages(rt: &HostRuntime, table: &str, row: &[u8], line: &mut Line) -
     let alloc = rt.alloc();
     match table {
         "plain_page" => meaning::plain_page(alloc, row, line),
+        "error_page" => meaning::error_page(alloc, row, line),
         "leg_url" => meaning::leg_url(alloc, row, line),
         "are_levels" => meaning::are_levels(row, line),
         "answer_head" => heads::answer_head(alloc, row, line),

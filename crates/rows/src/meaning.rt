@@ -12,23 +12,47 @@ use std::sync::Arc;
 pub fn plain_page(alloc: Global, row: &[u8], line: &mut Line) -> Option<()> {
     let url = url(alloc, b"http://a.test/p")?;
     let mut table = Table::new(alloc);
-    push_page(alloc, &url, row, &mut table, line)
+    add_template(alloc, &url, 200, row, &mut table)?;
+    push_page(alloc, &url, &table, line)
 }
 
-fn push_page(
+/// A row is a status and, after a space, a template that is a page under it, and asks for that also under errors. The
+/// fragment `/e` is one under 404.
+pub fn error_page(alloc: Global, row: &[u8], line: &mut Line) -> Option<()> {
+    let (status, text) = pair(row);
+    let page = url(alloc, b"http://a.test/p")?;
+    let fragment = url(alloc, b"http://a.test/e")?;
+    let mut table = Table::new(alloc);
+    add_template(alloc, &page, number(status)?, text, &mut table)?;
+    add_template(alloc, &fragment, 404, b"<esi:vars>e</esi:vars>", &mut table)?;
+    push_page(alloc, &page, &table, line)
+}
+
+// Adds a template under a status, to be processed even if that is an error's.
+fn add_template(
     alloc: Global,
     url: &PageUrl,
+    status: u16,
     text: &[u8],
     table: &mut Table,
-    line: &mut Line,
 ) -> Option<()> {
     let control = Control {
         esi: true,
+        errors: true,
         ..Control::default()
     };
     let body = SharedBytes::copy_of(alloc, text).ok()?;
-    let answer = Answer::got(url.share().ok()?, 200, Octets::empty(alloc), control, body)?;
-    table.insert(Arc::new(alloc, answer).ok()?).ok()?;
+    let answer = Answer::got(
+        url.share().ok()?,
+        status,
+        Octets::empty(alloc),
+        control,
+        body,
+    )?;
+    table.insert(Arc::new(alloc, answer).ok()?).ok()
+}
+
+fn push_page(alloc: Global, url: &PageUrl, table: &Table, line: &mut Line) -> Option<()> {
     let request = Request::empty();
     match &esi_meaning::plain_page(alloc, url, &request, table, 4).ok()? {
         Outcome::Page { head, body } => {

@@ -23,6 +23,7 @@ control_from no_store age esi = record {
   max_age = option_map (λ a. a.seconds) age;
   extension = option_map_or (λ a. a.extension) age 0;
   esi = unwrap_or esi false;
+  errors = false;
 }
 
 pub settled_nothing : (device : List ℕ) (ds : List Directive) → settled nothing device ds ≡ control_by ds device

@@ -66,6 +66,7 @@ control_by ds device = record {
   max_age = option_map (λ a. a.seconds) (counting age_asked device ds);
   extension = option_map_or (λ a. a.extension) (counting age_asked device ds) 0;
   esi = unwrap_or (counting esi_asked device ds) false;
+  errors = false;
 }
 
 -- what a value asks of a device

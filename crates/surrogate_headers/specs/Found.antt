@@ -47,4 +47,5 @@ settled found device ds = record {
   max_age = option_map (λ a. a.seconds) (settled_choice found.age age_asked device ds);
   extension = option_map_or (λ a. a.extension) (settled_choice found.age age_asked device ds) 0;
   esi = unwrap_or (settled_choice found.esi esi_asked device ds) false;
+  errors = false;
 }

@@ -108,6 +108,7 @@ impl Found {
             max_age: age.map(|age| age.seconds),
             extension: age.map_or(0, |age| age.extension),
             esi: self.esi.made().unwrap_or(false),
+            errors: false,
         }
     }
 }
