@@ -32,6 +32,7 @@ fn call(rt: &HostRuntime, name: &str) -> Option<()> {
         "Answer::share_body" => values::share_body(rt, name),
         "SharedBytes::part" => values::part(rt, name),
         "PageBody::push" => values::push_piece(rt, name),
+        "Standings::add" => values::add_standing(rt, name),
         "Table::insert" => values::insert(rt, name),
         "capability" => values::capability(rt, name),
         "answer_head" => heads::answer_head(rt, name),

@@ -6,6 +6,9 @@ use edge_types::{
     Answer, Control, InsertFault, NoMemory, PageBody, PageUrl, Request, RequestField, SharedAnswer,
     SharedBytes, Table, is_token,
 };
+use origin_lookup::Standings;
+use std::alloc::AllocError;
+use std::net::SocketAddr;
 use std::sync::Arc;
 use surrogate_headers::own_device;
 
@@ -135,6 +138,22 @@ pub fn push_piece(rt: &HostRuntime, name: &str) -> Option<()> {
     number(rt, body.len())?;
     for at in 0..body.mark() {
         bytes(rt, body.piece(at)?)?;
+    }
+    Some(())
+}
+
+/// Adds the first origin of those whose names are looked up.
+pub fn add_standing(rt: &HostRuntime, name: &str) -> Option<()> {
+    let mut standings = Standings::new(rt.alloc());
+    calls(rt, name)?;
+    let added = standings.add(SocketAddr::from(([127, 0, 0, 1], 80)));
+    answers(rt)?;
+    match added {
+        Ok(()) => word(rt, "added")?,
+        Err(AllocError) => out_of_memory(rt)?,
+    }
+    if standings.address_at(0).is_some() {
+        word(rt, "left 1")?;
     }
     Some(())
 }
