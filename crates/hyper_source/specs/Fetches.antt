@@ -1,5 +1,5 @@
 -- What a fetch results in.
-use Rattle.std.specs.Prelude.{◌≡◌, ℕ, ◌<◌, ◌≤◌, ◌⊎◌, ⊤, Bool, true, false, ◌&&◌, List, [], length, codes, Option, Some, None, is_some, Result, IfOk, IsErr, MatchOption, if◌then◌else◌}
+use Rattle.std.specs.Prelude.{◌≡◌, ℕ, ◌<◌, ◌≤◌, ◌⊎◌, ⊤, Bool, true, false, ◌&&◌, ◌||◌, nat_le, List, [], length, codes, Option, Some, None, is_some, Result, IfOk, IsErr, MatchOption, if◌then◌else◌}
 use Rattle.std.specs.List.{join_by}
 use Rattle.edge_types.specs.Answered.{failed}
 use Rattle.edge_types.specs.Head.{IsContentType, is_success}
@@ -70,18 +70,33 @@ control_heeded rules fields =
     then heeded (control_asked fields rules.device.now) (value_of (codes "cache-control") fields) (sets_cookies fields)
     else control_asked fields rules.device.now
 
--- the same, but nothing is kept
+-- but nothing is kept
 abbrev pub never_stored : Control → Control
 never_stored control = record control { no_store = true }
 
--- how an answer with this head may be kept: never where nothing tells whether its body is whole
+-- the status of an error (RFC 9110, sections 15.5 and 15.6)
+abbrev pub is_error : ℕ → Bool
+is_error status = nat_le 400 status && nat_le status 599
+
+-- the same of a whole head, whose body may be a template under an error, if these rules say so
+abbrev pub with_errors : Bool → Control → Control
+with_errors errors control = record control { errors = errors }
+
+abbrev pub control_said : HeadRules → Parts → Control
+control_said rules parts = with_errors (rules.processes_errors && is_error parts.status) (control_heeded rules parts.headers)
+
+-- what an answer with this head asks of the edge: never to be kept where nothing tells whether its body is whole
 pub record IsControlFor (rules : HeadRules) (parts : Parts) (control : Control) : Type 0 where
-  pub framed : ¬ (EndsByClose parts) → control ≡ control_heeded rules parts.headers
-  pub unframed : EndsByClose parts → control ≡ never_stored (control_heeded rules parts.headers)
+  pub framed : ¬ (EndsByClose parts) → control ≡ control_said rules parts
+  pub unframed : EndsByClose parts → control ≡ never_stored (control_said rules parts)
+
+-- a body under this status is a template, where so much is asked
+abbrev pub asks_processing : ℕ → Control → Bool
+asks_processing status control = control.esi && (is_success status || control.errors)
 
 -- the body is a template
 abbrev pub is_template : HeadRules → Parts → Bool
-is_template rules parts = is_success parts.status && (control_heeded rules parts.headers).esi
+is_template rules parts = asks_processing parts.status (control_said rules parts)
 
 -- the fields that a page's reader gets
 abbrev pub fields_for : HeadRules → Parts → List HeadField

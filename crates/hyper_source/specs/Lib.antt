@@ -11,4 +11,5 @@ pub mod Reuse
 pub mod Behind
 pub mod Gate
 pub mod Notes
+pub mod Asking
 pub mod Authorities

@@ -13,6 +13,8 @@ pub(crate) struct HeadRules<'a> {
     pub(crate) is_private: bool,
     /// Whether `Cache-Control` counts where `Surrogate-Control` doesn't say for how long the answer is fresh.
     pub(crate) heeds_cache_control: bool,
+    /// Whether the body of an error may be a template.
+    pub(crate) processes_errors: bool,
     /// How long its body may be.
     pub(crate) limits: BodyLimits,
 }

@@ -1,6 +1,6 @@
 //! Connections to origins that are kept for further requests.
 
-ghost use Rattle.std.specs.Prelude.{◌≡◌, ◌<◌, ◌↔◌, length, slice_get, IsTrue, IfOk, IfSome, IsOkAnd, IsErrAnd};
+ghost use Rattle.std.specs.Prelude.{◌≡◌, ◌<◌, ◌↔◌, nat_lt, length, slice_get, IsTrue, IfOk, IfSome, IsOkAnd, IsErrAnd};
 ghost use Rattle.std.specs.Arc.{arc_value};
 ghost use Rattle.std.specs.IoError.{error_kind};
 ghost use Rattle.hyper_source.specs.declared.pool.Heard.TheVariants as heard;
@@ -74,7 +74,9 @@ impl Pool {
     }
 
     /// Whether any are kept.
-    pub(crate) fn keeps(&self) -> bool {
+    pub(crate) fn keeps(&self) -> bool
+        ensures { result ≡ nat_lt 0 self.now.most }
+    {
         self.most > 0
     }
 

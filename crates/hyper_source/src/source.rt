@@ -1,7 +1,12 @@
 //! A source that fetches from origins.
 
-ghost use Rattle.std.specs.Prelude.{◌≡◌, IfOk, Some, true};
+ghost use Rattle.std.specs.Prelude.{◌≡◌, [], ◌++◌, map, nat_lt, IfOk, Some, None, true, option_map};
 ghost use Rattle.std.specs.Arc.{arc_value};
+ghost use Rattle.edge_types.specs.Asked.{authority_of};
+ghost use Rattle.http.specs.Request.{head_of};
+ghost use Rattle.http_header.specs.HeaderMap.{append_all};
+ghost use Rattle.surrogate_headers.specs.Capability.{capability_of};
+ghost use Rattle.hyper_source.specs.Asking as asking;
 ghost use Rattle.hyper_source.specs.Names.{device_of};
 ghost use Rattle.hyper_source.specs.Private as spec;
 
@@ -28,6 +33,8 @@ use edge_types::{Answer, HeadField, HeadFields, NoMemory, PageUrl, SharedBytes};
 use fetch_outcomes::FetchFault;
 use http::Request;
 use http_body_util::Empty;
+use origin_health::FetchEnd;
+use origin_lookup::SharedStandings;
 use std::alloc::Global;
 use std::hash::RandomState;
 use std::io;
@@ -68,11 +75,14 @@ pub struct HyperSource {
     sent: HeadFields,
     limits: BodyLimits,
     pool: Pool,
+    // Where origins listen, if their names are looked up again.
+    standings: Option<Arc<SharedStandings>>,
     // Of each address, where fetches are bounded.
     gates: Arc<Vec<OriginGate>>,
     // The names of the fields that readers get.
     passed: SharedBytes,
     heeds_cache_control: bool,
+    processes_errors: bool,
 }
 
 // What sources for other requests use too.
@@ -113,9 +123,11 @@ impl HyperSource {
             sent: HeadFields::none(),
             limits: BodyLimits::unset(),
             pool,
+            standings: None,
             gates: Arc::new(alloc, Vec::new(alloc))?,
             passed: SharedBytes::new(),
             heeds_cache_control: false,
+            processes_errors: false,
         })
     }
 
@@ -179,6 +191,17 @@ impl HyperSource {
         self
     }
 
+    /// The same source, which connects to each origin where these standings say, and tells them of each to which a
+    /// connection can't be made. Bounds and kept connections go on by the addresses of the start.
+    ///
+    /// Our profile.
+    pub fn following(mut self, standings: Arc<SharedStandings>) -> HyperSource
+        ensures { result ≡ record self { standings = Some standings } }
+    {
+        self.standings = Some(standings);
+        self
+    }
+
     /// The same source with these bounds for the fetches to each address. A fetch that is one too many, or is to
     /// an origin that rests, isn't made: its answer is a failed one at once. Before that as many wait as may, each until
     /// all who asked before have gone, and no longer than half the time that a fetch may take.
@@ -211,6 +234,17 @@ impl HyperSource {
         self
     }
 
+    /// The same source, for which the body of an error, of status 400 to 599, may be a template too: a page is then
+    /// made of it under that status. A fragment under an error is none, whatever its body.
+    ///
+    /// Our profile.
+    pub fn processing_errors(mut self) -> HyperSource
+        ensures { result ≡ record self { processes_errors = true } }
+    {
+        self.processes_errors = true;
+        self
+    }
+
     // Whether answers of a URL are for one request alone.
     fn has_private(&self, url: &PageUrl) -> bool
         ensures { result ≡ spec.is_private (arc_value self.now.private).items url.now }
@@ -224,6 +258,7 @@ impl HyperSource {
         ensures passed { result.passed.now ≡ self.now.passed }
         ensures private { result.is_private ≡ spec.is_private (arc_value self.now.private).items url.now }
         ensures heeds { result.heeds_cache_control ≡ self.now.heeds_cache_control }
+        ensures errors { result.processes_errors ≡ self.now.processes_errors }
         ensures limits { result.limits ≡ self.now.limits }
     {
         HeadRules {
@@ -231,6 +266,7 @@ impl HyperSource {
             passed: self.passed.as_bytes(),
             is_private: self.has_private(url),
             heeds_cache_control: self.heeds_cache_control,
+            processes_errors: self.processes_errors,
             limits: self.limits,
         }
     }
@@ -258,8 +294,9 @@ impl HyperSource {
         ensures sent { IfOk result (λ source. source.sent ≡ self.now.sent) }
         ensures limits { IfOk result (λ source. source.limits ≡ self.now.limits) }
         ensures pool { IfOk result (λ source. (source.pool.most ≡ self.now.pool.most) × (arc_value source.pool.shared ≡ arc_value self.now.pool.shared)) }
+        ensures standings { IfOk result (λ source. option_map arc_value source.standings ≡ option_map arc_value self.now.standings) }
         ensures gates { IfOk result (λ source. arc_value source.gates ≡ arc_value self.now.gates) }
-        ensures heads { IfOk result (λ source. (source.passed ≡ self.now.passed) × (source.heeds_cache_control ≡ self.now.heeds_cache_control)) }
+        ensures heads { IfOk result (λ source. (source.passed ≡ self.now.passed) × (source.heeds_cache_control ≡ self.now.heeds_cache_control) × (source.processes_errors ≡ self.now.processes_errors)) }
     {
         Ok(HyperSource {
             shared: Arc::try_clone(&self.shared)?,
@@ -272,15 +309,40 @@ impl HyperSource {
             sent: self.sent.share()?,
             limits: self.limits,
             pool: self.pool.share()?,
+            standings: owner_of(&self.standings)?,
             gates: Arc::try_clone(&self.gates)?,
             passed: self.passed.share()?,
             heeds_cache_control: self.heeds_cache_control,
+            processes_errors: self.processes_errors,
         })
     }
 
-    // The origin that is asked for a URL.
-    fn origin_of(&self, url: &PageUrl) -> Option<Chosen> {
-        origin_for(self.shared.origins.as_slice(), url.authority())
+    // The origin that is asked for a URL, where it listens now.
+    fn origin_of<R: Wait>(&self, rt: &R, url: &PageUrl) -> Option<Chosen> {
+        let chosen = origin_for(self.shared.origins.as_slice(), url.authority())?;
+        Some(self.now_at(rt, chosen))
+    }
+
+    // The same origin, where it listens now.
+    fn now_at<R: Wait>(&self, rt: &R, chosen: Chosen) -> Chosen
+        ensures place { result.place ≡ chosen.place }
+        ensures address { result.address ≡ chosen.address }
+        ensures fixed { self.now.standings ≡ None → result ≡ chosen }
+    {
+        let Some(standings) = &self.standings else {
+            return chosen;
+        };
+        match standings.address_at(rt, chosen.place) {
+            Some(now) => Chosen { now, ..chosen },
+            None => chosen,
+        }
+    }
+
+    // Tells of an origin to which no connection could be made.
+    fn told_end<R: Wait>(&self, rt: &R, origin: Chosen, end: FetchEnd) {
+        if let (Some(standings), FetchEnd::Unreachable) = (&self.standings, end) {
+            standings.lose(rt, origin.place);
+        }
     }
 
     // What is to be fetched for a URL, if it has an origin.
@@ -307,9 +369,11 @@ impl HyperSource {
     }
 
     // What an origin is asked for a URL.
-    fn request(&self, alloc: Global, url: &PageUrl) -> Result<Request<Empty<Bytes>>, Lost> {
-        let way = self.way.as_deref();
-        let request = request_of(alloc, url, &self.name, way, self.pool.keeps())?;
+    fn request(&self, alloc: Global, url: &PageUrl) -> Result<Request<Empty<Bytes>>, Lost>
+        ensures { IfOk result (λ request. (head_of request).headers ≡ append_all [] (asking.own_lines (authority_of url.now) (capability_of (device_of self.now.name)) (nat_lt 0 self.now.pool.most) (option_map (λ way. way.items) self.now.way) self.now.name
+            ++ map asking.line_of self.now.sent ++ map asking.line_of (spec.told_for (spec.is_private (arc_value self.now.private).items url.now) self.now.own))) }
+    {
+        let request = request_of(alloc, url, &self.name, &self.way, self.pool.keeps())?;
         let request = with_fields(request, self.sent.as_slice());
         whole(with_fields(request, self.told_for(url)))
     }
@@ -330,6 +394,18 @@ impl HyperSource {
         let place = origin.map(|origin| origin.place);
         self.shared.notes.note(rt, url, place, fault);
         Ok(answer)
+    }
+}
+
+// One more owner of standings.
+fn owner_of(
+    standings: &Option<Arc<SharedStandings>>,
+) -> Result<Option<Arc<SharedStandings>>, NoMemory>
+    ensures { IfOk result (λ more. option_map arc_value more ≡ option_map arc_value standings.now) }
+{
+    match standings {
+        Some(standings) => Ok(Some(Arc::try_clone(standings)?)),
+        None => Ok(None),
     }
 }
 

@@ -1,5 +1,8 @@
 //! Fetches of one page that are in flight at once.
 
+ghost use Rattle.std.specs.Prelude.{◌≡◌, IfOk};
+ghost use Rattle.std.specs.Arc.{arc_value};
+
 use crate::behind::Behind;
 use crate::bounded::{end_of, gate_of};
 use crate::errand::Errand;
@@ -21,7 +24,6 @@ use answer_sources::{Arrival, Awaited, Bell, ConcurrentSource, Given};
 use edge_types::{Answer, NoMemory, PageUrl};
 use fetch_outcomes::FetchFault;
 use std::alloc::Global;
-use std::net::SocketAddr;
 use std::sync::{Arc, Wait};
 use std::time::{Clock, Duration, Instant};
 
@@ -121,7 +123,7 @@ impl HyperSource {
             Ok(Some(key)) => in_flight.due.push_back(key)?,
             Ok(None) => {}
             Err(lost) => {
-                let answer = self.noted(rt, alloc, &url, Some(origin), Err(lost))?;
+                let answer = self.not_begun(rt, alloc, &url, Some(origin), lost)?;
                 in_flight.answers.push_back(answer)?;
             }
         }
@@ -174,7 +176,7 @@ impl HyperSource {
             Some(idle) => self.attempt(alloc, &errand.url, idle.socket, true, None)?,
             None => {
                 let told = reach.share()?;
-                self.new_attempt(rt, alloc, &errand.url, errand.origin.address, told)?
+                self.new_attempt(rt, alloc, &errand.url, errand.origin, told)?
             }
         };
         Ok(Fetch::new(errand, reach, attempt))
@@ -186,10 +188,10 @@ impl HyperSource {
         rt: &R,
         alloc: Global,
         url: &PageUrl,
-        address: SocketAddr,
+        origin: Chosen,
         told: Reach,
     ) -> Result<Attempt, Lost> {
-        match OriginSocket::connecting(rt, address) {
+        match OriginSocket::connecting(rt, origin) {
             Ok(socket) => self.attempt(alloc, url, socket, false, Some(told)),
             Err(error) => Err(lost_by(&error)),
         }
@@ -244,12 +246,30 @@ impl HyperSource {
             return Ok(());
         };
         let told = fetch.told()?;
-        let attempt = self.new_attempt(rt, alloc, &fetch.url, fetch.origin.address, told)?;
+        let attempt = self.new_attempt(rt, alloc, &fetch.url, fetch.origin, told)?;
         fetch.retries(attempt);
         match in_flight.due.push_back(key) {
             Ok(()) => Ok(()),
             Err(_) => Err(Lost::NoMemory),
         }
+    }
+
+    // The answer of a fetch that couldn't be begun.
+    fn not_begun<R: Wait + Clock>(
+        &self,
+        rt: &R,
+        alloc: Global,
+        url: &PageUrl,
+        origin: Option<Chosen>,
+        lost: Lost,
+    ) -> Result<Arc<Answer>, NoMemory>
+        ensures { IfOk result (λ answer. (arc_value answer).url ≡ url.now) }
+    {
+        let came = Err(lost);
+        if let Some(origin) = origin {
+            self.told_end(rt, origin, end_of(false, &came));
+        }
+        self.noted(rt, alloc, url, origin, came)
     }
 
     // Takes out a fetch that has ended so: its answer.
@@ -269,9 +289,11 @@ impl HyperSource {
             Some(fetch) => fetch.is_connected(),
             None => false,
         };
-        let Some(fetch) = in_flight.remove(rt, key, end_of(is_connected, &came)) else {
+        let end = end_of(is_connected, &came);
+        let Some(fetch) = in_flight.remove(rt, key, end) else {
             return Ok(None);
         };
+        self.told_end(rt, fetch.origin, end);
         self.leave(rt, fetch.origin, behind);
         let answer = self.noted(rt, alloc, &fetch.url, Some(fetch.origin), came)?;
         Ok(Some(answer))
@@ -297,11 +319,11 @@ where
         url: &PageUrl,
     ) -> Result<(), NoMemory> {
         in_flight.reserve()?;
-        let origin = self.origin_of(url);
+        let origin = self.origin_of(rt, url);
         let begun = match self.begun(rt, alloc, in_flight, url, origin) {
             Ok(Some(key)) => self.stepped(rt, alloc, in_flight, key)?,
             Ok(None) => None,
-            Err(lost) => Some(self.noted(rt, alloc, url, origin, Err(lost))?),
+            Err(lost) => Some(self.not_begun(rt, alloc, url, origin, lost)?),
         };
         if let Some(answer) = begun {
             in_flight.answers.push_back(answer)?;
