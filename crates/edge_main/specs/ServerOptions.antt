@@ -74,6 +74,7 @@ pub record AreFetchesOf (numbers : Numbers) (fetches : Fetches) : Type 0 where
   pub idle_are : fetches.idle ≡ number_of numbers number.OriginKeepAlive
   pub bounds_are : MatchOption fetches.bounds (IsUnbounded numbers) (AreBounds numbers)
   pub crowd_is : fetches.crowd ≡ crowd_of (number_of numbers number.Fetches) (number_of numbers number.OriginFetches)
+  pub lookup_is : fetches.lookup ≡ number_of numbers number.OriginLookup
   pub url_rest_is : fetches.url_rest ≡ number_of numbers number.UrlRest
   pub bodies_are : AreBodyLimits numbers fetches.bodies
 

@@ -6,6 +6,7 @@ ghost use Rattle.clap.specs.Words.{kind_of};
 ghost use Rattle.edge_main.specs.Ending.{IsEndOf, IsRefusedAs};
 
 mod ending;
+mod lookups;
 mod open_files;
 mod operator;
 mod options;

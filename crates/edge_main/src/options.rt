@@ -128,6 +128,7 @@ fn fetches_of(numbers: &Numbers) -> Fetches
         idle: numbers.u16_of(Number::OriginKeepAlive),
         bounds: bounds_of(numbers),
         crowd: crowd_of(numbers),
+        lookup: numbers.u32_of(Number::OriginLookup),
         url_rest: numbers.u32_of(Number::UrlRest),
         bodies: bodies_of(numbers),
     }

@@ -20,6 +20,8 @@ pub(crate) struct Fetches {
     pub bounds: Option<Bounds>,
     /// How many may wait for a fetch that another page has begun, where that is bounded.
     pub crowd: Option<u32>,
+    /// How many seconds lie between two look-ups of the names of origins that can't be reached; 0 where there is none.
+    pub lookup: u32,
     /// For how many seconds a URL that failed isn't asked again.
     pub url_rest: u32,
     /// How long their bodies may be.

@@ -1,28 +1,29 @@
 //! The server: pages over a cache that all clients share, what origins answer, and the machine's clock.
 
+use crate::lookups::{Known, Lookups};
 use crate::open_files::{Numbers, open_files_limit};
 use crate::operator::{Operator, Stop, bound};
 use crate::server_options::{Fetches, ServerOptions};
 use edge_commands::Status;
 use edge_connections::{ServeEnd, ServerRuntime, Sockets};
 use edge_reports::{AccessLog, Connections, EndOfInput, Kept, Measures, MonotonicSeconds, Reports};
-use edge_setup::{Flag, Origin, Place};
+use edge_setup::{Flag, Origin};
 use edge_types::{NoMemory, SharedBytes};
 use failed_answers::{SharedFailures, SparingSource};
 use fragment_cache::UrlHashing;
 use hyper_edge::{EdgeService, Journal, serve_accepts};
-use hyper_source::{EdgeName, FetchNotes, HyperSource};
+use hyper_source::{Bounds, EdgeName, FetchNotes, HyperSource};
 use operator_http::Operated;
 use shared_cache::Cache;
-use std::alloc::AllocGlobal;
+use std::alloc::{AllocGlobal, Global};
 use std::fs::File;
 use std::io::{Eprint, Print};
-use std::net::{Net, SocketAddr, TcpListener, TcpStream, ToSocketAddrs};
+use std::net::{Net, SocketAddr, TcpListener, TcpStream};
 use std::random::RandomSource;
 use std::rt::Files;
 use std::sync::Arc;
 use std::time::Clock;
-use std::{io, mem, str, thread};
+use std::{mem, thread};
 
 /// Runs a server with these options, until its number of connections have been accepted, or it is stopped, and they have
 /// ended. Its origins and names are taken out of them.
@@ -33,7 +34,7 @@ where
 {
     options.at_once.connections = room_of(rt, Numbers::of(options));
     let origins = mem::replace(&mut options.origins, Vec::new(rt.alloc()));
-    let source = source_of(rt, origins, options.fetches)?;
+    let (source, lookups) = source_of(rt, origins, options.fetches)?;
     let source = named(rt, source, options.name.as_ref())?;
     let source = heeding(rt, source, options)?;
     let source = apart(rt, source, options)?;
@@ -41,7 +42,7 @@ where
     let cache = cache_of(rt, source, options)?;
     let service = service_of(rt, owner_of(&cache)?, options)?;
     let reports = reports_of(rt, notes, cache, options)?;
-    opened(rt, &service, &reports, options)
+    opened(rt, &service, &reports, lookups.as_ref(), options)
 }
 
 // Listens for clients, and for the operator if there is one, and serves what the service answers.
@@ -49,6 +50,7 @@ fn opened<R>(
     rt: &R,
     service: &EdgeService<Kept, R>,
     reports: &Arc<Reports>,
+    lookups: Option<&Lookups>,
     options: &mut ServerOptions,
 ) -> Result<ServeEnd, Status>
 where
@@ -62,7 +64,37 @@ where
     };
     let (sockets, address) = listening(rt, options, operator.as_ref())?;
     println!(rt; "listening on {address}")?;
-    served(rt, operator.as_ref(), &sockets, service, reports, options)
+    let operator = operator.as_ref();
+    match lookups {
+        Some(lookups) => {
+            served_while_looking_up(rt, lookups, operator, &sockets, service, reports, options)
+        }
+        None => served(rt, operator, &sockets, service, reports, options),
+    }
+}
+
+// Serves until the server has ended, while a thread of its own looks up names. Refused if that can't be started.
+fn served_while_looking_up<R>(
+    rt: &R,
+    lookups: &Lookups,
+    operator: Option<&Operator>,
+    sockets: &Sockets<Stop>,
+    service: &EdgeService<Kept, R>,
+    reports: &Arc<Reports>,
+    options: &ServerOptions,
+) -> Result<ServeEnd, Status>
+where
+    R: ServerRuntime + Files<File = File> + Print + Eprint + Send + Sync,
+    R: Net<Stream = TcpStream, Listener = TcpListener>,
+{
+    thread::scope(thread::scope_env(), rt, |scope| {
+        if scope.spawn(move || lookups.run(rt)).is_err() {
+            return Err(Status::NoMemory);
+        }
+        let end = served(rt, operator, sockets, service, reports, options);
+        lookups.end(rt);
+        end
+    })
 }
 
 // Serves until the server has ended.
@@ -202,57 +234,43 @@ where
     Ok((sockets, address))
 }
 
-// Where an origin listens: of a host that is named, the first address that the system knows now.
-fn address_of<R: Net + Eprint>(rt: &R, place: &Place) -> Result<SocketAddr, Status> {
-    match place {
-        Place::Address(address) => Ok(*address),
-        Place::Host(host, port) => looked_up(rt, text(host.as_slice()), *port),
-    }
-}
-
-// The first address of a host that the system knows.
-fn looked_up<R: Net + Eprint>(rt: &R, host: &str, port: u16) -> Result<SocketAddr, Status> {
-    match (host, port).to_socket_addrs(rt) {
-        Ok(mut found) => match found.next() {
-            Some(address) => Ok(address),
-            None => Err(unknown(rt, host)),
-        },
-        Err(error) if error.kind() == io::ErrorKind::OutOfMemory => Err(Status::NoMemory),
-        Err(_) => Err(unknown(rt, host)),
-    }
-}
-
-// Reports the host that has no address.
-fn unknown(rt: &impl Eprint, host: &str) -> Status {
-    // If standard error can't be written, only the status says it.
-    let _ = eprintln!(rt; "error: --origin: the system knows no address of {host}");
-    Status::UnknownHost
-}
-
-// What fetches from the origins.
-fn source_of<R>(rt: &R, origins: Vec<Origin>, fetches: Fetches) -> Result<HyperSource, Status>
+// What fetches from the origins, and what looks their names up again, if that is asked for.
+fn source_of<R>(
+    rt: &R,
+    origins: Vec<Origin>,
+    fetches: Fetches,
+) -> Result<(HyperSource, Option<Lookups>), Status>
 where
     R: RandomSource + AllocGlobal + Net + Eprint,
 {
     let alloc = rt.alloc();
-    let mut asked = Vec::new(alloc);
-    for origin in origins {
-        let Origin { authority, place } = origin;
-        let address = address_of(rt, &place)?;
-        if asked
-            .push(hyper_source::Origin { authority, address })
-            .is_err()
-        {
-            return Err(Status::NoMemory);
-        }
-    }
-    let source = HyperSource::new(rt, alloc, asked, fetches.limit)?
+    let Known {
+        origins,
+        addresses,
+        places,
+    } = Known::now(rt, origins)?;
+    let source = HyperSource::new(rt, alloc, origins, fetches.limit)?
         .keeping(fetches.idle)
         .holding(fetches.bodies);
-    let Some(bounds) = fetches.bounds else {
-        return Ok(source);
-    };
-    Ok(source.bounded(alloc, bounds)?)
+    let source = bounded(alloc, source, fetches.bounds)?;
+    if fetches.lookup == 0 {
+        return Ok((source, None));
+    }
+    let lookups = Lookups::of(alloc, places, addresses.as_slice(), fetches.lookup)?;
+    let standings = lookups.standings()?;
+    Ok((source.following(standings), Some(lookups)))
+}
+
+// The same, with these bounds, where there are some.
+fn bounded(
+    alloc: Global,
+    source: HyperSource,
+    bounds: Option<Bounds>,
+) -> Result<HyperSource, NoMemory> {
+    match bounds {
+        Some(bounds) => source.bounded(alloc, bounds),
+        None => Ok(source),
+    }
 }
 
 // The same, for an edge with a name.
@@ -271,7 +289,7 @@ fn named(
 }
 
 // The same, which sends the fields that the options ask for, and reads of answers what they ask for: fields for readers of
-// pages, and how long caches may keep them.
+// pages, how long caches may keep them, and whether errors may be templates.
 fn heeding(
     rt: &impl AllocGlobal,
     source: HyperSource,
@@ -283,6 +301,9 @@ fn heeding(
     }
     if options.flags.has(Flag::CacheControl) {
         source = source.heeding_cache_control();
+    }
+    if options.flags.has(Flag::ProcessErrors) {
+        source = source.processing_errors();
     }
     Ok(source)
 }
@@ -372,12 +393,4 @@ where
         service = service.telling_fields(names);
     }
     service
-}
-
-// The printable form of the name of a host.
-fn text(bytes: &[u8]) -> &str {
-    match str::from_utf8(bytes) {
-        Ok(text) if !text.is_empty() => text,
-        _ => "-",
-    }
 }

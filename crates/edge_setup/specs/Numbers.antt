@@ -4,7 +4,7 @@ use Rattle.clap.specs.Words.{App, Row, Rule, Text, first_of, with_rule}
 use Rattle.edge_types.specs.Decimal.{decimal_of}
 use Rattle.edge_setup.specs.Rules.{named_option, with_default}
 use Rattle.edge_setup.specs.declared.number.Number.{Number}
-use Rattle.edge_setup.specs.declared.number.Number.TheVariants.{Workers, Fetches, Ahead, Levels, Capacity, BodyBytes, TemplateBytes, PageBytes, Timeout, PageTimeout, OriginKeepAlive, OriginFetches, OriginQueue, OriginRest, UrlRest, Accept, ClientTimeout, KeepAlive, Threads, Connections}
+use Rattle.edge_setup.specs.declared.number.Number.TheVariants.{Workers, Fetches, Ahead, Levels, Capacity, BodyBytes, TemplateBytes, PageBytes, Timeout, PageTimeout, OriginKeepAlive, OriginFetches, OriginQueue, OriginRest, OriginLookup, UrlRest, Accept, ClientTimeout, KeepAlive, Threads, Connections}
 use Rattle.edge_setup.specs.declared.number.NumberRow.{NumberRow}
 
 -- its name, its limits, the word that counts where it isn't there, if one does, and the line for a word that is no such number
@@ -40,6 +40,7 @@ row_of OriginKeepAlive = numeric (codes "origin-keep-alive") 0 1024 (Some (codes
 row_of OriginFetches = numeric (codes "origin-fetches") 0 65535 (Some (codes "0")) (codes "error: --origin-fetches takes a number from 0 to 65535")
 row_of OriginQueue = numeric (codes "origin-queue") 0 65536 None (codes "error: --origin-queue takes a number from 0 to 65536")
 row_of OriginRest = numeric (codes "origin-rest") 0 86400 (Some (codes "0")) (codes "error: --origin-rest takes seconds, from 0 to 86400")
+row_of OriginLookup = numeric (codes "origin-lookup") 0 86400 (Some (codes "0")) (codes "error: --origin-lookup takes seconds, from 0 to 86400")
 row_of UrlRest = numeric (codes "url-rest") 0 86400 (Some (codes "0")) (codes "error: --url-rest takes seconds, from 0 to 86400")
 row_of Accept = numeric (codes "accept") 0 18446744073709551615 None (codes "error: --accept takes a number from 0 to 18446744073709551615")
 row_of ClientTimeout = numeric (codes "client-timeout") 0 86400000 (Some (codes "60000")) (codes "error: --client-timeout takes milliseconds, from 0 to 86400000")
@@ -51,7 +52,7 @@ row_of Connections = numeric (codes "connections") 1 65536 (Some (codes "64")) (
 abbrev pub numbers : List Number
 numbers =
     Workers ∷ Fetches ∷ Ahead ∷ Levels ∷ Capacity ∷ BodyBytes ∷ TemplateBytes ∷ PageBytes ∷ Timeout ∷ PageTimeout
-    ∷ OriginKeepAlive ∷ OriginFetches ∷ OriginQueue ∷ OriginRest ∷ UrlRest ∷ Accept ∷ ClientTimeout ∷ KeepAlive ∷ Threads
+    ∷ OriginKeepAlive ∷ OriginFetches ∷ OriginQueue ∷ OriginRest ∷ OriginLookup ∷ UrlRest ∷ Accept ∷ ClientTimeout ∷ KeepAlive ∷ Threads
     ∷ Connections ∷ []
 
 -- the place of each in this order
@@ -70,12 +71,13 @@ place_of OriginKeepAlive = 10
 place_of OriginFetches = 11
 place_of OriginQueue = 12
 place_of OriginRest = 13
-place_of UrlRest = 14
-place_of Accept = 15
-place_of ClientTimeout = 16
-place_of KeepAlive = 17
-place_of Threads = 18
-place_of Connections = 19
+place_of OriginLookup = 14
+place_of UrlRest = 15
+place_of Accept = 16
+place_of ClientTimeout = 17
+place_of KeepAlive = 18
+place_of Threads = 19
+place_of Connections = 20
 
 -- ---- what they are to `clap`
 

@@ -73,6 +73,7 @@ abbrev pub flag_name : Flag → Text
 flag_name flag.Head = codes "head"
 flag_name flag.AbortOnClose = codes "abort-on-close"
 flag_name flag.CacheControl = codes "cache-control"
+flag_name flag.ProcessErrors = codes "process-errors"
 flag_name flag.Etag = codes "etag"
 flag_name flag.StopWithInput = codes "stop-with-input"
 flag_name flag.Log = codes "log"
@@ -80,17 +81,18 @@ flag_name flag.PrintConfig = codes "print-config"
 
 -- all of them, in the order of the command
 abbrev pub flag_options : List Flag
-flag_options = flag.Head ∷ flag.AbortOnClose ∷ flag.CacheControl ∷ flag.Etag ∷ flag.StopWithInput ∷ flag.Log ∷ flag.PrintConfig ∷ []
+flag_options = flag.Head ∷ flag.AbortOnClose ∷ flag.CacheControl ∷ flag.ProcessErrors ∷ flag.Etag ∷ flag.StopWithInput ∷ flag.Log ∷ flag.PrintConfig ∷ []
 
 -- the place of each in this order
 abbrev pub flag_place : Flag → ℕ
 flag_place flag.Head = 0
 flag_place flag.AbortOnClose = 1
 flag_place flag.CacheControl = 2
-flag_place flag.Etag = 3
-flag_place flag.StopWithInput = 4
-flag_place flag.Log = 5
-flag_place flag.PrintConfig = 6
+flag_place flag.ProcessErrors = 3
+flag_place flag.Etag = 4
+flag_place flag.StopWithInput = 5
+flag_place flag.Log = 6
+flag_place flag.PrintConfig = 7
 
 -- a command with one more of them
 abbrev pub with_flag : App → Flag → App

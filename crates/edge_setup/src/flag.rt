@@ -18,6 +18,8 @@ pub enum Flag {
     AbortOnClose,
     /// Answers are kept as `Cache-Control` asks where `Surrogate-Control` says nothing of it.
     CacheControl,
+    /// Pages are made of errors that are templates.
+    ProcessErrors,
     /// Pages have entity tags, and aren't sent to clients that have them already.
     Etag,
     /// The server stops once standard input has ended.
@@ -53,6 +55,11 @@ const CACHE_CONTROL: FlagRow = FlagRow {
     help: "Keeps answers as Cache-Control asks where Surrogate-Control doesn't say for how long",
 };
 
+const PROCESS_ERRORS: FlagRow = FlagRow {
+    name: "process-errors",
+    help: "Makes a page of its own answer under status 400 to 599 too, where that is a template",
+};
+
 const ETAG: FlagRow = FlagRow {
     name: "etag",
     help: "Gives pages an ETag, and answers 304 where If-None-Match has it",
@@ -75,10 +82,11 @@ const PRINT_CONFIG: FlagRow = FlagRow {
 
 impl Flag {
     /// All of them, in the order of the options.
-    pub const ALL: [Flag; 7] = [
+    pub const ALL: [Flag; 8] = [
         Flag::Head,
         Flag::AbortOnClose,
         Flag::CacheControl,
+        Flag::ProcessErrors,
         Flag::Etag,
         Flag::StopWithInput,
         Flag::Log,
@@ -100,6 +108,7 @@ impl Flag {
             Flag::Head => HEAD,
             Flag::AbortOnClose => ABORT_ON_CLOSE,
             Flag::CacheControl => CACHE_CONTROL,
+            Flag::ProcessErrors => PROCESS_ERRORS,
             Flag::Etag => ETAG,
             Flag::StopWithInput => STOP_WITH_INPUT,
             Flag::Log => LOG,

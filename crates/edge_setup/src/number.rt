@@ -41,6 +41,8 @@ pub enum Number {
     OriginQueue,
     /// The seconds for which an address isn't asked after five failures in succession; 0 means that it is asked on.
     OriginRest,
+    /// The seconds between two look-ups of the names of origins that can't be reached; 0 means that there is none.
+    OriginLookup,
     /// The seconds for which a URL that failed isn't asked again; 0 means that it is asked on.
     UrlRest,
     /// After how many connections the server ends.
@@ -227,6 +229,16 @@ const ORIGIN_REST: NumberRow = row!(
     "seconds,"
 );
 
+const ORIGIN_LOOKUP: NumberRow = row!(
+    "origin-lookup",
+    0,
+    86400,
+    Some("0"),
+    "Seconds between two look-ups of the names of origins that can't be reached",
+    "; 0 for none",
+    "seconds,"
+);
+
 const URL_REST: NumberRow = row!(
     "url-rest",
     0,
@@ -289,7 +301,7 @@ const CONNECTIONS: NumberRow = row!(
 
 impl Number {
     /// All of them, in the order of the options.
-    pub const ALL: [Number; 20] = [
+    pub const ALL: [Number; 21] = [
         Number::Workers,
         Number::Fetches,
         Number::Ahead,
@@ -304,6 +316,7 @@ impl Number {
         Number::OriginFetches,
         Number::OriginQueue,
         Number::OriginRest,
+        Number::OriginLookup,
         Number::UrlRest,
         Number::Accept,
         Number::ClientTimeout,
@@ -339,6 +352,7 @@ impl Number {
             Number::OriginFetches => ORIGIN_FETCHES,
             Number::OriginQueue => ORIGIN_QUEUE,
             Number::OriginRest => ORIGIN_REST,
+            Number::OriginLookup => ORIGIN_LOOKUP,
             Number::UrlRest => URL_REST,
             Number::Accept => ACCEPT,
             Number::ClientTimeout => CLIENT_TIMEOUT,
