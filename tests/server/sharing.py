@@ -43,6 +43,24 @@ def equal_requests_cost_one_fetch():
             same("times that the origin was asked", 1, origin.site.count("/x"))
 
 
+def told_in_time(edge, target):
+    """What a reader gets, if it comes."""
+    try:
+        return told(edge, target)
+    except OSError:
+        return None
+
+
+def who_joins_a_fetch_is_told_of_its_end():
+    """Forty readers at once, again and again, ask for a URL that isn't kept and for a page of it, some as the fetch ends that they join:
+    each gets it, though no thread waits with him."""
+    texts = {"/x": sized("HTTP/1.1 200 OK", "1"), "/p": sized('HTTP/1.1 200 OK|surrogate-control: max-age=600, content="ESI/1.0"', "[<esi:include src='/x'/>]")}
+    with Wires(texts) as origin, before(origin, "--fetches", "8") as edge:
+        for _ in range(100):
+            came = all_at_once([lambda target=target: told_in_time(edge, target) for target in ("/x", "/p") * 20])
+            same("what they get, and who gets nothing", (20, 20, 0), (came.count((200, b"1")), came.count((200, b"[1]")), came.count(None)))
+
+
 def a_cache_is_free_while_it_is_fetched_for():
     """Nine URLs, at least two of which one lock keeps. Each is answered once all are asked for."""
     meeting = Meeting(9)
@@ -161,6 +179,7 @@ def answers_are_kept_no_longer_where_the_clock_is_set_back():
 
 TESTS = (
     equal_requests_cost_one_fetch,
+    who_joins_a_fetch_is_told_of_its_end,
     a_cache_is_free_while_it_is_fetched_for,
     urls_of_one_sum_leave_each_other_kept,
     two_workers_fetch_at_one_time,

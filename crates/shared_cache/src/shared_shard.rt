@@ -24,8 +24,8 @@ pub(crate) struct SharedShard {
     shelf: Mutex<Shelf>,
     // A flight has landed.
     landed: Condvar,
-    // How many have, modulo 2^64. Counted once the shard has the answer, so whoever finds the count as it was has missed
-    // nothing by not looking.
+    // How many have, modulo 2^64. Counted before the lock is left under which the shard got the answer: so whoever finds a
+    // flight landed finds the count changed, and whoever finds the count as it was has missed nothing by not looking.
     landings: AtomicU64,
 }
 
@@ -228,14 +228,14 @@ impl SharedShard {
         let mut shelf = self.lock(rt);
         let landed = shelf.land(flight, answer, now);
         let bells = shelf.bells.remove(&number);
+        self.landings.fetch_add(1, Ordering::SeqCst);
         drop(shelf);
         self.tell(bells);
         landed
     }
 
-    // Counts a flight that has landed, and wakes those who wait for it. The lock is left before.
+    // Wakes those who wait for a flight that has landed. The lock is left before.
     fn tell(&self, bells: Option<Vec<Bell>>) {
-        self.landings.fetch_add(1, Ordering::SeqCst);
         self.landed.notify_all();
         if let Some(bells) = bells {
             for bell in &bells {
@@ -257,6 +257,7 @@ impl SharedShard {
         let (flight, ready) = led.into_parts();
         let _ = shelf.land(flight, ready, now);
         let bells = shelf.bells.remove(&number);
+        self.landings.fetch_add(1, Ordering::SeqCst);
         drop(shelf);
         self.tell(bells);
         None
