@@ -95,11 +95,12 @@ fn about(reason: Reason, responded: &Responded) -> Option<&Answer>
 fn message_of(alloc: Global, reason: Reason, answer: &Answer) -> Vec<u8> {
     let message = match answer.reply() {
         Reply::Failed => None,
-        Reply::Got { body, .. } if answer.processed() => invalid(alloc, body),
-        Reply::Got { head, .. } if reason == Reason::Page(PageFault::IncludeFailed) => {
+        Reply::Got { head, .. }
+            if reason == Reason::Page(PageFault::IncludeFailed) && !head.is_success() => {
             let status = head.status;
             format!(in alloc; "status {status}").ok()
         }
+        Reply::Got { body, .. } if answer.processed() => invalid(alloc, body),
         Reply::Got { .. } => None,
     };
     match message {
