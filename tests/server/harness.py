@@ -27,6 +27,10 @@ class Wrong(Exception):
     """What was wanted, and what came."""
 
 
+class Skipped(Exception):
+    """What a test needs that isn't there."""
+
+
 def same(what, wanted, came):
     if wanted != came:
         raise Wrong("%s\n  wanted %r\n  came   %r" % (what, wanted, came))
@@ -54,13 +58,14 @@ class Origin:
 
 
 class Listening:
-    """A free port, at which a thread accepts connections until this ends. It keeps the heads that came."""
+    """A port, a free one of 127.0.0.1 if no other is named, at which a thread accepts connections until this ends. It keeps the heads that
+    came."""
 
-    def __init__(self):
+    def __init__(self, host="127.0.0.1", port=0):
         self.heads = []
-        self.listener = socket.create_server(("127.0.0.1", 0), backlog=128)
+        self.listener = socket.create_server((host, port), backlog=128)
         self.port = self.listener.getsockname()[1]
-        self.at = "127.0.0.1:%d" % self.port
+        self.at = "%s:%d" % (host, self.port)
         self.thread = threading.Thread(target=self.accept, daemon=True)
         self.thread.start()
 
@@ -68,6 +73,9 @@ class Listening:
         return self
 
     def __exit__(self, *_):
+        # A test may have ended it before.
+        if self.listener.fileno() < 0:
+            return
         self.listener.shutdown(socket.SHUT_RDWR)
         self.thread.join()
         self.listener.close()
@@ -86,10 +94,10 @@ class Wires(Listening):
     another none. Bytes that are to go on without end are one piece of them, in a list; a function
     says what to send when it is asked for, or sends it itself. It keeps what it was asked."""
 
-    def __init__(self, texts):
+    def __init__(self, texts, *place):
         self.texts = dict(texts)
         self.sent = 0
-        super().__init__()
+        super().__init__(*place)
 
     def asked(self):
         """The targets that were asked for, in order."""
@@ -169,10 +177,11 @@ def all_at_once(calls):
 
 class Edge:
     """An edge, with the options of `serve` after `--listen`, at this port or a free one, which may have so many files
-    open, and threads; in this process's environment with what is added to it. Its standard input is empty, or a pipe."""
+    open, and threads; in this process's environment with what is added to it. Its standard input is empty, or a pipe.
+    By words before it another program starts it."""
 
-    def __init__(self, *options, port=0, files=None, threads=None, added=None, piped=False):
-        words = ["esi_edge", "serve", "--listen", "127.0.0.1:%d" % port, *options]
+    def __init__(self, *options, port=0, files=None, threads=None, added=None, piped=False, by=()):
+        words = ["serve", "--listen", "127.0.0.1:%d" % port, *options]
 
         def limited():
             if files:
@@ -182,8 +191,9 @@ class Edge:
 
         # By its descriptor, since whom the process becomes may not reach the program by its path.
         with open(PROGRAM, "rb") as program:
+            path = "/proc/self/fd/%d" % program.fileno()
             self.process = subprocess.Popen(
-                words, executable="/proc/self/fd/%d" % program.fileno(), pass_fds=[program.fileno()], preexec_fn=limited,
+                [*by, path, *words] if by else ["esi_edge", *words], executable=None if by else path, pass_fds=[program.fileno()], preexec_fn=limited,
                 env={**os.environ, **(added or {})}, stdin=subprocess.PIPE if piped else subprocess.DEVNULL, stdout=subprocess.PIPE, stderr=subprocess.PIPE
             )
         self.is_logged = any(word.startswith("--log") for word in options)

@@ -64,6 +64,8 @@ def usage_is_told():
         ["--pass-fields"], ["--pass-fields", "a", "--pass-fields", "b"], ["--private"], ["--private", "http://a.test/", "--private", "http://b.test/"],
         ["--private-cookies"], ["--private", "http://a.test/", "--private-cookies", "a", "--private-cookies", "b"], ["--send-fields"], ["--forward-fields"],
         ["--private", "http://a.test/", "--forward-fields", "a", "--forward-fields", "b"], ["--body-bytes", "300000", "--body-bytes", "300000"], ["--cache-control", "x"], ["--cache-control=yes"], ["--cache-control", "--cache-control"],
+        ["--process-errors", "x"], ["--process-errors=yes"], ["--process-errors", "--process-errors"],
+        ["--origin-lookup"], ["--origin-lookup="], ["--origin-lookup", "5s"], ["--origin-lookup", "5", "--origin-lookup", "5"],
     )]
     for words in rows:
         status, printed, said = ended(*words)
@@ -193,7 +195,7 @@ def connections_that_no_files_are_left_for_are_told():
 
 def limits_are_taken():
     """The largest and the smallest of each number, an address of IPv6, and a thousand origins."""
-    most = [word for it in numbers() for word in ("--" + it.name, it.most)] + ["--name", "n" * 64, "--pass-fields", "n" * 64, "--private", "http://" + "n" * 63 + ".test/" + "n" * 1900 + "/", "--private-cookies", "n" * 64, "--send-fields", "n" * 8191 + ":1", "--forward-fields", "n" * 64, "--head", "--abort-on-close", "--cache-control", "--etag"]
+    most = [word for it in numbers() for word in ("--" + it.name, it.most)] + ["--name", "n" * 64, "--pass-fields", "n" * 64, "--private", "http://" + "n" * 63 + ".test/" + "n" * 1900 + "/", "--private-cookies", "n" * 64, "--send-fields", "n" * 8191 + ":1", "--forward-fields", "n" * 64, "--head", "--abort-on-close", "--cache-control", "--process-errors", "--etag"]
     # A server that accepts nobody answers nobody.
     least = [word for it in numbers() if it.name != "accept" for word in ("--" + it.name, it.least)] + ["--name", "~"]
     many = [word for at in range(1000) for word in ("--origin", "%d.test=127.0.0.1:80" % at)]

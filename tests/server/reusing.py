@@ -29,11 +29,11 @@ class Lasting(Listening):
     given the target and how many requests came before over the connection; it gives what is sent, and whether the
     connection ends behind that."""
 
-    def __init__(self, answer=lambda target, before_it: (whole(target), False)):
+    def __init__(self, answer=lambda target, before_it: (whole(target), False), *place):
         self.answer = answer
         self.connections = self.open = 0
         self.lock = threading.Lock()
-        super().__init__()
+        super().__init__(*place)
 
     def accepted(self, connection):
         connection.setsockopt(socket.IPPROTO_TCP, socket.TCP_NODELAY, 1)
