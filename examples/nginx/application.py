@@ -51,6 +51,12 @@ class Handler(http.server.BaseHTTPRequestHandler):
             self.send(401, "", (("WWW-Authenticate", "Basic"), *PRIVATE))
         elif path == "/staff":
             self.send(200, "<p>Staff</p>\n", PRIVATE)
+        elif path == "/busy":
+            self.send(429, self.news(), (("Retry-After", "7"), *PRIVATE))
+        elif path == "/closed":
+            self.send(503, self.news(), (("Retry-After", "60"), *PRIVATE))
+        elif path == "/order":
+            self.send(405, self.news(), (("Allow", "POST"), *PRIVATE))
         elif path == "/long":
             self.send(200, "x" * 300000, SHARED)
         else:

@@ -25,12 +25,14 @@ class ReaderController extends AbstractController
         return $this->redirectToRoute('basket', [], 303);
     }
 
-    /** The part of other pages that has a reader's basket. A reader without a session gets none by it. */
+    /** The part of other pages that has a reader's basket. Readers without a session get the same, and no session by it. */
     public function box(Request $request): Response
     {
-        $items = $request->hasPreviousSession() ? $request->getSession()->get('items', []) : [];
+        if (!$request->hasPreviousSession()) {
+            return $this->render('box.html.twig', ['items' => []])->setPublic()->setSharedMaxAge(600);
+        }
 
-        return $this->render('box.html.twig', ['items' => $items])->setPrivate();
+        return $this->render('box.html.twig', ['items' => $request->getSession()->get('items', [])])->setPrivate();
     }
 
     public function account(Request $request): Response

@@ -4,6 +4,7 @@ namespace App\Controller;
 
 use Symfony\Bundle\FrameworkBundle\Controller\AbstractController;
 use Symfony\Component\HttpFoundation\Response;
+use Symfony\Component\HttpKernel\Exception\HttpException;
 
 /** What is the same for everybody, and the fragments of it: each says by `s-maxage` how long it may be kept. */
 class ShopController extends AbstractController
@@ -34,6 +35,11 @@ class ShopController extends AbstractController
     public function old(): Response
     {
         return $this->redirectToRoute('lamp', ['name' => 'brass'], 301);
+    }
+
+    public function refusal(int $status): Response
+    {
+        throw new HttpException($status, 'No.', null, ['Retry-After' => '7']);
     }
 
     public function stock(): Response
