@@ -4,8 +4,8 @@ ghost use Rattle.std.specs.Prelude.{IfOk, IfSome};
 ghost use Rattle.std.specs.Arc.{arc_value};
 
 use crate::answers::Answers;
-use crate::bell::Bell;
 use crate::given::Given;
+use edge_sockets::Bell;
 use edge_types::{NoMemory, PageUrl};
 use std::alloc::Global;
 use std::os::fd::RawFd;

@@ -3,7 +3,6 @@
 
 mod alone;
 mod answers;
-mod bell;
 mod clock;
 mod concurrent_source;
 mod gate;
@@ -16,7 +15,6 @@ mod table_source;
 
 pub use alone::{fetch_alone, fetch_or_fail, let_go};
 pub use answers::{Answers, Found};
-pub use bell::Bell;
 pub use clock::Clock;
 pub use concurrent_source::{Arrival, Awaited, ConcurrentSource};
 pub use gate::{Gate, OpenGate};

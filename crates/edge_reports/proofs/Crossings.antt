@@ -3,7 +3,7 @@ use denote.Param.Send.{IsSend, IsSync, sendable}
 use Rattle.std.proofs.Crossing
 use Rattle.failed_answers.proofs.sparing_source.SparingSource.TheSendSync as SparingSource
 use Rattle.hyper_source.proofs.source.HyperSource.TheSendSync as HyperSource
-use Rattle.hyper_source.proofs.notes.FetchNotes.TheSendSync as FetchNotes
+use Rattle.origins.proofs.notes.FetchNotes.TheSendSync as FetchNotes
 use Rattle.access_log.proofs.queue.LineQueue.TheSendSync as LineQueue
 use Rattle.edge_metrics.proofs.history.History.TheSendSync as History
 use Rattle.shared_cache.proofs.Crossings.{caches_cross}

@@ -5,8 +5,9 @@ ghost use Rattle.std.specs.Arc.{arc_value};
 
 use crate::shared_failures::SharedFailures;
 use answer_sources::{
-    Answers, Arrival, Awaited, Behalf, Bell, Clock, ConcurrentSource, Found, Given, OnBehalf,
+    Answers, Arrival, Awaited, Behalf, Clock, ConcurrentSource, Found, Given, OnBehalf,
 };
+use edge_sockets::Bell;
 use edge_types::{Answer, NoMemory, PageUrl};
 use std::alloc::Global;
 use std::sync::{Arc, Wait};

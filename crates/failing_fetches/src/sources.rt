@@ -8,7 +8,9 @@ use answer_sources::{
 use edge_connections::ServerRuntime;
 use edge_types::{HeadField, HeadFields, NoMemory, Octets, PageUrl, SharedBytes, Table};
 use fragment_cache::UrlHashing;
-use hyper_source::{EdgeName, HyperSource, Origin};
+use hyper_source::HyperSource;
+use origin_http::EdgeName;
+use origins::Origin;
 use shared_cache::Cache;
 use std::alloc::{AllocGlobal, Global};
 use std::io::Print;

@@ -7,8 +7,9 @@ ghost use Rattle.std.specs.Time.{instant_nanos};
 ghost use Rattle.hyper_edge.specs.Departure.{is_over};
 ghost use Rattle.hyper_edge.specs.PageTime.{GivesInTime, earlier_of, names_url};
 
-use answer_sources::{Answers, Arrival, Awaited, Bell, ConcurrentSource, Given, Way};
+use answer_sources::{Answers, Arrival, Awaited, ConcurrentSource, Given, Way};
 use edge_connections::ClientWatch;
+use edge_sockets::Bell;
 use edge_types::{Answer, NoMemory, PageUrl};
 use plan_compiler::Prepared;
 use std::alloc::Global;

@@ -1,15 +1,1 @@
-pub mod Origins
-pub mod Names
-pub mod Heads
-pub mod Passing
-pub mod Private
-pub mod Lengths
-pub mod Fetches
-pub mod Bounded
-pub mod Intake
 pub mod Reuse
-pub mod Behind
-pub mod Gate
-pub mod Notes
-pub mod Asking
-pub mod Authorities

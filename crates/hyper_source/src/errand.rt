@@ -1,10 +1,9 @@
 //! What is to be fetched.
 
-use crate::deadline::Deadline;
-use crate::gathered::Lost;
-use crate::origin::Chosen;
+use edge_sockets::Deadline;
 use edge_types::PageUrl;
-use fetch_outcomes::FetchFault;
+use fetch_outcomes::{FetchFault, Lost};
+use origins::Chosen;
 use std::time::{Clock, Duration};
 
 /// A fetch that is to be made.

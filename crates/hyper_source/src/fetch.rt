@@ -1,20 +1,14 @@
 //! A fetch among others of its page.
 
 ghost use Rattle.std.specs.Prelude.{IfOk};
-ghost use Rattle.hyper_source.specs.Behind.{FollowsHead};
+ghost use Rattle.origin_exchange.specs.Behind.{FollowsHead};
 
-use crate::behind::Behind;
-use crate::deadline::Deadline;
 use crate::errand::Errand;
-use crate::exchange::{Exchange, ExchangeStep};
-use crate::exchange_end::ExchangeEnd;
-use crate::gathered::Lost;
-use crate::origin::Chosen;
-use crate::origin_socket::OriginSocket;
-use crate::poller::{Poller, Watched};
-use crate::reach::{Reach, lost_by};
-use crate::stream_signals::Need;
+use edge_sockets::{Deadline, Poller, Readiness, Watched};
 use edge_types::PageUrl;
+use fetch_outcomes::Lost;
+use origin_exchange::{Behind, Exchange, ExchangeEnd, ExchangeStep, OriginSocket, Reach, lost_by};
+use origins::Chosen;
 use std::alloc::Global;
 use std::time::{Clock, Instant};
 
@@ -157,7 +151,7 @@ impl Fetch {
 
 impl Attempt {
     // Has the poller tell when the socket is ready. Refused by the system only.
-    fn is_watched(&mut self, poller: &Poller, key: usize, need: Need) -> bool {
+    fn is_watched(&mut self, poller: &Poller, key: usize, need: Readiness) -> bool {
         let socket = self.exchange.socket();
         match poller.watch(socket, key, self.watched, need) {
             Some(watched) => {

@@ -2,16 +2,15 @@
 
 ghost use Rattle.std.specs.Prelude.{◌≡◌, ◌<◌, [], length, IfSome};
 
-use crate::bounded::OriginGate;
-use crate::deadline::Deadline;
 use crate::errand::Errand;
 use crate::fetch::{Fetch, FetchStep};
-use crate::gathered::Lost;
-use crate::poller::Poller;
-use answer_sources::{Awaited, Bell};
+use answer_sources::Awaited;
+use edge_sockets::{Bell, Deadline, Poller};
 use edge_types::{Answer, NoMemory, PageUrl};
+use fetch_outcomes::Lost;
 use origin_health::{FetchEnd, Permit};
 use origin_queue::Place;
+use origins::OriginGate;
 use slab::Slab;
 use std::alloc::Global;
 use std::collections::VecDeque;

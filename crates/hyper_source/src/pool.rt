@@ -5,12 +5,12 @@ ghost use Rattle.std.specs.Arc.{arc_value};
 ghost use Rattle.std.specs.IoError.{error_kind};
 ghost use Rattle.hyper_source.specs.declared.pool.Heard.TheVariants as heard;
 
-use crate::bounded::millis;
-use crate::origin::Origin;
-use crate::origin_socket::OriginSocket;
 use crate::reuse;
 use crate::reuse::{AddressReuse, Reuse};
+use edge_sockets::millis;
 use edge_types::NoMemory;
+use origin_exchange::OriginSocket;
+use origins::Origin;
 use std::alloc::{AllocError, Global};
 use std::io;
 use std::io::ErrorKind;
@@ -87,7 +87,7 @@ impl Pool {
         rt: &R,
         address: SocketAddr,
     ) -> Result<Option<IdleSocket>, Strays>
-        ensures { IfOk result (λ found. IfSome found (λ idle. idle.socket.address ≡ address)) }
+        ensures { IfOk result (λ found. IfSome found (λ idle. idle.socket ≡ address)) }
     {
         for _ in rt.forever() {
             let Some(idle) = self.taken(rt, address) else {
@@ -106,7 +106,7 @@ impl Pool {
     }
 
     fn taken<R: Wait + Clock>(&self, rt: &R, address: SocketAddr) -> Option<IdleSocket>
-        ensures { IfSome result (λ idle. idle.socket.address ≡ address) }
+        ensures { IfSome result (λ idle. idle.socket ≡ address) }
     {
         if !self.keeps() {
             return None;
@@ -178,7 +178,7 @@ fn is_same(one: SocketAddr, other: SocketAddr) -> bool
 }
 
 fn place_of(idle: &[IdleSocket], address: SocketAddr) -> Option<usize>
-    ensures there { IfSome result (λ i. IfSome (slice_get idle.now i) (λ idle. idle.socket.address ≡ address)) }
+    ensures there { IfSome result (λ i. IfSome (slice_get idle.now i) (λ idle. idle.socket ≡ address)) }
     ensures within { IfSome result (λ i. i < length idle.now) }
 {
     for (i, one) in idle.iter().enumerate() {
@@ -190,7 +190,7 @@ fn place_of(idle: &[IdleSocket], address: SocketAddr) -> Option<usize>
 }
 
 fn taken_from(idle: &mut Vec<IdleSocket>, address: SocketAddr) -> Option<IdleSocket>
-    ensures { IfSome result (λ idle. idle.socket.address ≡ address) }
+    ensures { IfSome result (λ idle. idle.socket ≡ address) }
 {
     let place = place_of(idle.as_slice(), address)?;
     Some(idle.remove(place))

@@ -6,35 +6,29 @@ ghost use Rattle.edge_types.specs.Asked.{authority_of};
 ghost use Rattle.http.specs.Request.{head_of};
 ghost use Rattle.http_header.specs.HeaderMap.{append_all};
 ghost use Rattle.surrogate_headers.specs.Capability.{capability_of};
-ghost use Rattle.hyper_source.specs.Asking as asking;
-ghost use Rattle.hyper_source.specs.Names.{device_of};
-ghost use Rattle.hyper_source.specs.Private as spec;
+ghost use Rattle.origin_http.specs.Asking as asking;
+ghost use Rattle.origin_http.specs.Names.{device_of};
+ghost use Rattle.origin_http.specs.Private as spec;
 
 mod concurrent;
 
-use crate::answers::{Fetched, answered};
-use crate::body_limits::BodyLimits;
-use crate::bounded::{OriginGate, gates_of};
-use crate::edge_name::{EdgeName, copy_of, device_of, way_behind};
 use crate::errand::Errand;
-use crate::gate::Bounds;
-use crate::gathered::{Lost, Response};
-use crate::head_rules::HeadRules;
-use crate::notes::FetchNotes;
-use crate::origin::{Chosen, Origin, origin_for};
 use crate::origin_runtime::OriginRuntime;
-use crate::poller::IdlePollers;
 use crate::pool::Pool;
-use crate::private_urls::{is_private, told_for};
-use crate::request::{request_of, whole, with_fields};
 use answer_sources::{Answers, Behalf, Given, OnBehalf, Source, fetch_or_fail};
 use bytes::Bytes;
+use edge_sockets::IdlePollers;
 use edge_types::{Answer, HeadField, HeadFields, NoMemory, PageUrl, SharedBytes};
-use fetch_outcomes::FetchFault;
+use fetch_outcomes::{FetchFault, Lost};
 use http::Request;
 use http_body_util::Empty;
 use origin_health::FetchEnd;
+use origin_http::{
+    BodyLimits, EdgeName, Fetched, HeadRules, Response, answered, copy_of, device_of, is_private,
+    request_of, told_for, way_behind, whole, with_fields,
+};
 use origin_lookup::SharedStandings;
+use origins::{Bounds, Chosen, FetchNotes, Origin, OriginGate, gates_of, origin_for};
 use std::alloc::Global;
 use std::hash::RandomState;
 use std::io;

@@ -8,7 +8,8 @@ ghost use Rattle.fragment_cache.specs.Shown.{begun_answer};
 ghost use Rattle.fragment_cache.specs.Sound.{IsSound, NamesUrl};
 
 use crate::cache_flights::{Joined, Led};
-use answer_sources::{Bell, Found, Given, Way};
+use answer_sources::{Found, Given, Way};
+use edge_sockets::Bell;
 use edge_types::{Answer, NoMemory, PageUrl};
 use fragment_cache::{
     Begun, CacheTally, Flight, MAX_CAPACITY, Picked, Shard, UrlHashing, is_failing,

@@ -6,7 +6,8 @@ ghost use Rattle.shared_cache.specs.Circles.{IfLanded, IsForAll};
 
 use crate::cache::{Cache, is_for_all};
 use crate::cache_flights::{CacheFlights, Joined, Led};
-use answer_sources::{Arrival, Awaited, Bell, Clock, ConcurrentSource, Given, Way};
+use answer_sources::{Arrival, Awaited, Clock, ConcurrentSource, Given, Way};
+use edge_sockets::Bell;
 use edge_types::{NoMemory, PageUrl};
 use fragment_cache::{Begun, Picked};
 use std::alloc::Global;

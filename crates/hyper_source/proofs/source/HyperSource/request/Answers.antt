@@ -2,11 +2,11 @@ use Rattle.std.proofs.Common.{[], ◌++◌, Bool, map, nat_lt, option_map, subst
 use Rattle.std.specs.Arc.{arc_value}
 use Rattle.edge_types.specs.Asked.{authority_of}
 use Rattle.surrogate_headers.specs.Capability.{capability_of}
-use Rattle.hyper_source.specs.Names.{device_of}
-use Rattle.hyper_source.specs.Private.{is_private, told_for}
+use Rattle.origin_http.specs.Names.{device_of}
+use Rattle.origin_http.specs.Private.{is_private, told_for}
 use Rattle.http.specs.Request.{builder_result, head_of}
-use Rattle.hyper_source.specs.Asking.{HasLines, own_lines, line_of}
-use Rattle.hyper_source.proofs.AskingLemmas.{built_both, built_whole}
+use Rattle.origin_http.specs.Asking.{HasLines, own_lines, line_of}
+use Rattle.origin_http.proofs.AskingLemmas.{built_both, built_whole}
 use Rattle.hyper_source.proofs.source.HyperSource.request.Goals as goal
 
 pub returns : goal.returns

@@ -1,2 +1,0 @@
-pub mod AskingLemmas
-pub mod FaultLemmas

@@ -1,7 +1,0 @@
-use Rattle.std.proofs.Common.{ℕ, ◌<◌, get_or}
-use Rattle.hyper_source.specs.declared.origin.Origin.{Origin}
-use Rattle.hyper_source.specs.Bounded as spec
-use Rattle.hyper_source.proofs.bounded.gates_of.Given as goal
-
-abbrev pub invariant-loop-origin : goal.invariant-loop-origin
-invariant-loop-origin l = (k : ℕ) → k < l.origin-index → (d : Origin) → spec.HasGate l.gates.items (get_or l.origins k d).address

@@ -1,0 +1,5 @@
+pub mod Origins
+pub mod Bounded
+pub mod Gate
+pub mod Notes
+pub mod Authorities
