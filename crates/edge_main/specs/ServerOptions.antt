@@ -8,8 +8,8 @@ use Rattle.edge_setup.specs.declared.number.Number.TheVariants as number
 use Rattle.edge_setup.specs.declared.numbers.Numbers.{Numbers}
 use Rattle.edge_setup.specs.declared.setup.Setup.{Setup}
 use Rattle.fetch_workers.specs.declared.assembler.Assembling.{Assembling}
-use Rattle.hyper_source.specs.declared.body_limits.BodyLimits.{BodyLimits}
-use Rattle.hyper_source.specs.declared.gate.Bounds.{Bounds}
+use Rattle.origin_http.specs.declared.body_limits.BodyLimits.{BodyLimits}
+use Rattle.origins.specs.declared.gate.Bounds.{Bounds}
 use Rattle.edge_main.specs.declared.server_options.Fetches.{Fetches}
 use Rattle.edge_main.specs.declared.server_options.ServerOptions.{ServerOptions}
 
@@ -112,5 +112,3 @@ pub record AreAskedBy (setup : Setup) (options : ServerOptions) : Type 0 where
   pub fields_are : options.pass_fields ≡ setup.pass_fields
   pub sent_are : options.send_fields ≡ setup.send_fields
   pub private_are : options.private ≡ setup.private
-  pub cookies_are : options.private_cookies ≡ setup.private_cookies
-  pub told_are : options.forward_fields ≡ setup.forward_fields

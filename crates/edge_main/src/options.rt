@@ -8,7 +8,8 @@ use crate::server_options::{Fetches, ServerOptions};
 use edge_connections::{Capacity, Limits};
 use edge_setup::{Number, Numbers, Setup};
 use fetch_workers::Assembling;
-use hyper_source::{BodyLimits, Bounds};
+use origin_http::BodyLimits;
+use origins::Bounds;
 use std::time::Duration;
 
 // A limit of this many milliseconds; 0 means no limit.
@@ -173,8 +174,6 @@ pub(crate) fn options_of(setup: Setup) -> ServerOptions
         pass_fields,
         send_fields,
         private,
-        private_cookies,
-        forward_fields,
     } = setup;
     ServerOptions {
         addresses,
@@ -197,7 +196,5 @@ pub(crate) fn options_of(setup: Setup) -> ServerOptions
         pass_fields,
         send_fields,
         private,
-        private_cookies,
-        forward_fields,
     }
 }

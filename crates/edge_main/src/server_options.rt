@@ -3,10 +3,11 @@ ghost use Rattle.std.specs.Prelude.{◌≤◌};
 
 use access_log::LogFormat;
 use edge_connections::{Capacity, Limits};
-use edge_setup::{Addresses, Flags, Origin};
-use edge_types::{HeadFields, PageUrl};
+use edge_setup::{Addresses, Flags, Origin, PrivateUrls};
+use edge_types::HeadFields;
 use fetch_workers::Assembling;
-use hyper_source::{BodyLimits, Bounds};
+use origin_http::BodyLimits;
+use origins::Bounds;
 use std::time::Duration;
 
 /// How origins are asked.
@@ -63,12 +64,8 @@ pub(crate) struct ServerOptions {
     pub pass_fields: Option<Vec<u8>>,
     /// The fields that each request to an origin carries.
     pub send_fields: HeadFields,
-    /// The prefixes of URLs whose answers are one reader's own.
-    pub private: Vec<PageUrl>,
-    /// The names of the cookies by which those are fetched, with commas between, where there are some.
-    pub private_cookies: Option<Vec<u8>>,
-    /// The names of the reader's fields that go with them, in lower case, with commas between, where there are some.
-    pub forward_fields: Option<Vec<u8>>,
+    /// What is one reader's own.
+    pub private: PrivateUrls,
     ghost some_capacity: { 1 ≤ capacity },
     ghost few_capacity: { capacity ≤ 1024 },
 }

@@ -185,9 +185,9 @@ pub record SaysSetup (rows : List Row) (setup : Setup) : Type 0 where
   pub hosts_are : hosts_said rows ≡ Some (option_map (λ hosts. hosts.items) setup.admin_hosts)
   pub fields_are : fields_said rows ≡ Some (option_map (λ fields. fields.items) setup.pass_fields)
   pub sent_are : SaysSent rows setup.send_fields
-  pub private_are : prefixes_said rows ≡ Some setup.private.items
-  pub cookies_are : cookies_said rows ≡ Some (option_map (λ cookies. cookies.items) setup.private_cookies)
-  pub told_are : lower_told rows ≡ Some (option_map (λ names. names.items) setup.forward_fields)
+  pub private_are : prefixes_said rows ≡ Some setup.private.prefixes.items
+  pub cookies_are : cookies_said rows ≡ Some (option_map (λ cookies. cookies.items) setup.private.cookies)
+  pub told_are : lower_told rows ≡ Some (option_map (λ names. names.items) setup.private.fields)
 
 -- the value of an option is invalid
 abbrev pub IsWrong : List Row → Named → Type 0

@@ -33,5 +33,5 @@ pub use held::{held_text, option_names};
 pub use number::Number;
 pub use numbers::Numbers;
 pub use origin::{OriginFault, Place, is_origin_word};
-pub use setup::{Addresses, Named, Origin, Setup, SetupFault};
+pub use setup::{Addresses, Named, Origin, PrivateUrls, Setup, SetupFault};
 pub use words::{is_set, setup_of};

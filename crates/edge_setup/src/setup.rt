@@ -55,13 +55,19 @@ pub struct Setup {
     pub pass_fields: Option<Vec<u8>>,
     /// The fields that each request to an origin carries.
     pub send_fields: HeadFields,
-    /// The prefixes of URLs whose answers are one reader's own, each with a `/` at its end and no query.
-    pub private: Vec<PageUrl>,
-    /// The names of the cookies by which those are fetched, with commas between and blanks around them, where there are some.
-    pub private_cookies: Option<Vec<u8>>,
-    /// The names of the reader's fields that go with them, in lower case, with commas between and blanks around them, where there
-    /// are some.
-    pub forward_fields: Option<Vec<u8>>,
+    /// What is one reader's own.
+    pub private: PrivateUrls,
+}
+
+/// The URLs whose answers are one reader's own, and what of the reader goes with their fetches.
+#[derive(Drop)]
+pub struct PrivateUrls {
+    /// Their prefixes, each with a `/` at its end and no query.
+    pub prefixes: Vec<PageUrl>,
+    /// The names of his cookies, with commas between and blanks around them, where there are some.
+    pub cookies: Option<Vec<u8>>,
+    /// The names of his fields, in lower case, with commas between and blanks around them, where there are some.
+    pub fields: Option<Vec<u8>>,
 }
 
 /// The options of `serve` whose values may be invalid.

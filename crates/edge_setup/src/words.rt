@@ -14,7 +14,7 @@ use crate::origins::origins_of;
 use crate::passed_names::are_passed;
 use crate::private::{has_private, private_of};
 use crate::sent_fields::sent_said;
-use crate::setup::{Addresses, Named, Setup, SetupFault};
+use crate::setup::{Addresses, Named, PrivateUrls, Setup, SetupFault};
 use crate::told_fields::lowered_of;
 use crate::word::Word;
 use access_log::LogFormat;
@@ -247,8 +247,10 @@ pub fn setup_of(alloc: Global, matches: &ArgMatches<'_>) -> Result<Setup, SetupF
         admin_hosts: copy_of(alloc, tokens.hosts)?,
         pass_fields: copy_of(alloc, tokens.fields)?,
         send_fields,
-        private: private.prefixes,
-        private_cookies: copy_of(alloc, private.cookies)?,
-        forward_fields: lowered_of(alloc, private.told)?,
+        private: PrivateUrls {
+            prefixes: private.prefixes,
+            cookies: copy_of(alloc, private.cookies)?,
+            fields: lowered_of(alloc, private.told)?,
+        },
     })
 }
