@@ -12,13 +12,11 @@ use std::sync::{Arc, Wait};
 use std::time::{Clock, Duration};
 use std::{io, str};
 
-/// Origins, where they listen now, and as the options name their places.
+/// Origins with the addresses at which they listen now, and their places as the options name them.
 #[derive(Drop)]
 pub(crate) struct Known {
     /// As they are asked.
-    pub origins: Vec<hyper_source::Origin>,
-    /// Where they listen.
-    pub addresses: Vec<SocketAddr>,
+    pub origins: Vec<origins::Origin>,
     /// What the options say of that.
     pub places: Vec<Place>,
 }
@@ -34,7 +32,7 @@ impl Known {
         for origin in origins {
             let Origin { authority, place } = origin;
             let address = address_of(rt, &place)?;
-            known.add(authority, address, place)?;
+            known.add(origins::Origin { authority, address }, place)?;
         }
         Ok(known)
     }
@@ -43,20 +41,12 @@ impl Known {
     fn with_room_for(alloc: Global, count: usize) -> Result<Known, NoMemory> {
         Ok(Known {
             origins: Vec::with_capacity(alloc, count)?,
-            addresses: Vec::with_capacity(alloc, count)?,
             places: Vec::with_capacity(alloc, count)?,
         })
     }
 
-    fn add(
-        &mut self,
-        authority: Vec<u8>,
-        address: SocketAddr,
-        place: Place,
-    ) -> Result<(), NoMemory> {
-        self.origins
-            .push(hyper_source::Origin { authority, address })?;
-        self.addresses.push(address)?;
+    fn add(&mut self, origin: origins::Origin, place: Place) -> Result<(), NoMemory> {
+        self.origins.push(origin)?;
         self.places.push(place)?;
         Ok(())
     }
@@ -111,17 +101,16 @@ pub(crate) struct Lookups {
 }
 
 impl Lookups {
-    /// Look-ups of origins at these places, where they listen at these addresses now, with so many seconds between two.
-    /// Refused if there is no memory.
+    /// Look-ups of these origins at these places, with so many seconds between two. Refused if there is no memory.
     pub(crate) fn of(
         alloc: Global,
         places: Vec<Place>,
-        addresses: &[SocketAddr],
+        origins: &[origins::Origin],
         seconds: u32,
     ) -> Result<Lookups, NoMemory> {
         let mut standings = Standings::new(alloc);
-        for address in addresses {
-            standings.add(*address)?;
+        for origin in origins {
+            standings.add(origin.address)?;
         }
         Ok(Lookups {
             places,

@@ -7,13 +7,15 @@ use crate::server_options::{Fetches, ServerOptions};
 use edge_commands::Status;
 use edge_connections::{ServeEnd, ServerRuntime, Sockets};
 use edge_reports::{AccessLog, Connections, EndOfInput, Kept, Measures, MonotonicSeconds, Reports};
-use edge_setup::{Flag, Origin};
+use edge_setup::{Flag, Origin, Place};
 use edge_types::{NoMemory, SharedBytes};
 use failed_answers::{SharedFailures, SparingSource};
 use fragment_cache::UrlHashing;
 use hyper_edge::{EdgeService, Journal, serve_accepts};
-use hyper_source::{Bounds, EdgeName, FetchNotes, HyperSource};
+use hyper_source::HyperSource;
 use operator_http::Operated;
+use origin_http::EdgeName;
+use origins::{Bounds, FetchNotes};
 use shared_cache::Cache;
 use std::alloc::{AllocGlobal, Global};
 use std::fs::File;
@@ -45,6 +47,16 @@ where
     opened(rt, &service, &reports, lookups.as_ref(), options)
 }
 
+// What a server that runs is made of.
+#[derive(Drop)]
+struct Running<'a, R> {
+    operator: Option<&'a Operator>,
+    sockets: &'a Sockets<Stop>,
+    service: &'a EdgeService<Kept, R>,
+    reports: &'a Arc<Reports>,
+    options: &'a ServerOptions,
+}
+
 // Listens for clients, and for the operator if there is one, and serves what the service answers.
 fn opened<R>(
     rt: &R,
@@ -64,12 +76,16 @@ where
     };
     let (sockets, address) = listening(rt, options, operator.as_ref())?;
     println!(rt; "listening on {address}")?;
-    let operator = operator.as_ref();
+    let running = Running {
+        operator: operator.as_ref(),
+        sockets: &sockets,
+        service,
+        reports,
+        options,
+    };
     match lookups {
-        Some(lookups) => {
-            served_while_looking_up(rt, lookups, operator, &sockets, service, reports, options)
-        }
-        None => served(rt, operator, &sockets, service, reports, options),
+        Some(lookups) => served_while_looking_up(rt, lookups, &running),
+        None => served(rt, &running),
     }
 }
 
@@ -77,11 +93,7 @@ where
 fn served_while_looking_up<R>(
     rt: &R,
     lookups: &Lookups,
-    operator: Option<&Operator>,
-    sockets: &Sockets<Stop>,
-    service: &EdgeService<Kept, R>,
-    reports: &Arc<Reports>,
-    options: &ServerOptions,
+    running: &Running<'_, R>,
 ) -> Result<ServeEnd, Status>
 where
     R: ServerRuntime + Files<File = File> + Print + Eprint + Send + Sync,
@@ -91,25 +103,25 @@ where
         if scope.spawn(move || lookups.run(rt)).is_err() {
             return Err(Status::NoMemory);
         }
-        let end = served(rt, operator, sockets, service, reports, options);
+        let end = served(rt, running);
         lookups.end(rt);
         end
     })
 }
 
 // Serves until the server has ended.
-fn served<R>(
-    rt: &R,
-    operator: Option<&Operator>,
-    sockets: &Sockets<Stop>,
-    service: &EdgeService<Kept, R>,
-    reports: &Arc<Reports>,
-    options: &ServerOptions,
-) -> Result<ServeEnd, Status>
+fn served<R>(rt: &R, running: &Running<'_, R>) -> Result<ServeEnd, Status>
 where
     R: ServerRuntime + Files<File = File> + Print + Eprint + Send + Sync,
     R: Net<Stream = TcpStream, Listener = TcpListener>,
 {
+    let Running {
+        operator,
+        sockets,
+        service,
+        reports,
+        options,
+    } = *running;
     let end = match operator {
         Some(operator) => {
             println!(rt; "answering the operator on {}", operator.address)?;
@@ -244,21 +256,30 @@ where
     R: RandomSource + AllocGlobal + Net + Eprint,
 {
     let alloc = rt.alloc();
-    let Known {
-        origins,
-        addresses,
-        places,
-    } = Known::now(rt, origins)?;
+    let Known { origins, places } = Known::now(rt, origins)?;
+    let lookups = lookups_of(alloc, places, origins.as_slice(), fetches.lookup)?;
     let source = HyperSource::new(rt, alloc, origins, fetches.limit)?
         .keeping(fetches.idle)
         .holding(fetches.bodies);
     let source = bounded(alloc, source, fetches.bounds)?;
-    if fetches.lookup == 0 {
-        return Ok((source, None));
+    let source = match &lookups {
+        Some(lookups) => source.following(lookups.standings()?),
+        None => source,
+    };
+    Ok((source, lookups))
+}
+
+// What looks the names of origins up again, with so many seconds between two rounds; 0 where nothing does.
+fn lookups_of(
+    alloc: Global,
+    places: Vec<Place>,
+    origins: &[origins::Origin],
+    seconds: u32,
+) -> Result<Option<Lookups>, NoMemory> {
+    if seconds == 0 {
+        return Ok(None);
     }
-    let lookups = Lookups::of(alloc, places, addresses.as_slice(), fetches.lookup)?;
-    let standings = lookups.standings()?;
-    Ok((source.following(standings), Some(lookups)))
+    Ok(Some(Lookups::of(alloc, places, origins, seconds)?))
 }
 
 // The same, with these bounds, where there are some.
@@ -315,7 +336,7 @@ fn apart(
     options: &mut ServerOptions,
 ) -> Result<HyperSource, NoMemory> {
     let alloc = rt.alloc();
-    let prefixes = mem::replace(&mut options.private, Vec::new(alloc));
+    let prefixes = mem::replace(&mut options.private.prefixes, Vec::new(alloc));
     source.apart(alloc, prefixes)
 }
 
@@ -386,10 +407,10 @@ where
     R: RandomSource + AllocGlobal + Clone + Drop,
 {
     let mut service = service;
-    if let Some(names) = options.private_cookies.take() {
+    if let Some(names) = options.private.cookies.take() {
         service = service.telling_cookies(names);
     }
-    if let Some(names) = options.forward_fields.take() {
+    if let Some(names) = options.private.fields.take() {
         service = service.telling_fields(names);
     }
     service
