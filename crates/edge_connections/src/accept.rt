@@ -1,5 +1,6 @@
 //! Where connections come from.
 
+use crate::set_aside::SetAside;
 use crate::signals::{Pause, Signals};
 use std::net::IpAddr;
 use std::sync::Arc;
@@ -39,6 +40,18 @@ pub trait Accept<R> {
     /// By what a stream tells that a response has been written, and why it can't go on. By default no stream tells
     /// anything, so none is waited for by anything but its own reads and writes.
     fn signals(&self, _io: &Self::Io) -> Option<Arc<Signals>> {
+        None
+    }
+
+    /// What is kept of a stream that has nothing to do, from which this was read beyond the requests that were answered.
+    /// `None` where there is no room for it; by default nothing is kept, so the connection ends.
+    fn set_aside(&self, _rt: &R, _io: Self::Io, _unread: &[u8]) -> Option<SetAside> {
+        None
+    }
+
+    /// The stream of which this was kept, which gives again what was read. `None` where there is no memory for it; by default
+    /// there is none.
+    fn take_up(&self, _rt: &R, _aside: SetAside) -> Option<Self::Io> {
         None
     }
 

@@ -1,12 +1,15 @@
 //! A socket to a client, whose polls hold no thread for long.
 
-ghost use Rattle.std.specs.Prelude.{⊤};
+ghost use Rattle.std.specs.Prelude.{◌≡◌, ⊤, IfOk};
 ghost use Rattle.std.specs.Io.{ReadsAtMost, WritesAtMost};
 
 use crate::exchange::{Exchange, Limits, Stage, deadline};
-use crate::signals::{Pause, PausedBy, Readiness, Signals};
+use crate::set_aside::{SetAside, read_again};
+use crate::signals::{Pause, PausedBy, Signals};
+use bytes::Bytes;
+use edge_sockets::{Readiness, was_interrupted, would_block};
 use futures::task::{Context, Poll};
-use std::alloc::Global;
+use std::alloc::{AllocError, Global};
 use std::io;
 use std::io::{ErrorKind, Read, Write};
 use std::net::{IpAddr, Shutdown, TcpStream};
@@ -58,6 +61,8 @@ pub struct ClientStream<R> {
     exchange: Exchange,
     // Whether the client has let no read or write wait so far, so that one may block.
     is_prompt: bool,
+    // What is read again before anything else.
+    unread: Bytes,
     shared: Arc<Shared>,
     signals: Arc<Signals>,
 }
@@ -78,7 +83,36 @@ impl<R: Clock + Drop> ClientStream<R> {
         } else {
             socket.set_nonblocking(true)?;
         }
-        let exchange = Exchange::begun(Stage::Accepted, deadline(&rt, limits.request)?);
+        let aside = SetAside {
+            socket,
+            client,
+            exchange: Exchange::begun(Stage::Accepted, deadline(&rt, limits.request)?),
+            is_prompt,
+            unread: Bytes::from_static(&[]),
+        };
+        Ok(ClientStream::taken_up(alloc, rt, limits, shared, aside)?)
+    }
+
+    /// A connection that was set aside goes on, within the same limits of time.
+    pub(crate) fn taken_up(
+        alloc: Global,
+        rt: R,
+        limits: Limits,
+        shared: Arc<Shared>,
+        aside: SetAside,
+    ) -> Result<ClientStream<R>, AllocError>
+        ensures socket { IfOk result (λ stream. stream.socket ≡ aside.socket) }
+        ensures client { IfOk result (λ stream. stream.client ≡ aside.client) }
+        ensures exchange { IfOk result (λ stream. stream.exchange ≡ aside.exchange) }
+        ensures unread { IfOk result (λ stream. stream.unread ≡ aside.unread) }
+    {
+        let SetAside {
+            socket,
+            client,
+            exchange,
+            is_prompt,
+            unread,
+        } = aside;
         let signals = Signals::of_socket(socket.as_raw_fd());
         Ok(ClientStream {
             socket,
@@ -87,8 +121,25 @@ impl<R: Clock + Drop> ClientStream<R> {
             limits,
             exchange,
             is_prompt,
+            unread,
             shared,
             signals: Arc::new(alloc, signals)?,
+        })
+    }
+
+    /// What is kept of a connection that has nothing to do, and of which this is to be read again.
+    pub(crate) fn set_aside(self, alloc: Global, unread: &[u8]) -> Result<SetAside, AllocError>
+        ensures socket { IfOk result (λ aside. aside.socket ≡ self.socket) }
+        ensures client { IfOk result (λ aside. aside.client ≡ self.client) }
+        ensures exchange { IfOk result (λ aside. aside.exchange ≡ self.exchange) }
+        ensures unread { IfOk result (λ aside. aside.unread ≡ unread.now) }
+    {
+        Ok(SetAside {
+            socket: self.socket,
+            client: self.client,
+            exchange: self.exchange,
+            is_prompt: self.is_prompt,
+            unread: Bytes::from_vec(unread.to_vec(alloc)?)?,
         })
     }
 
@@ -124,6 +175,7 @@ impl<R: Clock + Drop> ClientStream<R> {
             self.exchange.stage = Stage::Idle;
         }
         let by = match self.exchange.stage {
+            Stage::Accepted => PausedBy::NewClient,
             Stage::Idle => PausedBy::IdleClient,
             _ => PausedBy::Client,
         };
@@ -165,7 +217,11 @@ impl<R: Clock + Drop> ClientStream<R> {
             }
             Stage::Answering | Stage::Answered | Stage::Lingering => return Ok(0),
         }
-        let count = (&self.socket).read(buf)?;
+        let count = if self.unread.is_empty() {
+            (&self.socket).read(buf)?
+        } else {
+            read_again(&mut self.unread, buf)?
+        };
         self.has_read()?;
         Ok(count)
     }
@@ -259,10 +315,7 @@ impl<R: Clock + Drop> ClientStream<R> {
 
 // Whether a call has to be made again once the socket is ready: it would block, or was interrupted by a signal.
 fn has_to_wait<T>(done: &io::Result<T>) -> bool {
-    match done {
-        Ok(_) => false,
-        Err(e) => e.kind() == ErrorKind::WouldBlock || e.kind() == ErrorKind::Interrupted,
-    }
+    would_block(done) || was_interrupted(done)
 }
 
 impl<R: Clock + Drop> AsyncRead for ClientStream<R> {

@@ -4,14 +4,40 @@ ghost use Rattle.std.specs.Prelude.{◌≡◌, box_value, IsSomeAnd};
 ghost use Rattle.edge_connections.specs.Refusals.{status_of_refusal};
 
 use crate::executor::Executor;
-use crate::handover::{Handover, IncomingRequest};
+use crate::handover::{Handover, HandsOver, IncomingRequest};
 use crate::signals::{Pause, Signals};
+use bytes::BytesMut;
 use futures::Future;
 use futures::task::{Context, Poll};
+use hyper::rt::Timer;
+use hyper::server::conn::http1;
+use page_http::EdgeBody;
 use polled_futures::Pollable;
 use std::alloc::{AllocError, Global};
 use std::os::fd::RawFd;
 use std::sync::{Arc, Wait};
+use tokio::io::{AsyncRead, AsyncWrite};
+
+/// What serves a connection over a stream, which it can give back.
+pub trait GivesStream<I> {
+    /// The stream, and what was read from it beyond the requests that were handed over.
+    fn into_stream(self) -> (I, BytesMut);
+}
+
+impl<I, T> GivesStream<I> for http1::Connection<I, HandsOver, EdgeBody, T>
+where
+    I: AsyncRead + AsyncWrite,
+    T: Timer,
+{
+    fn into_stream(self) -> (I, BytesMut) {
+        let http1::Parts {
+            io,
+            read_buf,
+            service: _,
+        } = self.into_parts();
+        (io, read_buf)
+    }
+}
 
 /// Why a connection stopped that may be gone on with.
 #[derive(Drop)]
@@ -85,6 +111,14 @@ impl<F: Future<Output = hyper::Result<()>>> Connection<F> {
     /// Its client's socket, where it is known.
     pub fn socket(&self) -> Option<RawFd> {
         self.signals.as_ref()?.socket()
+    }
+
+    /// Its stream, and what was read from it beyond the requests that were handed over.
+    pub fn into_stream<I>(self) -> (I, BytesMut)
+    where
+        F: GivesStream<I>,
+    {
+        self.future.into_inner().into_stream()
     }
 
     /// Goes on until the connection stops, or has ended, as where the executor has no room.

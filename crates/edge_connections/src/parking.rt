@@ -3,6 +3,7 @@
 ghost use Rattle.std.specs.Prelude.{◌≡◌, None, IfNone, IfSome, IsSomeAnd};
 ghost use Rattle.slab.specs.Slab.{get};
 
+use crate::set_aside::SetAside;
 use crate::signals::{Pause, PausedBy};
 use slab::Slab;
 use std::alloc::Global;
@@ -16,6 +17,8 @@ use std::time::Instant;
 pub enum Waiting<C, F> {
     /// A connection, for its client, or for what is fetched for it.
     Connection(C),
+    /// A connection whose client has asked for nothing that isn't answered.
+    SetAside(SetAside),
     /// Fetches that are no connection's any longer.
     Fetches(F),
 }
@@ -132,7 +135,7 @@ impl<T: Drop> Lot<T> {
     fn park(&mut self, session: T, pause: Pause) -> Result<usize, Option<T>> {
         let until = pause.until;
         let number = match pause.by {
-            PausedBy::Client => Some(self.numbered),
+            PausedBy::NewClient | PausedBy::Client => Some(self.numbered),
             PausedBy::IdleClient | PausedBy::Fetches => None,
         };
         let parked = Parked {

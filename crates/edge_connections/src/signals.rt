@@ -1,25 +1,20 @@
 //! What a stream tells those who serve its connection.
 
-ghost use Rattle.std.specs.Prelude.{◌≡◌, Some};
+ghost use Rattle.std.specs.Prelude.{◌≡◌, ◌↔◌, ◌⊎◌, IsTrue, Some};
+ghost use Rattle.edge_connections.specs.declared.signals.PausedBy.TheVariants as by;
 
 use crate::departure::ClientWatch;
+use edge_sockets::Readiness;
 use std::os::fd::RawFd;
 use std::sync::Mutex;
 use std::sync::atomic::{AtomicBool, Ordering};
 use std::time::Instant;
 
-/// What a socket has to be ready for.
-#[derive(Clone, Copy, PartialEq, Eq)]
-pub enum Readiness {
-    /// A byte has come, or the end of the client's input.
-    Readable,
-    /// There is room for a byte to be sent.
-    Writable,
-}
-
 /// Who lets a connection wait.
 #[derive(Clone, Copy, PartialEq, Eq)]
 pub enum PausedBy {
+    /// A client who has sent nothing yet.
+    NewClient,
     /// A client whose connection is kept, and of whose further request nothing has come: it is idle.
     IdleClient,
     /// A client who sends a request, or receives a response.
@@ -44,6 +39,13 @@ pub struct Pause {
 }
 
 impl Pause {
+    /// Whether nothing of a request has come since the last response, so that the connection may be set aside.
+    pub fn is_between_requests(&self) -> bool
+        ensures { IsTrue result ↔ (self.now.by ≡ by.NewClient) ⊎ (self.now.by ≡ by.IdleClient) }
+    {
+        matches!(self.by, PausedBy::NewClient | PausedBy::IdleClient)
+    }
+
     /// What fetches wait for, for a client where there is one: that this descriptor is readable, or their time is over, if it
     /// ever is.
     pub fn for_fetches(

@@ -3,7 +3,9 @@
 use crate::accept::{Accept, AcceptFault};
 use crate::client_stream::{ClientStream, PATIENCE_MILLIS, Shared};
 use crate::exchange::Limits;
-use crate::signals::{Pause, Readiness, Signals};
+use crate::set_aside::SetAside;
+use crate::signals::{Pause, Signals};
+use edge_sockets::Readiness;
 use libc::EMFILE;
 use libc::net::{
     EPOLL_CTL_ADD, EPOLL_CTL_MOD, EPOLLIN, EPOLLONESHOT, EPOLLOUT, EPOLLRDHUP, POLLIN, listen, poll,
@@ -151,6 +153,16 @@ where
 
     fn signals(&self, io: &ClientStream<R>) -> Option<Arc<Signals>> {
         io.signals()
+    }
+
+    fn set_aside(&self, rt: &R, io: ClientStream<R>, unread: &[u8]) -> Option<SetAside> {
+        io.set_aside(rt.alloc(), unread).ok()
+    }
+
+    fn take_up(&self, rt: &R, aside: SetAside) -> Option<ClientStream<R>> {
+        let own = rt.clone().ok()?;
+        let shared = self.shared.clone().ok()?;
+        ClientStream::taken_up(rt.alloc(), own, self.limits, shared, aside).ok()
     }
 
     fn client(&self, io: &ClientStream<R>) -> Option<IpAddr> {

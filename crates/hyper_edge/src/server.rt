@@ -8,8 +8,9 @@ use crate::serving::{Served, Serving, Session};
 use crate::turn::Owed;
 use answer_sources::{ConcurrentSource, OnBehalf};
 use edge_connections::{
-    Accept, AcceptFault, Admission, AfterFailure, Capacity, Duty, Executor, Handover, ParkingPlace,
-    Pause, Roster, ServeEnd, ServerRuntime, SharedRoster, Waiting, Wanted, Work,
+    Accept, AcceptFault, Admission, AfterFailure, Capacity, Duty, Executor, GivesStream, Handover,
+    ParkingPlace, Pause, Roster, ServeEnd, ServerRuntime, SetAside, SharedRoster, Waiting, Wanted,
+    Work,
 };
 use futures::Future;
 use std::sync::{Arc, Wait};
@@ -41,7 +42,7 @@ where
     A: Accept<R>,
     S: ConcurrentSource<R> + OnBehalf<R> + Send + Sync + Drop,
     J: Journal<R>,
-    F: Future<Output = hyper::Result<()>>,
+    F: Future<Output = hyper::Result<()>> + GivesStream<A::Io>,
 {
     /// A server that accepts `count` connections.
     pub(crate) fn new(
@@ -130,7 +131,7 @@ where
     {
         match work {
             Work::Accepting => self.accept_all(opens),
-            Work::Resuming => self.resume_all(),
+            Work::Resuming => self.resume_all(opens),
         }
     }
 
@@ -152,7 +153,10 @@ where
     }
 
     // Goes on with connections that were parked, until each has ended. Without an executor it counts as not started.
-    fn resume_all(&self) {
+    fn resume_all<M: Fn(A::Io, Arc<Handover>) -> F>(&self, opens: &M)
+        requires callable { M.IsAlwaysCallable opens.now }
+        requires opened { GivesPollable (M.post opens.now) F.can_poll }
+    {
         let rt = self.serving.rt;
         let Ok(mut executor) = Executor::new(rt) else {
             self.roster.not_started(rt, Work::Resuming);
@@ -162,7 +166,7 @@ where
             if self.roster.is_done(rt) {
                 return;
             }
-            self.resume(&mut executor);
+            self.resume(opens, &mut executor);
         }
     }
 
@@ -187,7 +191,7 @@ where
             self.accept_next(opens, executor);
         }
         if self.roster.lacks(rt, Work::Resuming) {
-            self.resume(executor);
+            self.resume(opens, executor);
         }
     }
 
@@ -226,13 +230,23 @@ where
         };
         self.roster.accepted(rt, self.acceptor);
         self.serving.journal.accepted();
+        self.serve_stream(opens, io, executor, Work::Accepting);
+        self.roster.served(rt, self.acceptor);
+    }
+
+    // Serves the connection of a stream, by a thread that does this work. Without memory for it, it ends.
+    fn serve_stream<M>(&self, opens: &M, io: A::Io, executor: &mut Executor, work: Work)
+    where
+        M: Fn(A::Io, Arc<Handover>) -> F,
+        requires callable { M.IsAlwaysCallable opens.now }
+        requires opened { GivesPollable (M.post opens.now) F.can_poll }
+    {
         let client = self.acceptor.client(&io);
         let signals = self.acceptor.signals(&io);
         match self.serving.session(opens, io, client, signals) {
-            Some(session) => self.go_on(session, executor, Work::Accepting),
+            Some(session) => self.go_on(session, executor, work),
             None => self.ended(),
         }
-        self.roster.served(rt, self.acceptor);
     }
 
     // After a failed accept. What it lacked, as a file descriptor, connections that wait for their clients hold, and others
@@ -265,7 +279,12 @@ where
     }
 
     // Goes on with what was parked, if something can go on within a moment.
-    fn resume(&self, executor: &mut Executor) {
+    fn resume<M>(&self, opens: &M, executor: &mut Executor)
+    where
+        M: Fn(A::Io, Arc<Handover>) -> F,
+        requires callable { M.IsAlwaysCallable opens.now }
+        requires opened { GivesPollable (M.post opens.now) F.can_poll }
+    {
         let rt = self.serving.rt;
         let Some(waiting) = self.next() else {
             return;
@@ -275,6 +294,13 @@ where
             Waiting::Connection(session) => {
                 self.serving.journal.unparked();
                 self.go_on(session, executor, Work::Resuming);
+            }
+            Waiting::SetAside(aside) => {
+                self.serving.journal.unparked();
+                match self.acceptor.take_up(rt, aside) {
+                    Some(io) => self.serve_stream(opens, io, executor, Work::Resuming),
+                    None => self.ended(),
+                }
             }
             Waiting::Fetches(fetches) => {
                 if let Some(left) = fetches.go_on() {
@@ -314,12 +340,29 @@ where
         }
     }
 
-    // Parks a connection. Without room for that, it ends, and what is to be reported of it is.
+    // Parks a connection, or only its socket where it has nothing to do. Without room for that, it ends.
     fn park_connection(&self, session: Session<F, R, S>, pause: Pause) {
+        if !pause.is_between_requests() {
+            return self.park(Waiting::Connection(session), pause);
+        }
+        match self.set_aside(session) {
+            Some(aside) => self.park(Waiting::SetAside(aside), pause),
+            None => self.ended(),
+        }
+    }
+
+    // What is kept of a connection that has nothing to do. `None` where there is no room for it.
+    fn set_aside(&self, session: Session<F, R, S>) -> Option<SetAside> {
+        let (io, unread) = self.serving.released(session).into_stream();
+        self.acceptor
+            .set_aside(self.serving.rt, io, unread.as_slice())
+    }
+
+    // Parks a connection. Without room for that, it ends, and what is to be reported of it is.
+    fn park(&self, connection: Parked<F, R, S>, pause: Pause) {
         let rt = self.serving.rt;
-        let waiting = Waiting::Connection(session);
         // The journal is told before another thread can take the connection out.
-        let parked = self.parked.park(rt, waiting, pause, |key| {
+        let parked = self.parked.park(rt, connection, pause, |key| {
             let is_watched = self.acceptor.watch(key, &pause);
             if is_watched {
                 self.serving.journal.parked();
@@ -329,7 +372,7 @@ where
         match parked {
             Ok(()) => self.roster.parked(rt),
             Err(Some(Waiting::Connection(session))) => {
-                self.serving.end(session);
+                drop(self.serving.released(session));
                 self.ended();
             }
             Err(_) => self.ended(),
@@ -387,10 +430,17 @@ where
 
     // Ends what was parked.
     fn end_waiting(&self, waiting: Parked<F, R, S>) {
-        if let Waiting::Connection(session) = waiting {
-            self.serving.journal.unparked();
-            self.serving.end(session);
-            self.ended();
+        match waiting {
+            Waiting::Connection(session) => {
+                self.serving.journal.unparked();
+                drop(self.serving.released(session));
+                self.ended();
+            }
+            Waiting::SetAside(_) => {
+                self.serving.journal.unparked();
+                self.ended();
+            }
+            Waiting::Fetches(_) => {}
         }
     }
 }

@@ -233,11 +233,8 @@ where
         unreachable!()
     }
 
-    /// Ends a connection that was given back, and reports what is to be reported of it.
-    pub(crate) fn end<F>(&self, session: Session<F, R, S>)
-    where
-        F: Future<Output = hyper::Result<()>>,
-    {
+    /// The connection of a session that nothing more is done for. What is to be reported of it is.
+    pub(crate) fn released<F: Future>(&self, session: Session<F, R, S>) -> Connection<F> {
         let Session {
             connection,
             page,
@@ -245,8 +242,8 @@ where
             unreported,
         } = session;
         drop(page);
-        drop(connection);
         self.report(unreported);
+        connection
     }
 
     /// Reports what is to be reported, now that the responses have been written or the connection has ended.

@@ -7,7 +7,9 @@ use crate::server::Server;
 use crate::service::EdgeService;
 use crate::serving::{Serving, http_of};
 use answer_sources::{ConcurrentSource, OnBehalf};
-use edge_connections::{Accept, Capacity, Handover, HandsOver, ServeEnd, ServerRuntime};
+use edge_connections::{
+    Accept, Capacity, GivesStream, Handover, HandsOver, ServeEnd, ServerRuntime,
+};
 use futures::Future;
 use std::sync::Arc;
 use std::thread;
@@ -89,7 +91,7 @@ where
     S: ConcurrentSource<R> + OnBehalf<R> + Send + Sync + Drop,
     S::InFlight: Send,
     J: Journal<R> + Sync,
-    F: Future<Output = hyper::Result<()>> + Send,
+    F: Future<Output = hyper::Result<()>> + GivesStream<A::Io> + Send,
     M: Fn(A::Io, Arc<Handover>) -> F + Sync,
     requires callable { M.IsAlwaysCallable opens.now }
     requires opened { GivesPollable (M.post opens.now) F.can_poll }
@@ -109,7 +111,7 @@ where
     S: ConcurrentSource<R> + OnBehalf<R> + Send + Sync + Drop,
     S::InFlight: Send,
     J: Journal<R> + Sync,
-    F: Future<Output = hyper::Result<()>> + Send,
+    F: Future<Output = hyper::Result<()>> + GivesStream<A::Io> + Send,
     M: Fn(A::Io, Arc<Handover>) -> F + Sync,
     requires callable { M.IsAlwaysCallable opens.now }
     requires opened { GivesPollable (M.post opens.now) F.can_poll }

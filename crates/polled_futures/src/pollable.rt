@@ -27,6 +27,14 @@ impl<F: Future> Pollable<F> {
         Ok(Pollable { future })
     }
 
+    /// The future, which nobody polls any longer.
+    pub fn into_inner(self) -> F
+        ensures { result ≡ box_value self.future }
+    {
+        let Pollable { future } = self;
+        Box::into_inner(future)
+    }
+
     // The box, whose future may still be polled.
     fn into_box(self) -> Box<F>
         ensures { F.can_poll (box_value result) }
