@@ -2,11 +2,10 @@
 
 use crate::language::parts_of;
 use crate::row::{Line, number, pair};
-use crate::values::{push_pieces, push_url, url};
-use edge_types::{Answer, Control, Octets, Outcome, PageUrl, Request, SharedBytes, Table};
+use crate::values::{answer, push_pieces, push_url, url};
+use edge_types::{Control, Outcome, PageUrl, Request, Table};
 use esi_vars::Lookups;
 use std::alloc::Global;
-use std::sync::Arc;
 
 /// A row is a page, a template without includes.
 pub fn plain_page(alloc: Global, row: &[u8], line: &mut Line) -> Option<()> {
@@ -41,15 +40,9 @@ fn add_template(
         errors: true,
         ..Control::default()
     };
-    let body = SharedBytes::copy_of(alloc, text).ok()?;
-    let answer = Answer::got(
-        url.share().ok()?,
-        status,
-        Octets::empty(alloc),
-        control,
-        body,
-    )?;
-    table.insert(Arc::new(alloc, answer).ok()?).ok()
+    table
+        .insert(answer(alloc, url, status, control, text)?)
+        .ok()
 }
 
 fn push_page(alloc: Global, url: &PageUrl, table: &Table, line: &mut Line) -> Option<()> {

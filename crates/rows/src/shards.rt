@@ -3,8 +3,8 @@ ghost use Rattle.std.specs.Prelude.{◌≡◌};
 ghost use Rattle.std.specs.Arc.{arc_value};
 
 use crate::row::{Line, number, pair};
-use crate::values::url;
-use edge_types::{Answer, Octets, PageUrl, SharedBytes};
+use crate::values::{answer, url};
+use edge_types::{Answer, PageUrl};
 use fragment_cache::{Begun, Flight, MAX_CAPACITY, Picked, Shard};
 use std::alloc::Global;
 use std::str;
@@ -206,15 +206,7 @@ fn told_answer(alloc: Global, url: &PageUrl, told: &[u8]) -> Option<Option<Arc<A
     let status = number(status)?;
     let (body, asked) = pair(rest);
     let control = control(asked, own_device());
-    let body = SharedBytes::copy_of(alloc, body).ok()?;
-    let answer = Answer::got(
-        url.share().ok()?,
-        status,
-        Octets::empty(alloc),
-        control,
-        body,
-    )?;
-    Some(Some(Arc::new(alloc, answer).ok()?))
+    Some(Some(answer(alloc, url, status, control, body)?))
 }
 
 fn push_number(line: &mut Line, word: &str, number: u64) {

@@ -14,6 +14,20 @@ pub fn url(alloc: Global, text: &[u8]) -> Option<PageUrl> {
     PageUrl::parse(alloc, text).ok()?
 }
 
+/// An answer without a type: its URL, status, what it asks, and body.
+pub fn answer(
+    alloc: Global,
+    url: &PageUrl,
+    status: u16,
+    control: Control,
+    body: &[u8],
+) -> Option<Arc<Answer>> {
+    let url = url.share().ok()?;
+    let body = SharedBytes::copy_of(alloc, body).ok()?;
+    let answer = Answer::got(url, status, Octets::empty(alloc), control, body)?;
+    Arc::new(alloc, answer).ok()
+}
+
 pub fn push_url(line: &mut Line, found: &Option<PageUrl>) {
     match found {
         Some(url) => line.show(url.as_bytes()),
