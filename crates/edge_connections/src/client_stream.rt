@@ -220,6 +220,8 @@ impl<R: Clock + Drop> ClientStream<R> {
         let count = if self.unread.is_empty() {
             (&self.socket).read(buf)?
         } else {
+            // What came before gives the client no further time.
+            self.exchange.in_time(&self.rt)?;
             read_again(&mut self.unread, buf)?
         };
         self.has_read()?;
