@@ -1,4 +1,2 @@
 pub mod Ending
-pub mod ServerOptions
-pub mod OpenFiles
 pub mod Program

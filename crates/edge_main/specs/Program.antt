@@ -17,11 +17,11 @@ use Rattle.edge_commands.specs.declared.status.Status.TheVariants.{Page, PageFau
 use Rattle.plan_runner.specs.declared.events.Event.{Event}
 use Rattle.edge_setup.specs.declared.check.Checking.{Checking}
 use Rattle.edge_setup.specs.declared.setup.Setup.{Setup}
-use Rattle.edge_main.specs.declared.server_options.ServerOptions.{ServerOptions}
+use Rattle.edge_parts.specs.declared.server_options.ServerOptions.{ServerOptions}
 use Rattle.edge_main.specs.declared.program.Done.{Done}
 use Rattle.edge_main.specs.declared.program.Done.TheVariants.{Ran, Explains, Serves, Checks}
 use Rattle.edge_commands.specs.CommandLine.{AsksCase, AsksCheck, AsksServe, AsksWhy}
-use Rattle.edge_main.specs.ServerOptions.{AreAskedBy}
+use Rattle.edge_parts.specs.ServerOptions.{AreAskedBy}
 
 -- the words ask for a case with this many levels, whatever its events and its slots ahead are
 abbrev pub AsksLevels : List Text → ℕ → Type 0

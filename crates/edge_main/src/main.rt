@@ -6,12 +6,7 @@ ghost use Rattle.clap.specs.Words.{kind_of};
 ghost use Rattle.edge_main.specs.Ending.{IsEndOf, IsRefusedAs};
 
 mod ending;
-mod lookups;
-mod open_files;
-mod operator;
-mod options;
 mod program;
-mod server_options;
 mod serving;
 
 use clap::error::ErrorKind;

@@ -3,10 +3,9 @@ ghost use Rattle.std.specs.Prelude.{◌≡◌, map, string_bytes, IfOk, IfErr, O
 ghost use Rattle.edge_commands.specs.CommandLine.{IsRefused};
 ghost use Rattle.edge_main.specs.Program.{Does, explained_by};
 
-use crate::options::options_of;
-use crate::server_options::ServerOptions;
 use edge_case::{CaseEnd, CaseFault, Ran, Running, run_case, run_case_and_keep};
 use edge_commands::{Invocation, Refusal, Status, invocation_of};
+use edge_parts::{ServerOptions, options_of};
 use edge_setup::Checking;
 use std::alloc::Global;
 use std::io::{Read, Write};

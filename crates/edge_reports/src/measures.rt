@@ -4,8 +4,8 @@ ghost use Rattle.std.specs.Prelude.{◌≡◌};
 
 use crate::memory::Memory;
 use edge_metrics::{Counts, History, Sample, page_of};
+use edge_server::RequestRecord;
 use edge_types::NoMemory;
-use hyper_edge::RequestRecord;
 use std::alloc::{AllocError, AllocGlobal, Global};
 use std::fs::File;
 use std::rt::Files;

@@ -9,9 +9,9 @@ use crate::measures::Measures;
 use crate::requests_log::AccessLog;
 use edge_connections::ServeEnd;
 use edge_metrics::{Counts, Measured, text_of};
+use edge_server::{Journal, RequestRecord};
 use edge_types::{NoMemory, PageUrl};
 use fetch_outcomes::FetchFault;
-use hyper_edge::{Journal, RequestRecord};
 use operator_http::{Health, Operated, Purge};
 use origins::FetchNotes;
 use std::alloc::{AllocError, AllocGlobal};
@@ -21,7 +21,6 @@ use std::time::Clock;
 
 /// Where each request is reported: in the log, and in what is measured for the operator, where there is one; and what the
 /// operator asks for.
-#[derive(Drop)]
 pub struct Reports {
     /// The log of requests.
     pub log: AccessLog,
@@ -33,6 +32,19 @@ pub struct Reports {
     pub cache: Arc<Kept>,
     /// What is measured, where there is an operator.
     pub measures: Option<Measures>,
+}
+
+// By hand, so that who drops it needs no proof of what it is made of.
+impl Drop for Reports {
+    fn drop(self) {
+        let Reports {
+            log: _,
+            connections: _,
+            fetches: _,
+            cache: _,
+            measures: _,
+        } = self;
+    }
 }
 
 impl<R> Journal<R> for Reports

@@ -4,7 +4,7 @@ ghost use Rattle.std.specs.Prelude.{◌≡◌, is_some};
 
 use crate::readiness::is_writable;
 use access_log::{LineQueue, LogFormat, LogLine, line_of};
-use hyper_edge::RequestRecord;
+use edge_server::RequestRecord;
 use std::alloc::{AllocError, AllocGlobal, Global};
 use std::io::Eprint;
 use std::sync::{Mutex, Wait};

@@ -1,12 +1,5 @@
-pub mod Opening
-pub mod PageTime
-pub mod Privacy
-pub mod Validators
-pub mod Departure
 pub mod Responses
-pub mod Records
+pub mod Reasons
 pub mod Lines
 pub mod Methods
-pub mod Forwarded
 pub mod Circles
-pub mod OwnFields

@@ -5,19 +5,18 @@ ghost use Rattle.std.specs.Arc.{arc_value};
 ghost use Rattle.std.specs.List.{list_any};
 ghost use Rattle.http_header.specs.HeaderMap.{get_all};
 ghost use Rattle.page_http.specs.Sent.{sent};
-ghost use Rattle.hyper_edge.specs.Privacy.{is_of_private, sent_of};
-ghost use Rattle.hyper_edge.specs.Validators.{finished};
+ghost use Rattle.page_readers.specs.Privacy.{is_of_private, sent_of};
+ghost use Rattle.page_readers.specs.Validators.{finished};
 
-use crate::privacy::for_its_reader;
-use crate::responding::Responded;
 use crate::service::EdgeService;
-use crate::validators::validated;
 use access_log::Reason;
 use answer_sources::Answers;
+use edge_server::Responded;
 use edge_types::NoMemory;
 use http::header::HeaderValue;
 use http::{HeaderMap, Response};
 use page_http::EdgeBody;
+use page_readers::{for_its_reader, validated};
 
 impl<S, R> EdgeService<S, R> {
     /// What is sent of a response to a request with these fields: it says so if it is for its reader alone, and is a page

@@ -5,15 +5,16 @@ ghost use Rattle.std.specs.Arc.{arc_value};
 ghost use Rattle.page_http.specs.Sent.{IsRefusal, Tells, refusal, sent};
 ghost use Rattle.hyper_edge.specs.Responses as spec;
 
-use crate::faults::{reason_of, status_of};
+use crate::reasons::{reason_of, status_of};
 use access_log::Reason;
 use answer_sources::{ConcurrentSource, OneByOne, Source, WayCounts};
-use edge_types::{Answer, NoMemory, PageUrl, Request};
+use edge_server::{Begun, Gone, Responded, Told};
+use edge_types::{NoMemory, PageUrl, Request};
 use fetch_workers::{AssembleFault, Assembled, Assembling, Ended, OwedFetches, PageInProgress};
 use http::Response;
 use page_http::{EdgeBody, Field, HeadFault, answer_head, refusal_of, response_of};
 use std::alloc::Global;
-use std::sync::{Arc, Wait};
+use std::sync::Wait;
 use std::thread::Threads;
 
 /// The response to the head of a request: the page that it asks for, assembled from answers of the
@@ -59,20 +60,8 @@ pub(crate) struct RequestHead<'a> {
     pub(crate) fields: &'a [Field<'a>],
 }
 
-/// A response, the answers that it rests on, a page's own first, none for a refusal, and by which ways they came; why it
-/// isn't a page as it should be, if it isn't; and the answer of the leg at which an include failed the page, if one did and
-/// the leg asked for an answer.
-#[derive(Drop)]
-pub(crate) struct Responded {
-    pub(crate) response: Response<EdgeBody>,
-    pub(crate) log: Vec<Arc<Answer>>,
-    pub(crate) ways: WayCounts,
-    pub(crate) reason: Option<Reason>,
-    pub(crate) failed_leg: Option<Arc<Answer>>,
-}
-
-/// The response to the head of a request, with the answers that the page asked the source for.
-pub(crate) fn respond_with_log<R, S>(
+// The response to the head of a request, with the answers that the page asked the source for.
+fn respond_with_log<R, S>(
     rt: &R,
     alloc: Global,
     source: &S,
@@ -157,10 +146,6 @@ fn paged_of(alloc: Global, page: Assembled) -> Result<Responded, NoMemory>
     })
 }
 
-/// What is done for the head of a request: `Ok` has the response that is there at once, `Err` the page that is to be gone on
-/// with.
-pub(crate) type Begun<R, S> = Result<Responded, PageInProgress<R, S>>;
-
 /// Begins the response to the head of a request. A page that may have several fetches in flight is to be gone on with, and
 /// nothing is fetched for it yet; any other is assembled at once.
 pub(crate) fn begin_response<R, S>(
@@ -169,7 +154,7 @@ pub(crate) fn begin_response<R, S>(
     source: S,
     head: &RequestHead<'_>,
     how: Assembling,
-) -> Result<Begun<R, S>, NoMemory>
+) -> Result<Begun<PageInProgress<R, S>>, NoMemory>
 where
     R: Wait + Threads + Sync + Drop,
     S: ConcurrentSource<R> + Sync + Drop,
@@ -194,21 +179,11 @@ where
     }
 }
 
-/// The response to a page that has ended, and those of its fetches for which others wait.
-#[derive(Drop)]
-pub(crate) struct Told<R: Wait + Drop, S: ConcurrentSource<R> + Drop> {
-    pub(crate) responded: Responded,
-    pub(crate) owed: Option<OwedFetches<R, S>>,
-}
-
-/// What a page that is asked for has come to, or the page that is to be gone on with.
-pub(crate) type Gone<R, S> = Result<Told<R, S>, PageInProgress<R, S>>;
-
 /// Goes on with a page as far as it gets without waiting.
 pub(crate) fn go_on_with<R, S>(
     alloc: Global,
     page: PageInProgress<R, S>,
-) -> Result<Gone<R, S>, NoMemory>
+) -> Result<Gone<PageInProgress<R, S>, OwedFetches<R, S>>, NoMemory>
 where
     R: Wait + Drop,
     S: ConcurrentSource<R> + Drop,

@@ -10,18 +10,17 @@ ghost use Rattle.hyper_edge.specs.Circles.{is_circle};
 ghost use Rattle.hyper_edge.specs.Lines.{line, lines_of};
 ghost use Rattle.hyper_edge.specs.Methods.{answered_as};
 
-use crate::forwarded::client_of;
-use crate::own_fields::own_fields;
-use crate::page_time::WithinTime;
-use crate::responding::{Begun, RequestHead, begin_response, no_room, refused};
+use crate::responding::{RequestHead, begin_response, go_on_with, no_room, refused};
 use access_log::Reason;
-use answer_sources::{Behalf, ConcurrentSource, OnBehalf};
-use edge_connections::{ClientWatch, DateClock, deadline, watch_of};
+use answer_sources::{Awaited, Behalf, ConcurrentSource, OnBehalf};
+use edge_connections::{ClientWatch, deadline, watch_of};
+use edge_server::{Begun, Gone, PageService, Told};
 use edge_types::{HeadFields, NoMemory};
-use fetch_workers::Assembling;
+use fetch_workers::{Assembling, OwedFetches, PageInProgress};
 use http::header::{HeaderName, HeaderNameError, HeaderValue};
 use http::{HeaderMap, Request, Uri};
 use page_http::{Field, has_passed, passed_edges};
+use page_readers::{WithinTime, client_of, own_fields};
 use std::alloc::Global;
 use std::borrow::CowStr;
 use std::hash::RandomState;
@@ -181,27 +180,37 @@ impl<S: Drop, R: Drop> EdgeService<S, R> {
         self.forwarded = Some(HeaderName::from_bytes(self.alloc, field)?);
         Ok(self)
     }
-
-    pub(crate) fn keys(&self) -> RandomState {
-        self.keys
-    }
 }
 
-/// What answers a request: the response at once, or the page that is to be gone on with.
-pub(crate) type Begins<R, S> = Begun<R, WithinTime<S>>;
+/// A page that is being assembled within its time.
+pub(crate) type TimedPage<R, S> = PageInProgress<R, WithinTime<S>>;
 
 impl<S, R> EdgeService<S, R>
 where
     S: ConcurrentSource<R> + OnBehalf<R> + Send + Sync + Drop,
     R: Wait + Threads + Clock + Clone + Sync + Drop,
 {
-    /// Begins the response to a request, from a copy of its head, to a client with this socket, where that is known; 503 if
-    /// there is no room for the copy.
-    pub(crate) fn begin<B>(
+    /// Begins the response to a request to a client with this socket, where that is known. Nothing is fetched yet for a page
+    /// that is to be gone on with.
+    ///
+    /// `NoMemory` if there is none for a refusal.
+    pub(crate) fn begin(
         &self,
-        request: &Request<B>,
+        head: &Request<()>,
         socket: Option<RawFd>,
-    ) -> Result<Begins<R, S>, NoMemory> {
+    ) -> Result<Begun<TimedPage<R, S>>, NoMemory> {
+        match self.begun(head, socket)? {
+            Ok(responded) => Ok(Ok(self.finished(head.headers(), responded)?)),
+            Err(page) => Ok(Err(page)),
+        }
+    }
+
+    // The same from a copy of its head, but for what is sent of a response at last; 503 if there is no room for the copy.
+    fn begun(
+        &self,
+        request: &Request<()>,
+        socket: Option<RawFd>,
+    ) -> Result<Begun<TimedPage<R, S>>, NoMemory> {
         let alloc = self.alloc;
         let Ok(fields) = fields_of(alloc, request.headers()) else {
             return Ok(Ok(no_room(alloc)?));
@@ -227,7 +236,7 @@ where
         let source = WithinTime {
             source,
             until: deadline(&self.rt, self.limit).ok().flatten(),
-            client: self.watch(socket),
+            client: watch_of(self.limit, self.aborts_on_close, socket),
         };
         let Ok(rt) = self.rt.clone() else {
             return Ok(Ok(no_room(alloc)?));
@@ -275,26 +284,66 @@ impl<S, R> EdgeService<S, R> {
     {
         &*self.source
     }
+}
 
-    /// What is looked at of a client with this socket while a page is made for it.
-    pub(crate) fn watch(&self, socket: Option<RawFd>) -> Option<ClientWatch> {
+impl<S, R> PageService<R> for EdgeService<S, R>
+where
+    S: ConcurrentSource<R> + OnBehalf<R> + Send + Sync + Drop,
+    S::InFlight: Send,
+    R: Wait + Clock + Clone + Send + Drop,
+{
+    type Page = TimedPage<R, S>;
+
+    type Owed = OwedFetches<R, WithinTime<S>>;
+
+    fn alloc(&self) -> Global {
+        self.alloc
+    }
+
+    fn keys(&self) -> RandomState {
+        self.keys
+    }
+
+    fn watch(&self, socket: Option<RawFd>) -> Option<ClientWatch> {
         watch_of(self.limit, self.aborts_on_close, socket)
     }
 
-    /// The client of a request over a connection from this peer.
-    pub(crate) fn client_of<B>(
-        &self,
-        request: &Request<B>,
-        peer: Option<IpAddr>,
-    ) -> Option<IpAddr> {
-        client_of(self.forwarded.as_ref(), request.headers(), peer)
+    fn client_of(&self, head: &Request<()>, peer: Option<IpAddr>) -> Option<IpAddr> {
+        client_of(self.forwarded.as_ref(), head.headers(), peer)
     }
-}
 
-impl<S: Drop, R: Clone + Drop> EdgeService<S, R> {
-    /// The clock for the dates of responses, if there is memory for one more.
-    pub(crate) fn date_clock(&self) -> Option<DateClock<R>> {
-        Some(DateClock::new(self.rt.clone().ok()?))
+    fn go_on(
+        &self,
+        page: Self::Page,
+        head: &Request<()>,
+    ) -> Result<Gone<Self::Page, Self::Owed>, NoMemory> {
+        match go_on_with(self.alloc, page)? {
+            Ok(Told { responded, owed }) => {
+                let responded = self.finished(head.headers(), responded)?;
+                Ok(Ok(Told { responded, owed }))
+            }
+            Err(page) => Ok(Err(page)),
+        }
+    }
+
+    fn awaited(&self, page: &mut Self::Page) -> Option<Awaited> {
+        page.awaited()
+    }
+
+    fn wait(&self, page: &mut Self::Page, most: Option<Duration>) {
+        page.wait(most);
+    }
+
+    fn go_on_with_owed(&self, owed: Self::Owed) -> Option<Self::Owed> {
+        owed.go_on()
+    }
+
+    fn awaited_of_owed(&self, owed: &mut Self::Owed) -> Option<Awaited> {
+        owed.awaited()
+    }
+
+    fn wait_for_owed(&self, owed: &mut Self::Owed) {
+        owed.wait(None);
     }
 }
 

@@ -1,265 +1,80 @@
-//! One connection, over which requests are answered.
+//! Connections whose requests an edge's service answers.
 
-ghost use Rattle.hyper_edge.specs.Opening.{GivesPollable};
-
-use crate::journal::{Journal, NoJournal, Unreported, refused_head};
-use crate::page_time::WithinTime;
-use crate::service::EdgeService;
-use crate::turn::{Halt, Owed, PageAsked, Turn};
+use crate::service::{EdgeService, TimedPage};
 use answer_sources::{ConcurrentSource, OnBehalf};
-use edge_connections::{
-    Connection, DateClock, Duty, Executor, Handover, HandsOver, Pause, Signals, Went,
-};
-use futures::Future;
-use hyper::server::conn::http1::Builder;
-use std::net::IpAddr;
-use std::sync::{Arc, Wait};
+use edge_connections::{Accept, Capacity, Executor, ServeEnd, ServerRuntime};
+use edge_server::{Begun, Journal};
+use edge_types::NoMemory;
+use http::Request;
+use std::marker::PhantomData;
+use std::os::fd::RawFd;
+use std::sync::{Mutex, Wait};
 use std::thread::Threads;
 use std::time::Clock;
 use tokio::io::{AsyncRead, AsyncWrite};
 
-/// Serves one request over one stream, and ends the connection. Anything that goes wrong ends it too: a fault
-/// of the stream, a head that isn't HTTP/1, and running out of memory for the response.
-///
-/// A client may end its input after its request, and still gets whole bodies. What a client sends
-/// after its request is never answered.
-///
-/// Source: RFC 9112, "Persistence" and "Tear-down".
+// A service, as a closure has it that begins pages: the prover wants to know of the closure what a page has in flight, which
+// crosses threads.
+#[derive(Drop)]
+struct Beginning<'a, R, S: ConcurrentSource<R>> {
+    service: &'a EdgeService<S, R>,
+    in_flight: PhantomData<Mutex<S::InFlight>>,
+}
+
+impl<'a, R, S: ConcurrentSource<R>> Beginning<'a, R, S> {
+    fn of(service: &'a EdgeService<S, R>) -> Beginning<'a, R, S> {
+        Beginning {
+            service,
+            in_flight: PhantomData,
+        }
+    }
+}
+
+impl<'a, R, S> Beginning<'a, R, S>
+where
+    R: Wait + Threads + Clock + Clone + Sync + Drop,
+    S: ConcurrentSource<R> + OnBehalf<R> + Send + Sync + Drop,
+{
+    fn begin(
+        &self,
+        head: &Request<()>,
+        socket: Option<RawFd>,
+    ) -> Result<Begun<TimedPage<R, S>>, NoMemory> {
+        self.service.begin(head, socket)
+    }
+}
+
+/// Serves one request over one stream, and ends the connection, as `edge_server::serve_io` does.
 pub fn serve_io<R, I, S>(rt: &R, executor: &mut Executor, io: I, service: EdgeService<S, R>)
 where
-    R: Wait + Threads + Clock + Clone + Sync + Drop,
+    R: Wait + Threads + Clock + Clone + Send + Sync + Drop,
     I: AsyncRead + AsyncWrite,
     S: ConcurrentSource<R> + OnBehalf<R> + Send + Sync + Drop,
+    S::InFlight: Send,
 {
-    let serving = Serving {
-        rt,
-        service: &service,
-        journal: &NoJournal,
-        keeps: false,
-    };
-    let http = http_of(&service, false);
-    let opens = |io: I, handover: Arc<Handover>| http.serve_connection(io, HandsOver { handover });
-    serving.serve_one(&opens, io, executor);
+    let pages = Beginning::of(&service);
+    let begins = |head: &Request<()>, socket: Option<RawFd>| pages.begin(head, socket);
+    edge_server::serve_io(rt, executor, io, &service, &begins);
 }
 
-/// How the requests of connections are read and their responses written, by the HTTP library, as a service needs it;
-/// and whether connections are kept for further requests.
-pub(crate) fn http_of<S, R>(
-    service: &EdgeService<S, R>,
-    keeps: bool,
-) -> Builder<Option<DateClock<R>>>
+/// Serves connections with threads, as `edge_server::serve_accepts` does.
+pub fn serve_accepts<'a, R, A, S, J>(
+    rt: &'a R,
+    acceptor: &'a A,
+    service: &'a EdgeService<S, R>,
+    journal: &'a J,
+    capacity: Capacity,
+    count: u64,
+) -> ServeEnd
 where
-    S: Drop,
-    R: Clock + Clone + Drop,
-{
-    let mut http = Builder::new(service.alloc(), service.keys());
-    http.keep_alive(keeps);
-    // Without it a long body waits for the client to send more.
-    http.half_close(true);
-    // The stream has limits of its own.
-    http.header_read_timeout(None);
-    http.timer(service.date_clock())
-}
-
-/// A connection, the page that waits for its fetches, if one does, and what is to be reported of its requests.
-#[derive(Drop)]
-pub(crate) struct Session<F, R, S>
-where
-    F: Future,
-    R: Wait + Clock + Drop,
-    S: ConcurrentSource<R> + Drop,
-    WithinTime<S>: ConcurrentSource<R> + Drop,
-{
-    connection: Connection<F>,
-    // In a box, since most sessions have none, and each is moved.
-    page: Option<Box<PageAsked<R, S>>>,
-    client: Option<IpAddr>,
-    unreported: Vec<Unreported>,
-}
-
-/// How far a thread got with a connection.
-#[derive(Drop)]
-pub(crate) struct Served<F, R, S>
-where
-    F: Future,
-    R: Wait + Clock + Drop,
-    S: ConcurrentSource<R> + Drop,
-    WithinTime<S>: ConcurrentSource<R> + Drop,
-{
-    /// The connection, and what it waits for; `None` where it has ended.
-    pub left: Option<(Session<F, R, S>, Pause)>,
-    /// What its pages owe to others.
-    pub owed: Vec<Owed<R, S>>,
-}
-
-impl<F, R, S> Served<F, R, S>
-where
-    F: Future,
-    R: Wait + Clock + Drop,
-    S: ConcurrentSource<R> + Drop,
-{
-    // What is left after a turn by a connection that has to wait.
-    fn waiting<J>(
-        connection: Connection<F>,
-        turn: Turn<'_, '_, R, S, J>,
-        halt: Halt<R, S>,
-    ) -> Served<F, R, S> {
-        let session = Session {
-            connection,
-            page: halt.page,
-            client: turn.client,
-            unreported: turn.unreported,
-        };
-        Served {
-            left: Some((session, halt.pause)),
-            owed: turn.owed,
-        }
-    }
-}
-
-/// What answers the requests of connections.
-#[derive(Drop)]
-pub(crate) struct Serving<'a, R, S, J> {
-    pub rt: &'a R,
-    pub service: &'a EdgeService<S, R>,
-    pub journal: &'a J,
-    /// Whether connections are kept for further requests.
-    pub keeps: bool,
-}
-
-impl<'a, R, S, J> Serving<'a, R, S, J>
-where
-    R: Wait + Threads + Clock + Clone + Sync + Drop,
+    R: ServerRuntime + Send + Sync,
+    A: Accept<R> + Sync,
+    A::Io: AsyncRead + AsyncWrite,
     S: ConcurrentSource<R> + OnBehalf<R> + Send + Sync + Drop,
-    J: Journal<R>,
+    S::InFlight: Send,
+    J: Journal<R> + Sync,
 {
-    // Serves a connection over a stream that tells no signals.
-    fn serve_one<I, F, M>(&self, opens: &M, io: I, executor: &mut Executor)
-    where
-        I: Drop,
-        F: Future<Output = hyper::Result<()>>,
-        M: Fn(I, Arc<Handover>) -> F,
-        requires callable { M.IsAlwaysCallable opens.now }
-        requires opened { GivesPollable (M.post opens.now) F.can_poll }
-    {
-        let Some(session) = self.session(opens, io, None, None) else {
-            return;
-        };
-        let Served { left: _, owed } = self.serve(session, executor, None);
-        for fetches in owed {
-            self.see_through(fetches);
-        }
-    }
-
-    /// A connection of this client over a stream that tells these signals. `None` where there is no memory for it.
-    pub(crate) fn session<I, F, M>(
-        &self,
-        opens: &M,
-        io: I,
-        client: Option<IpAddr>,
-        signals: Option<Arc<Signals>>,
-    ) -> Option<Session<F, R, S>>
-    where
-        I: Drop,
-        F: Future<Output = hyper::Result<()>>,
-        M: Fn(I, Arc<Handover>) -> F,
-        requires callable { M.IsAlwaysCallable opens.now }
-        requires opened { GivesPollable (M.post opens.now) F.can_poll }
-    {
-        let alloc = self.service.alloc();
-        let handover = Arc::new(alloc, Handover::new()).ok()?;
-        let future = opens(io, handover.clone().ok()?);
-        Some(Session {
-            connection: Connection::new(alloc, future, handover, signals).ok()?,
-            page: None,
-            client,
-            unreported: Vec::new(alloc),
-        })
-    }
-
-    /// Serves a connection until it has ended, or has to wait for its client, or for fetches. Those of a new page are first
-    /// waited for in the thread, as long as its duty lets pages linger; without one they aren't.
-    pub(crate) fn serve<F>(
-        &self,
-        session: Session<F, R, S>,
-        executor: &mut Executor,
-        duty: Option<Duty<'_>>,
-    ) -> Served<F, R, S>
-    where
-        F: Future<Output = hyper::Result<()>>,
-    {
-        let Session {
-            mut connection,
-            page,
-            client,
-            unreported,
-        } = session;
-        let mut turn = Turn::new(self, duty, client, unreported);
-        let mut halt = match page {
-            Some(asked) => turn.resumed(Box::into_inner(asked), &connection),
-            None => None,
-        };
-        for _ in self.rt.forever() {
-            if let Some(halt) = halt {
-                return Served::waiting(connection, turn, halt);
-            }
-            match connection.go_on(self.rt, executor) {
-                Went::Stopped(stopped, stop) => {
-                    halt = turn.stopped(stop, &stopped);
-                    connection = stopped;
-                }
-                Went::Ended(refusal) => {
-                    turn.ended(refusal);
-                    return Served {
-                        left: None,
-                        owed: turn.owed,
-                    };
-                }
-            }
-        }
-        unreachable!()
-    }
-
-    /// Goes on with fetches that others wait for until nobody does.
-    pub(crate) fn see_through(&self, fetches: Owed<R, S>) {
-        let mut left = Some(fetches);
-        for _ in self.rt.forever() {
-            let Some(mut fetches) = left else {
-                return;
-            };
-            fetches.wait(None);
-            left = fetches.go_on();
-        }
-        unreachable!()
-    }
-
-    /// The connection of a session that nothing more is done for. What is to be reported of it is.
-    pub(crate) fn released<F: Future>(&self, session: Session<F, R, S>) -> Connection<F> {
-        let Session {
-            connection,
-            page,
-            client: _,
-            unreported,
-        } = session;
-        drop(page);
-        self.report(unreported);
-        connection
-    }
-
-    /// Reports what is to be reported, now that the responses have been written or the connection has ended.
-    pub(crate) fn report(&self, unreported: Vec<Unreported>) {
-        for answer in unreported {
-            answer.report(self.rt, self.journal);
-        }
-    }
-
-    /// Reports that this client was refused by the HTTP library, if it was.
-    pub(crate) fn report_refusal(&self, client: Option<IpAddr>, refusal: Option<u16>) {
-        if let Some(status) = refusal {
-            if self.journal.is_enabled() {
-                let record = refused_head(self.service.alloc(), client, status);
-                self.journal.served(self.rt, &record);
-            }
-        }
-    }
+    let pages = Beginning::of(service);
+    let begins = |head: &Request<()>, socket: Option<RawFd>| pages.begin(head, socket);
+    edge_server::serve_accepts(rt, acceptor, service, &begins, journal, capacity, count)
 }

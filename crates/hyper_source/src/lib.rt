@@ -4,14 +4,10 @@
 //! Source: RFC 9110, "HTTP Semantics", and RFC 9112, "HTTP/1.1".
 #![tactic(auto)]
 
-mod errand;
-mod fetch;
-mod in_flight;
 mod origin_runtime;
 mod pool;
 mod reuse;
 mod source;
 
-pub use in_flight::FetchesInFlight;
 pub use origin_runtime::OriginRuntime;
 pub use source::HyperSource;

@@ -12,7 +12,6 @@ ghost use Rattle.origin_http.specs.Private as spec;
 
 mod concurrent;
 
-use crate::errand::Errand;
 use crate::origin_runtime::OriginRuntime;
 use crate::pool::Pool;
 use answer_sources::{Answers, Behalf, Given, OnBehalf, Source, fetch_or_fail};
@@ -22,6 +21,7 @@ use edge_types::{Answer, HeadField, HeadFields, NoMemory, PageUrl, SharedBytes};
 use fetch_outcomes::{FetchFault, Lost};
 use http::Request;
 use http_body_util::Empty;
+use origin_fetches::Errand;
 use origin_health::FetchEnd;
 use origin_http::{
     BodyLimits, EdgeName, Fetched, HeadRules, Response, answered, copy_of, device_of, is_private,
@@ -53,7 +53,6 @@ use std::time::{Clock, Duration};
 /// Source: RFC 9110, "GET", "Host and :authority" and "Accept-Encoding"; RFC 9112,
 /// "Message Body Length"; Edge Architecture Specification 1.0,
 /// "Surrogate-Capability Request Header" and "Surrogate-Control Header"; our profile.
-#[derive(Drop)]
 pub struct HyperSource {
     shared: Arc<Shared>,
     limit: Option<Duration>,
@@ -77,6 +76,29 @@ pub struct HyperSource {
     passed: SharedBytes,
     heeds_cache_control: bool,
     processes_errors: bool,
+}
+
+// By hand, so that who drops a source needs no proof of what it is made of.
+impl Drop for HyperSource {
+    fn drop(self) {
+        let HyperSource {
+            shared: _,
+            limit: _,
+            keys: _,
+            name: _,
+            way: _,
+            private: _,
+            own: _,
+            sent: _,
+            limits: _,
+            pool: _,
+            standings: _,
+            gates: _,
+            passed: _,
+            heeds_cache_control: _,
+            processes_errors: _,
+        } = self;
+    }
 }
 
 // What sources for other requests use too.

@@ -51,7 +51,6 @@ enum Page {
 }
 
 /// A request that is sent over a connection of its own, and what has come of its response.
-#[derive(Drop)]
 pub struct Exchange {
     page: Page,
     // `None` once it has ended.
@@ -63,6 +62,21 @@ pub struct Exchange {
     most: usize,
     body: BodyCount,
     signals: Arc<StreamSignals>,
+}
+
+// By hand, so that who drops one needs no proof of what the HTTP library has of it.
+impl Drop for Exchange {
+    fn drop(self) {
+        let Exchange {
+            page: _,
+            connection: _,
+            behind: _,
+            socket: _,
+            most: _,
+            body: _,
+            signals: _,
+        } = self;
+    }
 }
 
 impl Exchange {

@@ -3,9 +3,6 @@
 ghost use Rattle.std.specs.Prelude.{◌≡◌, IfOk};
 ghost use Rattle.std.specs.Arc.{arc_value};
 
-use crate::errand::Errand;
-use crate::fetch::{Attempt, Fetch, FetchStep};
-use crate::in_flight::{FetchesInFlight, Gated, HeldPermit, Queued};
 use crate::origin_runtime::OriginRuntime;
 use crate::pool::{IdleSocket, Strays};
 use crate::source::HyperSource;
@@ -14,6 +11,9 @@ use edge_sockets::{Bell, Watched};
 use edge_types::{Answer, NoMemory, PageUrl};
 use fetch_outcomes::{FetchFault, Lost};
 use origin_exchange::{Behind, Exchange, ExchangeEnd, OriginSocket, Reach, StreamSignals, lost_by};
+use origin_fetches::{
+    Attempt, Errand, Fetch, FetchStep, FetchesInFlight, Gated, HeldPermit, Queued,
+};
 use origins::{Chance, Chosen, end_of, gate_of};
 use std::alloc::Global;
 use std::sync::{Arc, Wait};
@@ -360,7 +360,10 @@ where
     }
 
     fn awaited(&self, _rt: &R, _alloc: Global, in_flight: &mut FetchesInFlight) -> Option<Awaited> {
-        in_flight.awaited()
+        Some(Awaited {
+            descriptor: in_flight.awaited_elsewhere()?,
+            until: in_flight.until(),
+        })
     }
 
     fn bell(&self, rt: &R, in_flight: &mut FetchesInFlight) -> Option<Bell> {

@@ -135,7 +135,7 @@ where
 // How many bytes are sent to a client in memory whose reads and writes fail after this many.
 fn written<R>(rt: &R, executor: &mut Executor, moves: u64) -> Result<u64, Fail>
 where
-    R: Wait + Threads + Clock + RandomSource + AllocGlobal + Abort + Clone + Drop + Sync,
+    R: Wait + Threads + Clock + RandomSource + AllocGlobal + Abort + Clone + Drop + Send + Sync,
 {
     let service = service(rt)?;
     let count = Arc::new(rt.alloc(), AtomicU64::new(0))?;

@@ -2,7 +2,7 @@
 use Rattle.std.proofs.Common.{◌∙◌, ap, codes}
 use Rattle.http_header.specs.HeaderMap.{get_all}
 use Rattle.page_http.specs.Sent.{Sent}
-use Rattle.hyper_edge.specs.Validators.{finished}
+use Rattle.page_readers.specs.Validators.{finished}
 use Rattle.hyper_edge.proofs.service.EdgeService.finished.Goals as goal
 
 pub returns-clause-response : goal.returns-clause-response

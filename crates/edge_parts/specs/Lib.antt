@@ -1,0 +1,2 @@
+pub mod ServerOptions
+pub mod OpenFiles

@@ -1,0 +1,7 @@
+-- The connection that the call gives is the one that the HTTP library made, which may be polled.
+use Rattle.std.proofs.Common.{sym}
+use borrow.Author.Called.{ensures-at}
+use Rattle.edge_server.proofs.threads.serve_accepts.Goals as goal
+
+pub serve_opened-requires-clause-opened : goal.serve_opened-requires-clause-opened
+serve_opened-requires-clause-opened g c κs within io handover connection opened = (ensures-at opened.1.said-raw.1.1.0 (sym opened.1.said-raw.1.1.1)).1.1.1

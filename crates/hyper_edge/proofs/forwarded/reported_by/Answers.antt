@@ -1,6 +1,0 @@
-use Rattle.std.proofs.Common.{subst}
-use Rattle.hyper_edge.specs.Forwarded.{IsAddressIn}
-use Rattle.hyper_edge.proofs.forwarded.reported_by.Goals as goal
-
-pub returns : goal.returns
-returns c = (c.last_member.result.now, c.last_member.ensures, subst (λ text. IsAddressIn text c.address_in.result) c.trimmed.ensures c.address_in.ensures)
