@@ -29,8 +29,3 @@ pub use memory::resident_of;
 pub use page::page_of;
 pub use statuses::Statuses;
 pub use text::text_of;
-
-#[cfg(test)]
-mod page_tests;
-#[cfg(test)]
-mod tests;

@@ -1,6 +1,6 @@
 //! The text as a whole, with ample memory, and what the system writes of a process.
 
-use crate::{ConnectionCounts, Counts, Measured, resident_of, text_of};
+use edge_metrics::{ConnectionCounts, Counts, Measured, resident_of, text_of};
 use fetch_outcomes::{FetchTally, OriginTally};
 use fragment_cache::CacheTally;
 use std::alloc::Global;

@@ -1,6 +1,6 @@
 //! The page as a whole, with ample memory.
 
-use crate::{History, Sample, page_of};
+use edge_metrics::{History, Sample, page_of};
 use std::process::Abort;
 use std::str;
 use std::test::Fail;
