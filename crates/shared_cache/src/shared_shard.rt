@@ -225,24 +225,33 @@ impl SharedShard {
         requires { (arc_value answer).url ≡ flight.url }
         ensures { (arc_value result.answer).url ≡ flight.url }
     {
+        self.land_and_tell(self.lock(rt), flight, answer, now)
+    }
+
+    // Lands a flight under the lock, leaves it, and wakes those who wait for the flight.
+    fn land_and_tell(
+        &self,
+        shelf: MutexGuard<'_, Shelf>,
+        flight: Flight,
+        answer: Arc<Answer>,
+        now: u64,
+    ) -> Given
+        requires { (arc_value answer).url ≡ flight.url }
+        ensures { (arc_value result.answer).url ≡ flight.url }
+    {
+        let mut shelf = shelf;
         let number = flight.number();
-        let mut shelf = self.lock(rt);
         let landed = shelf.land(flight, answer, now);
         let bells = shelf.bells.remove(&number);
         self.landings.fetch_add(1, Ordering::SeqCst);
         drop(shelf);
-        self.tell(bells);
-        landed
-    }
-
-    // Wakes those who wait for a flight that has landed. The lock is left before.
-    fn tell(&self, bells: Option<Vec<Bell>>) {
         self.landed.notify_all();
         if let Some(bells) = bells {
             for bell in &bells {
                 bell.ring();
             }
         }
+        landed
     }
 
     // Lands a flight with the failed answer of its leader, unless somebody else waits for it: then it comes back. Those who
@@ -250,17 +259,12 @@ impl SharedShard {
     pub(crate) fn land_unless_awaited<R: Wait>(&self, rt: &R, led: Led, now: u64) -> Option<Led>
         ensures { IfSome result (λ back. back.flight ≡ led.flight) }
     {
-        let mut shelf = self.lock(rt);
+        let shelf = self.lock(rt);
         if shelf.waiting(led.flight.number()) > 0 {
             return Some(led);
         }
-        let number = led.flight.number();
         let (flight, ready) = led.into_parts();
-        let _ = shelf.land(flight, ready, now);
-        let bells = shelf.bells.remove(&number);
-        self.landings.fetch_add(1, Ordering::SeqCst);
-        drop(shelf);
-        self.tell(bells);
+        let _ = self.land_and_tell(shelf, flight, ready, now);
         None
     }
 
