@@ -38,7 +38,6 @@ use std::time::{Clock, Duration};
 pub const MAX_PASSED: usize = 1024;
 
 /// What answers requests for pages from a source, with a runtime of its own.
-#[derive(Drop)]
 pub struct EdgeService<S, R> {
     rt: R,
     alloc: Global,
@@ -60,6 +59,27 @@ pub struct EdgeService<S, R> {
     forwarded: Option<HeaderName>,
     // The hash keys of the maps of fields.
     keys: RandomState,
+}
+
+// By hand, so that who drops a service needs no proof of what it is made of.
+impl<S: Drop, R: Drop> Drop for EdgeService<S, R> {
+    fn drop(self) {
+        let EdgeService {
+            rt: _,
+            alloc: _,
+            source: _,
+            how: _,
+            limit: _,
+            aborts_on_close: _,
+            answers_head: _,
+            gives_tags: _,
+            name: _,
+            private_fields: _,
+            private_cookies: _,
+            forwarded: _,
+            keys: _,
+        } = self;
+    }
 }
 
 impl<S: Drop, R: Drop> EdgeService<S, R> {

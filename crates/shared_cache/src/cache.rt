@@ -31,7 +31,6 @@ pub const SHARDS: usize = 8;
 /// other source each time, past all that is kept and all that others fetch.
 ///
 /// Any number of threads may share it.
-#[derive(Drop)]
 pub struct Cache<S, C> {
     source: S,
     clock: C,
@@ -41,6 +40,19 @@ pub struct Cache<S, C> {
     plans: Arc<PlanShelves>,
     // How many may wait for one flight, where that is bounded.
     most_waiting: Option<u32>,
+}
+
+// By hand, so that who drops a cache needs no proof of what it is made of.
+impl<S: Drop, C: Drop> Drop for Cache<S, C> {
+    fn drop(self) {
+        let Cache {
+            source: _,
+            clock: _,
+            shards: _,
+            plans: _,
+            most_waiting: _,
+        } = self;
+    }
 }
 
 // The status of a request that goes in a circle (RFC 5842, "508 Loop Detected").
