@@ -15,6 +15,7 @@ use std::random::RandomSource;
 use std::rt::Files;
 use std::sync::Arc;
 use std::thread;
+use std::time::Clock;
 
 /// Runs a server with these options, until its number of connections have been accepted, or it is stopped, and they have
 /// ended. Its origins and names are taken out of them.
@@ -55,13 +56,8 @@ where
     R: ServerRuntime + Files<File = File> + Print + Eprint + Send + Sync,
     R: Net<Stream = TcpStream, Listener = TcpListener>,
 {
-    let names = options.admin_hosts.take();
-    let operator = match options.addresses.admin {
-        Some(address) => Some(Operator::at(rt, address, names)?),
-        None => None,
-    };
-    let (sockets, address) = listening(rt, options, operator.as_ref())?;
-    println!(rt; "listening on {address}")?;
+    let operator = operator_of(rt, options)?;
+    let sockets = listens(rt, options, operator.as_ref())?;
     let running = Running {
         operator: operator.as_ref(),
         sockets: &sockets,
@@ -73,6 +69,34 @@ where
         Some(lookups) => served_while_looking_up(rt, lookups, &running),
         None => served(rt, &running),
     }
+}
+
+// Where the operator is answered, if there is one. The names by which he may ask are taken out of the options.
+fn operator_of<R>(rt: &R, options: &mut ServerOptions) -> Result<Option<Operator>, Status>
+where
+    R: AllocGlobal + Clock + RandomSource,
+    R: Net<Stream = TcpStream, Listener = TcpListener>,
+{
+    let names = options.admin_hosts.take();
+    match options.addresses.admin {
+        Some(address) => Ok(Some(Operator::at(rt, address, names)?)),
+        None => Ok(None),
+    }
+}
+
+// Listens for clients, and says where.
+fn listens<R>(
+    rt: &R,
+    options: &ServerOptions,
+    operator: Option<&Operator>,
+) -> Result<Sockets<Stop>, Status>
+where
+    R: AllocGlobal + Files<File = File> + Print,
+    R: Net<Stream = TcpStream, Listener = TcpListener>,
+{
+    let (sockets, address) = listening(rt, options, operator)?;
+    println!(rt; "listening on {address}")?;
+    Ok(sockets)
 }
 
 // Serves until the server has ended, while a thread of its own looks up names. Refused if that can't be started.
