@@ -4,6 +4,7 @@
 //! Source: RFC 9112, "HTTP/1.1".
 #![tactic(auto)]
 
+mod connections;
 mod faults;
 mod journal;
 mod page_service;

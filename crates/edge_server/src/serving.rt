@@ -4,9 +4,9 @@ ghost use Rattle.edge_server.specs.Opening.{GivesPollable};
 
 use crate::journal::{Journal, NoJournal, Unreported, refused_head};
 use crate::page_service::{Begun, PageService};
-use crate::turn::{Halt, PageAsked, Turn};
+use crate::turn::{Halt, PageAsked, Turn, Wire};
 use edge_connections::{
-    Connection, DateClock, Duty, Executor, Handover, HandsOver, Pause, Signals, Went,
+    Connection, DateClock, Duty, Executor, Handover, HandsOver, Pause, Signals, Stop, Went,
 };
 use edge_types::NoMemory;
 use futures::Future;
@@ -36,13 +36,12 @@ where
     let serving = Serving {
         rt,
         service,
-        begins,
         journal: &NoJournal,
         keeps: false,
     };
     let http = http_of(rt, service, false);
     let opens = |io: I, handover: Arc<Handover>| http.serve_connection(io, HandsOver { handover });
-    serving.serve_one(&opens, io, executor);
+    serving.serve_one(&opens, io, executor, begins);
 }
 
 /// How the requests of connections are read and their responses written, by the HTTP library, as a service needs it;
@@ -68,8 +67,8 @@ fn date_clock<R: Clone>(rt: &R) -> Option<DateClock<R>> {
 
 /// A connection, the page that waits for its fetches, if one does, and what is to be reported of its requests.
 #[derive(Drop)]
-pub(crate) struct Session<F: Future, P> {
-    connection: Connection<F>,
+pub(crate) struct Session<C: Future, P> {
+    connection: Connection<C>,
     // In a box, since most sessions have none, and each is moved.
     page: Option<Box<PageAsked<P>>>,
     client: Option<IpAddr>,
@@ -78,65 +77,63 @@ pub(crate) struct Session<F: Future, P> {
 
 /// How far a thread got with a connection.
 #[derive(Drop)]
-pub(crate) struct Served<F: Future, P, O> {
+pub(crate) struct Served<C: Future, P, O> {
     /// The connection, and what it waits for; `None` where it has ended.
-    pub left: Option<(Session<F, P>, Pause)>,
+    pub left: Option<(Session<C, P>, Pause)>,
     /// What its pages owe to others.
     pub owed: Vec<O>,
 }
 
 /// What answers the requests of connections.
 #[derive(Drop)]
-pub(crate) struct Serving<'a, R, V, J, B> {
+pub(crate) struct Serving<'a, R, V, J> {
     pub rt: &'a R,
     pub service: &'a V,
-    /// What begins the responses to requests.
-    pub begins: &'a B,
     pub journal: &'a J,
     /// Whether connections are kept for further requests.
     pub keeps: bool,
 }
 
-impl<'a, R, V, J, B> Serving<'a, R, V, J, B>
+impl<R, V, J> Serving<'_, R, V, J>
 where
     R: Wait + Clock,
     V: PageService<R>,
     J: Journal<R>,
-    B: Fn(&Request<()>, Option<RawFd>) -> Result<Begun<V::Page>, NoMemory>,
 {
     // Serves a connection over a stream that tells no signals.
-    fn serve_one<I, F, M>(&self, opens: &M, io: I, executor: &mut Executor)
+    fn serve_one<I, C, M, B>(&self, opens: &M, io: I, executor: &mut Executor, begins: &B)
     where
         I: Drop,
-        F: Future<Output = hyper::Result<()>>,
-        M: Fn(I, Arc<Handover>) -> F,
+        C: Future<Output = hyper::Result<()>>,
+        M: Fn(I, Arc<Handover>) -> C,
+        B: Fn(&Request<()>, Option<RawFd>) -> Result<Begun<V::Page>, NoMemory>,
         requires callable { M.IsAlwaysCallable opens.now }
-        requires opened { GivesPollable (M.post opens.now) F.can_poll }
-        requires begun { B.IsAlwaysCallable self.now.begins.now }
+        requires opened { GivesPollable (M.post opens.now) C.can_poll }
+        requires begun { B.IsAlwaysCallable begins.now }
     {
         let Some(session) = self.session(opens, io, None, None) else {
             return;
         };
-        let Served { left: _, owed } = self.serve(session, executor, None);
+        let Served { left: _, owed } = self.serve(session, executor, None, begins);
         for fetches in owed {
             self.see_through(fetches);
         }
     }
 
     /// A connection of this client over a stream that tells these signals. `None` where there is no memory for it.
-    pub(crate) fn session<I, F, M>(
+    pub(crate) fn session<I, C, M>(
         &self,
         opens: &M,
         io: I,
         client: Option<IpAddr>,
         signals: Option<Arc<Signals>>,
-    ) -> Option<Session<F, V::Page>>
+    ) -> Option<Session<C, V::Page>>
     where
         I: Drop,
-        F: Future<Output = hyper::Result<()>>,
-        M: Fn(I, Arc<Handover>) -> F,
+        C: Future<Output = hyper::Result<()>>,
+        M: Fn(I, Arc<Handover>) -> C,
         requires callable { M.IsAlwaysCallable opens.now }
-        requires opened { GivesPollable (M.post opens.now) F.can_poll }
+        requires opened { GivesPollable (M.post opens.now) C.can_poll }
     {
         let alloc = self.service.alloc();
         let handover = Arc::new(alloc, Handover::new()).ok()?;
@@ -149,17 +146,20 @@ where
         })
     }
 
-    /// Serves a connection until it has ended, or has to wait for its client, or for fetches. Those of a new page are first
-    /// waited for in the thread, as long as its duty lets pages linger; without one they aren't.
-    pub(crate) fn serve<F>(
+    /// Serves a connection until it has ended, or has to wait for its client, or for fetches; `begins` begins the responses
+    /// to its requests. The fetches of a new page are first waited for in the thread, as long as its duty lets pages linger;
+    /// without one they aren't.
+    pub(crate) fn serve<C, B>(
         &self,
-        session: Session<F, V::Page>,
+        session: Session<C, V::Page>,
         executor: &mut Executor,
         duty: Option<Duty<'_>>,
-    ) -> Served<F, V::Page, V::Owed>
+        begins: &B,
+    ) -> Served<C, V::Page, V::Owed>
     where
-        F: Future<Output = hyper::Result<()>>,
-        requires { B.IsAlwaysCallable self.now.begins.now }
+        C: Future<Output = hyper::Result<()>>,
+        B: Fn(&Request<()>, Option<RawFd>) -> Result<Begun<V::Page>, NoMemory>,
+        requires { B.IsAlwaysCallable begins.now }
     {
         let Session {
             mut connection,
@@ -169,7 +169,7 @@ where
         } = session;
         let mut turn = Turn::new(self, duty, client, unreported);
         let mut halt = match page {
-            Some(asked) => turn.resumed(Box::into_inner(asked), &connection),
+            Some(asked) => turn.resumed(Box::into_inner(asked), Wire::of(&connection)),
             None => None,
         };
         for _ in self.rt.forever() {
@@ -178,7 +178,7 @@ where
             }
             match connection.go_on(self.rt, executor) {
                 Went::Stopped(stopped, stop) => {
-                    halt = turn.stopped(stop, &stopped, self.begins);
+                    halt = stopped_for(stop, &mut turn, Wire::of(&stopped), begins);
                     connection = stopped;
                 }
                 Went::Ended(refusal) => {
@@ -207,7 +207,7 @@ where
     }
 
     /// The connection of a session that nothing more is done for. What is to be reported of it is.
-    pub(crate) fn released<F: Future>(&self, session: Session<F, V::Page>) -> Connection<F> {
+    pub(crate) fn released<C: Future>(&self, session: Session<C, V::Page>) -> Connection<C> {
         let Session {
             connection,
             page,
@@ -237,14 +237,43 @@ where
     }
 }
 
-// What is left after a turn by a connection that has to wait.
-fn waiting<F, R, V, J, B>(
-    connection: Connection<F>,
-    turn: Turn<'_, '_, R, V, J, B>,
-    halt: Halt<V::Page>,
-) -> Served<F, V::Page, V::Owed>
+// Does what a connection stopped for in this turn, where `begins` begins the response to a request. Tells why it has to
+// wait, if it does.
+fn stopped_for<R, V, J, B>(
+    stop: Stop,
+    turn: &mut Turn<'_, '_, R, V, J>,
+    wire: Wire<'_>,
+    begins: &B,
+) -> Option<Halt<V::Page>>
 where
-    F: Future,
+    R: Wait + Clock,
+    V: PageService<R>,
+    J: Journal<R>,
+    B: Fn(&Request<()>, Option<RawFd>) -> Result<Begun<V::Page>, NoMemory>,
+    requires { B.IsAlwaysCallable begins.now }
+{
+    match stop {
+        Stop::Request(incoming) => {
+            let request = turn.requested(incoming);
+            let begun = begins(&request.incoming.head, wire.socket);
+            turn.begun(begun, request, wire)
+        }
+        Stop::Written => {
+            turn.report();
+            None
+        }
+        Stop::Paused(pause) => Some(Halt { page: None, pause }),
+    }
+}
+
+// What is left after a turn by a connection that has to wait.
+fn waiting<C, R, V, J>(
+    connection: Connection<C>,
+    turn: Turn<'_, '_, R, V, J>,
+    halt: Halt<V::Page>,
+) -> Served<C, V::Page, V::Owed>
+where
+    C: Future,
     V: PageService<R>,
 {
     let session = Session {

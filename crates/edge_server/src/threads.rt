@@ -2,6 +2,7 @@
 
 ghost use Rattle.edge_server.specs.Opening.{GivesPollable};
 
+use crate::connections::Connections;
 use crate::journal::Journal;
 use crate::page_service::{Begun, PageService};
 use crate::server::Server;
@@ -68,92 +69,90 @@ where
     requires { B.IsAlwaysCallable begins.now }
 {
     let keeps = acceptor.keeps();
-    let serving = Serving {
-        rt,
-        service,
-        begins,
-        journal,
-        keeps,
-    };
     let http = http_of(rt, service, keeps);
     let opens = |io: A::Io, handover: Arc<Handover>| http.serve_connection(
         io,
         HandsOver { handover },
     );
-    serve_opened(acceptor, &opens, serving, capacity, count)
-}
-
-// Serves the connections that are made of what the acceptor gives.
-fn serve_opened<'a, R, A, V, J, F, M, B>(
-    acceptor: &'a A,
-    opens: &'a M,
-    serving: Serving<'a, R, V, J, B>,
-    capacity: Capacity,
-    count: u64,
-) -> ServeEnd
-where
-    R: ServerRuntime + Send + Sync,
-    A: Accept<R> + Sync,
-    V: PageService<R> + Sync,
-    J: Journal<R> + Sync,
-    F: Future<Output = hyper::Result<()>> + GivesStream<A::Io> + Send,
-    M: Fn(A::Io, Arc<Handover>) -> F + Sync,
-    B: Fn(&Request<()>, Option<RawFd>) -> Result<Begun<V::Page>, NoMemory> + Sync,
-    requires callable { M.IsAlwaysCallable opens.now }
-    requires opened { GivesPollable (M.post opens.now) F.can_poll }
-    requires begun { B.IsAlwaysCallable serving.begins.now }
-{
-    let rt = serving.rt;
-    let server = Server {
-        acceptor,
-        opens,
-        serving,
-        parked: ParkingPlace::new(rt.alloc()),
-        roster: SharedRoster::new(Roster::new(count, capacity)),
-    };
-    start_all(rt, &server);
-    server.end()
-}
-
-// Starts threads as they are wanted, and joins them. The calling thread starts all: one that started another would call
-// itself in a circle.
-fn start_all<R, A, V, J, F, M, B>(rt: &R, server: &Server<'_, R, A, V, J, F, M, B>)
-where
-    R: ServerRuntime + Send + Sync,
-    A: Accept<R> + Sync,
-    V: PageService<R> + Sync,
-    J: Journal<R> + Sync,
-    F: Future<Output = hyper::Result<()>> + GivesStream<A::Io> + Send,
-    M: Fn(A::Io, Arc<Handover>) -> F + Sync,
-    B: Fn(&Request<()>, Option<RawFd>) -> Result<Begun<V::Page>, NoMemory> + Sync,
-    requires callable { M.IsAlwaysCallable server.now.opens.now }
-    requires opened { GivesPollable (M.post server.now.opens.now) F.can_poll }
-    requires begun { B.IsAlwaysCallable server.now.serving.begins.now }
-{
-    thread::scope(
-        thread::scope_env(),
+    let serving = Serving {
         rt,
-        |scope|
-            requires callable { M.IsAlwaysCallable server.now.opens.now }
-            requires opened { GivesPollable (M.post server.now.opens.now) F.can_poll }
-            requires begun { B.IsAlwaysCallable server.now.serving.begins.now }
-        {
-            let mut executor = None;
-            for _ in rt.forever() {
-                let Some(work) = server.wait_for_work(&mut executor) else {
-                    return;
-                };
-                let started = scope.spawn(
-                    move ||
-                        requires callable { M.IsAlwaysCallable server.now.opens.now }
-                        requires opened { GivesPollable (M.post server.now.opens.now) F.can_poll }
-                        requires begun { B.IsAlwaysCallable server.now.serving.begins.now }
-                    { server.work(work) },
-                );
-                if started.is_err() {
-                    server.roster.not_started(rt, work);
+        service,
+        journal,
+        keeps,
+    };
+    let roster = SharedRoster::new(Roster::new(count, capacity));
+    Server::serve_opened(acceptor, serving, roster, &opens, begins)
+}
+
+impl<'a, R, A, V, J, C, M, B> Server<'a, R, A, V, J, C, M, B>
+where
+    R: ServerRuntime + Send + Sync,
+    A: Accept<R> + Sync,
+    V: PageService<R> + Sync,
+    J: Journal<R> + Sync,
+    C: Future<Output = hyper::Result<()>> + GivesStream<A::Io> + Send,
+    M: Fn(A::Io, Arc<Handover>) -> C + Sync,
+    B: Fn(&Request<()>, Option<RawFd>) -> Result<Begun<V::Page>, NoMemory> + Sync,
+{
+    // Serves the connections that are made of what the acceptor gives.
+    fn serve_opened(
+        acceptor: &'a A,
+        serving: Serving<'a, R, V, J>,
+        roster: SharedRoster,
+        opens: &'a M,
+        begins: &'a B,
+    ) -> ServeEnd
+        requires callable { M.IsAlwaysCallable opens.now }
+        requires opened { GivesPollable (M.post opens.now) C.can_poll }
+        requires begun { B.IsAlwaysCallable begins.now }
+    {
+        let rt = serving.rt;
+        let server = Server {
+            connections: Connections {
+                acceptor,
+                serving,
+                parked: ParkingPlace::new(rt.alloc()),
+                roster,
+            },
+            opens,
+            begins,
+        };
+        Server::start_all(rt, &server);
+        server.connections.end()
+    }
+
+    // Starts threads as they are wanted, and joins them. The calling thread starts all: one that started another would call
+    // itself in a circle.
+    fn start_all(rt: &R, server: &Server<'a, R, A, V, J, C, M, B>)
+        requires callable { M.IsAlwaysCallable server.now.opens.now }
+        requires opened { GivesPollable (M.post server.now.opens.now) C.can_poll }
+        requires begun { B.IsAlwaysCallable server.now.begins.now }
+    {
+        thread::scope(
+            thread::scope_env(),
+            rt,
+            |scope|
+                requires callable { M.IsAlwaysCallable server.now.opens.now }
+                requires opened { GivesPollable (M.post server.now.opens.now) C.can_poll }
+                requires begun { B.IsAlwaysCallable server.now.begins.now }
+            {
+                let mut executor = None;
+                for _ in rt.forever() {
+                    let Some(work) = server.wait_for_work(&mut executor) else {
+                        return;
+                    };
+                    let started = scope.spawn(
+                        move ||
+                            requires callable { M.IsAlwaysCallable server.now.opens.now }
+                            requires opened { GivesPollable (M.post server.now.opens.now) C.can_poll }
+                            requires begun { B.IsAlwaysCallable server.now.begins.now }
+                        { server.work(work) },
+                    );
+                    if started.is_err() {
+                        server.connections.roster.not_started(rt, work);
+                    }
                 }
-            }
-        },
-    );
+            },
+        );
+    }
 }

@@ -3,7 +3,7 @@
 use crate::journal::{Journal, Unreported, record_of};
 use crate::page_service::{Begun, PageService, Responded, Told};
 use crate::serving::Serving;
-use edge_connections::{Answered, Connection, Duty, IncomingRequest, Pause, Stop};
+use edge_connections::{Answered, Connection, Duty, Handover, IncomingRequest, Pause};
 use edge_types::NoMemory;
 use futures::Future;
 use http::header::HeaderValue;
@@ -30,10 +30,10 @@ pub(crate) struct PageAsked<P> {
     request: Requested,
 }
 
-// A request that waits for its response, and when its head had come, where that is to be reported.
+/// A request that waits for its response, and when its head had come, where that is to be reported.
 #[derive(Drop)]
-struct Requested {
-    incoming: IncomingRequest,
+pub(crate) struct Requested {
+    pub incoming: IncomingRequest,
     begun: Option<Instant>,
 }
 
@@ -46,10 +46,35 @@ pub(crate) struct Halt<P> {
     pub pause: Pause,
 }
 
+/// What a turn needs of its connection.
+#[derive(Clone, Copy)]
+pub(crate) struct Wire<'c> {
+    // Where the responses to its requests are given.
+    handover: &'c Handover,
+    /// Its client's socket, where it is known.
+    pub socket: Option<RawFd>,
+    // Whether it may be parked.
+    may_pause: bool,
+}
+
+impl<'c> Wire<'c> {
+    /// That of this connection.
+    pub(crate) fn of<C>(connection: &'c Connection<C>) -> Wire<'c>
+    where
+        C: Future<Output = hyper::Result<()>>,
+    {
+        Wire {
+            handover: connection.handover(),
+            socket: connection.socket(),
+            may_pause: connection.may_pause(),
+        }
+    }
+}
+
 /// What a thread needs to answer the requests of a connection, and what comes of them beside the responses.
 #[derive(Drop)]
-pub(crate) struct Turn<'t, 'a, R, V: PageService<R>, J, B> {
-    serving: &'t Serving<'a, R, V, J, B>,
+pub(crate) struct Turn<'t, 'a, R, V: PageService<R>, J> {
+    serving: &'t Serving<'a, R, V, J>,
     // What knows whether a page may hold the thread while it waits for its fetches; without it none may.
     duty: Option<Duty<'t>>,
     /// The client, where it is known.
@@ -60,48 +85,25 @@ pub(crate) struct Turn<'t, 'a, R, V: PageService<R>, J, B> {
     pub owed: Vec<V::Owed>,
 }
 
-impl<'t, 'a, R, V, J, B> Turn<'t, 'a, R, V, J, B>
+impl<'t, 'a, R, V, J> Turn<'t, 'a, R, V, J>
 where
     R: Wait + Clock,
     V: PageService<R>,
     J: Journal<R>,
-    B: Fn(&Request<()>, Option<RawFd>) -> Result<Begun<V::Page>, NoMemory>,
 {
     /// A turn at a connection of this client, of whose requests this is to be reported.
     pub(crate) fn new(
-        serving: &'t Serving<'a, R, V, J, B>,
+        serving: &'t Serving<'a, R, V, J>,
         duty: Option<Duty<'t>>,
         client: Option<IpAddr>,
         unreported: Vec<Unreported>,
-    ) -> Turn<'t, 'a, R, V, J, B> {
+    ) -> Turn<'t, 'a, R, V, J> {
         Turn {
             serving,
             duty,
             client,
             unreported,
             owed: Vec::new(serving.service.alloc()),
-        }
-    }
-
-    /// Does what the connection stopped for, where `begins` begins the response to a request. Tells why it has to wait, if it
-    /// does.
-    pub(crate) fn stopped<F>(
-        &mut self,
-        stop: Stop,
-        connection: &Connection<F>,
-        begins: &B,
-    ) -> Option<Halt<V::Page>>
-    where
-        F: Future<Output = hyper::Result<()>>,
-        requires { B.IsAlwaysCallable begins.now }
-    {
-        match stop {
-            Stop::Request(incoming) => self.begun(incoming, connection, begins),
-            Stop::Written => {
-                self.report();
-                None
-            }
-            Stop::Paused(pause) => Some(Halt { page: None, pause }),
         }
     }
 
@@ -112,119 +114,100 @@ where
         self.serving.report_refusal(self.client, refusal);
     }
 
-    // Reports what is to be reported, now that the responses have been written or the connection has ended.
-    fn report(&mut self) {
+    /// Reports what is to be reported, now that the responses have been written or the connection has ended.
+    pub(crate) fn report(&mut self) {
         let alloc = self.serving.service.alloc();
         let unreported = mem::replace(&mut self.unreported, Vec::new(alloc));
         self.serving.report(unreported);
     }
 
-    // Begins the response to a request, and goes on with the page that is to be assembled for it, if it is none that is
-    // there at once, as `paged` does.
-    fn begun<F>(
-        &mut self,
-        incoming: IncomingRequest,
-        connection: &Connection<F>,
-        begins: &B,
-    ) -> Option<Halt<V::Page>>
-    where
-        F: Future<Output = hyper::Result<()>>,
-        requires { B.IsAlwaysCallable begins.now }
-    {
-        let serving = self.serving;
-        let begun = match serving.journal.is_enabled() {
-            true => Instant::now(serving.rt).ok(),
+    /// The request that has come, whose response is still to be begun.
+    pub(crate) fn requested(&self, incoming: IncomingRequest) -> Requested {
+        let begun = match self.serving.journal.is_enabled() {
+            true => Instant::now(self.serving.rt).ok(),
             false => None,
         };
-        let request = Requested { incoming, begun };
-        match begins(&request.incoming.head, connection.socket()) {
-            Ok(Err(page)) => return self.paged(page, request, connection),
+        Requested { incoming, begun }
+    }
+
+    /// Goes on with a request whose response was begun so. Tells why the connection has to wait, if it does.
+    pub(crate) fn begun(
+        &mut self,
+        begun: Result<Begun<V::Page>, NoMemory>,
+        request: Requested,
+        wire: Wire<'_>,
+    ) -> Option<Halt<V::Page>> {
+        match begun {
+            Ok(Err(page)) => return self.paged(page, request, wire),
             Ok(Ok(responded)) => {
                 let answered = self.answered(responded, &request);
-                connection.handover().answer(answered);
+                wire.handover.answer(answered);
             }
-            Err(NoMemory) => connection.handover().answer(Err(AllocError)),
+            Err(NoMemory) => wire.handover.answer(Err(AllocError)),
         }
         None
     }
 
     // Goes on with a page from its beginning: the thread may linger for its fetches.
-    fn paged<F>(
+    fn paged(
         &mut self,
         page: V::Page,
         request: Requested,
-        connection: &Connection<F>,
-    ) -> Option<Halt<V::Page>>
-    where
-        F: Future<Output = hyper::Result<()>>,
-    {
-        let waiting = self.gone_on(page, &request, connection)?;
+        wire: Wire<'_>,
+    ) -> Option<Halt<V::Page>> {
+        let waiting = self.gone_on(page, &request, wire)?;
         let lingers = Lingers::begun(self.serving.rt);
-        self.waited(waiting, request, lingers, connection)
+        self.waited(waiting, request, lingers, wire)
     }
 
     /// Goes on with a page that was parked. Its fetches have taken long before, so that the thread doesn't linger.
-    pub(crate) fn resumed<F>(
+    pub(crate) fn resumed(
         &mut self,
         asked: PageAsked<V::Page>,
-        connection: &Connection<F>,
-    ) -> Option<Halt<V::Page>>
-    where
-        F: Future<Output = hyper::Result<()>>,
-    {
+        wire: Wire<'_>,
+    ) -> Option<Halt<V::Page>> {
         let PageAsked { page, request } = asked;
-        let waiting = self.gone_on(page, &request, connection)?;
-        self.waited(waiting, request, None, connection)
+        let waiting = self.gone_on(page, &request, wire)?;
+        self.waited(waiting, request, None, wire)
     }
 
     // Goes on with a page that waits for its fetches, until its response was given to the connection, or it has to wait for
     // longer than the thread may linger.
-    fn waited<F>(
+    fn waited(
         &mut self,
         page: V::Page,
         request: Requested,
         mut lingers: Option<Lingers>,
-        connection: &Connection<F>,
-    ) -> Option<Halt<V::Page>>
-    where
-        F: Future<Output = hyper::Result<()>>,
-    {
+        wire: Wire<'_>,
+    ) -> Option<Halt<V::Page>> {
         let rt = self.serving.rt;
         let mut waiting = page;
         for _ in rt.forever() {
             let patience = self.patience(&mut lingers);
             if patience.is_none() {
-                if let Some(pause) = self.pause(&mut waiting, connection) {
-                    return self.left(waiting, request, pause, connection);
+                if let Some(pause) = self.pause(&mut waiting, wire) {
+                    return self.left(waiting, request, pause, wire);
                 }
             }
             self.serving.service.wait(&mut waiting, patience);
-            waiting = self.gone_on(waiting, &request, connection)?;
+            waiting = self.gone_on(waiting, &request, wire)?;
         }
         unreachable!()
     }
 
     // Goes on with a page. It comes back if it has to wait; else its response is given to the connection.
-    fn gone_on<F>(
-        &mut self,
-        page: V::Page,
-        request: &Requested,
-        connection: &Connection<F>,
-    ) -> Option<V::Page>
-    where
-        F: Future<Output = hyper::Result<()>>,
-    {
+    fn gone_on(&mut self, page: V::Page, request: &Requested, wire: Wire<'_>) -> Option<V::Page> {
         match self.serving.service.go_on(page, &request.incoming.head) {
             Ok(Err(page)) => return Some(page),
             Ok(Ok(Told { responded, owed })) => {
                 let answered = self.answered(responded, request);
-                connection.handover().answer(answered);
+                wire.handover.answer(answered);
                 if let Some(owed) = owed {
                     // Without room for them they are given up.
                     let _ = self.owed.push(owed);
                 }
             }
-            Err(NoMemory) => connection.handover().answer(Err(AllocError)),
+            Err(NoMemory) => wire.handover.answer(Err(AllocError)),
         }
         None
     }
@@ -248,37 +231,31 @@ where
     }
 
     // Why a page can't go on now; `None` where only a wait in this thread would tell when it can.
-    fn pause<F>(&self, page: &mut V::Page, connection: &Connection<F>) -> Option<Pause>
-    where
-        F: Future<Output = hyper::Result<()>>,
-    {
-        if !connection.may_pause() {
+    fn pause(&self, page: &mut V::Page, wire: Wire<'_>) -> Option<Pause> {
+        if !wire.may_pause {
             return None;
         }
         let service = self.serving.service;
-        let client = service.watch(connection.socket());
+        let client = service.watch(wire.socket);
         let awaited = service.awaited(page)?;
         Some(Pause::for_fetches(awaited.descriptor, awaited.until, client))
     }
 
     // A page that is left by its thread. Without room for it, its connection ends.
-    fn left<F>(
+    fn left(
         &self,
         page: V::Page,
         request: Requested,
         pause: Pause,
-        connection: &Connection<F>,
-    ) -> Option<Halt<V::Page>>
-    where
-        F: Future<Output = hyper::Result<()>>,
-    {
+        wire: Wire<'_>,
+    ) -> Option<Halt<V::Page>> {
         match Box::new(self.serving.service.alloc(), PageAsked { page, request }) {
             Ok(asked) => Some(Halt {
                 page: Some(asked),
                 pause,
             }),
             Err(_) => {
-                connection.handover().answer(Err(AllocError));
+                wire.handover.answer(Err(AllocError));
                 None
             }
         }
