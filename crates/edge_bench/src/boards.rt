@@ -1,8 +1,8 @@
 //! Boards: with many slots, each costs no more than with few.
 
+use crate::inputs::{fragment_url, or_io_error};
+use crate::timing::{Least, print};
 use answer_board::{Board, Receipt};
-use bench_tools::inputs::{fragment_url, or_io_error};
-use bench_tools::timing::{Least, print};
 use edge_types::Answer;
 use plan_compiler::Prepared;
 use std::alloc::Global;

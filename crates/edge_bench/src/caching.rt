@@ -1,8 +1,8 @@
 //! The cache: the calls of a shard compared with `lru` alone, and flights with fewer flights.
 
-use bench_tools::inputs;
-use bench_tools::inputs::{fragment_url, or_io_error};
-use bench_tools::timing::{Least, print, print_count};
+use crate::inputs;
+use crate::inputs::{fragment_url, or_io_error};
+use crate::timing::{Least, print, print_count};
 use edge_types::{Answer, Control, PageUrl, SharedAnswer, SharedBytes};
 use fragment_cache::{Begun, MAX_CAPACITY, MAX_FLIGHTS, Picked, Shard};
 use lru::LruCache;

@@ -1,7 +1,7 @@
 //! `Surrogate-Control`: long values of one repeated unit cost no more per byte than short ones.
 
-use bench_tools::inputs::repeated;
-use bench_tools::timing::{Least, print, print_count};
+use crate::inputs::repeated;
+use crate::timing::{Least, print, print_count};
 use std::io;
 use std::time::{Duration, Instant};
 use surrogate_headers::control;

@@ -1,8 +1,8 @@
 //! Speed of look-ups of a name in a long field, beside a search for the name in the same bytes; and of twenty in a page,
 //! which remembers what it found.
 
-use bench_tools::inputs::{or_io_error, repeated};
-use bench_tools::timing::{Least, print, print_count};
+use crate::inputs::{or_io_error, repeated};
+use crate::timing::{Least, print, print_count};
 use edge_types::{NoMemory, Octets, Request, SharedBytes};
 use esi_vars::{Lookups, Reference, Variable, value, value_by};
 use memchr::memmem;

@@ -1,8 +1,8 @@
 //! Plans, compared with only reading the template of the same text.
 
+use crate::inputs::{answer, or_input_error, or_io_error, page_of_includes, url};
 use crate::templates::read;
-use bench_tools::inputs::{answer, or_input_error, or_io_error, page_of_includes, url};
-use bench_tools::timing::{Least, print, print_count};
+use crate::timing::{Least, print, print_count};
 use edge_types::{Answer, Control, SharedBytes};
 use esi_tree::template;
 use plan_compiler::{Prepared, compile};

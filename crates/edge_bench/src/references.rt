@@ -1,7 +1,7 @@
 //! Speed of references: `parts` and `substitute` compared with a plain copy of the same bytes.
 
-use bench_tools::inputs::{or_input_error, or_io_error, repeated};
-use bench_tools::timing::{Least, print};
+use crate::inputs::{or_input_error, or_io_error, repeated};
+use crate::timing::{Least, print};
 use edge_types::{NoMemory, Request, SharedBytes};
 use esi_vars::{Part, parts, substitute};
 use std::alloc::{AllocError, Global};

@@ -1,7 +1,7 @@
 //! How fast texts are cut into tokens: in megabytes a second, and against a text four times as long.
 
-use bench_tools::inputs::{page_of_includes, repeated, repeated_behind};
-use bench_tools::timing::{Least, print, print_count};
+use crate::inputs::{page_of_includes, repeated, repeated_behind};
+use crate::timing::{Least, print, print_count};
 use esi_scanner::scan;
 use memchr::memchr;
 use std::alloc::{AllocError, Global};

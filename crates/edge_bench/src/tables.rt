@@ -1,7 +1,7 @@
 //! Tables of answers: ten times as many answers should cost little more than ten times as much.
 
-use bench_tools::inputs::{fragment_url, or_io_error};
-use bench_tools::timing::{Least, print, print_count};
+use crate::inputs::{fragment_url, or_io_error};
+use crate::timing::{Least, print, print_count};
 use edge_types::{Answer, PageUrl, Table};
 use std::alloc::Global;
 use std::io;

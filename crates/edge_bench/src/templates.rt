@@ -1,7 +1,7 @@
 //! Templates, compared with only scanning the same text.
 
-use bench_tools::inputs::{CHOOSE, or_input_error, or_io_error, page_of_includes};
-use bench_tools::timing::{Least, print};
+use crate::inputs::{CHOOSE, or_input_error, or_io_error, page_of_includes};
+use crate::timing::{Least, print};
 use edge_types::SharedBytes;
 use esi_scanner::scan;
 use esi_tree::template;

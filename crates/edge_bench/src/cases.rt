@@ -4,9 +4,9 @@ ghost use Rattle.std.specs.Prelude.{◌≤◌};
 ghost use Rattle.esi_meaning.specs.Meaning.{AreLevels};
 ghost use Rattle.plan_runner.specs.declared.page.TheConstants.{MAX_AHEAD};
 
+use crate::inputs::{CHOOSE, or_input_error};
 use crate::site::{Site, case_text, evaluated, includes, ran, table};
-use bench_tools::inputs::{CHOOSE, or_input_error};
-use bench_tools::timing::{Least, ratio};
+use crate::timing::{Least, ratio};
 use edge_case::{Running, run_case};
 use edge_types::Table;
 use esi_meaning::are_levels;

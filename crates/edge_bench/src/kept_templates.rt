@@ -1,11 +1,11 @@
 //! Pages of a long template that a cache keeps, compared with those over a table, where each page reads it anew.
 
+use crate::inputs::{or_io_error, repeated};
 use crate::sharing::Still;
 use crate::site::{Site, table};
+use crate::timing::{Least, ratio};
 use crate::workers::assembled;
 use answer_sources::{Source, TableSource};
-use bench_tools::inputs::{or_io_error, repeated};
-use bench_tools::timing::{Least, ratio};
 use shared_cache::Cache;
 use std::alloc::{AllocError, Global};
 use std::io;

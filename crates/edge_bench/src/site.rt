@@ -3,7 +3,7 @@ ghost use Rattle.std.specs.Prelude.{◌≤◌};
 ghost use Rattle.esi_meaning.specs.Meaning.{AreLevels};
 ghost use Rattle.plan_runner.specs.declared.page.TheConstants.{MAX_AHEAD};
 
-use bench_tools::inputs::{answer, or_input_error, or_io_error, url};
+use crate::inputs::{answer, or_input_error, or_io_error, url};
 use edge_types::{Control, PageUrl, Request, SharedBytes, Table};
 use esi_meaning::plain_page;
 use plan_runner::{Event, Running, run_to_end};

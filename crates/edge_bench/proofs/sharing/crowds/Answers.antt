@@ -1,6 +1,6 @@
 use Rattle.answer_sources.proofs.table_source.TableSource.TheSendSync as TableSource
 use Rattle.shared_cache.proofs.Crossings.{caches_cross}
-use Rattle.page_bench.proofs.sharing.crowds.Goals as goal
+use Rattle.edge_bench.proofs.sharing.crowds.Goals as goal
 
 pub crowds_told-requires-sync-S : goal.crowds_told-requires-sync-S
 crowds_told-requires-sync-S g c κs within = search (TableSource.the_sync, caches_cross) depth 60 fits 20000

@@ -1,7 +1,7 @@
 //! What a page holds in memory, compared with its bodies alone: the program's memory is watched from outside.
 
+use crate::inputs::or_io_error;
 use crate::site::{Site, includes, page_url, table};
-use bench_tools::inputs::or_io_error;
 use edge_types::{PageUrl, Request, Table};
 use plan_runner::{Event, MAX_AHEAD, Page, Running, run_events};
 use std::alloc::Global;

@@ -1,6 +1,6 @@
 use Rattle.answer_sources.proofs.table_source.TableSource.TheSendSync as TableSource
 use Rattle.shared_cache.proofs.Crossings.{caches_cross}
-use Rattle.page_bench.proofs.kept_templates.run.Goals as goal
+use Rattle.edge_bench.proofs.kept_templates.run.Goals as goal
 
 pub told-requires-sync-S : goal.told-requires-sync-S
 told-requires-sync-S g c κs within = search (TableSource.the_sync, caches_cross) depth 60 fits 20000

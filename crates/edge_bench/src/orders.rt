@@ -1,7 +1,7 @@
 //! Orders of posting: the cost of a page that advances after each post, compared with one that advances once.
 
 use crate::site::{Site, includes, ran, table};
-use bench_tools::timing::{Least, ratio};
+use crate::timing::{Least, ratio};
 use edge_types::Table;
 use plan_runner::{Event, MAX_AHEAD};
 use std::alloc::{AllocError, Global};

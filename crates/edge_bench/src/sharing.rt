@@ -1,9 +1,9 @@
 //! A cache that threads share: hits by several threads compared with those by one, and one fetch for all who
 //! ask at the same time.
 
+use crate::inputs::{answer, or_input_error, or_io_error, url};
+use crate::timing::{Least, nanoseconds_each, ratio};
 use answer_sources::{Answers, Clock as Seconds, Given, OneByOne, Source, TableSource};
-use bench_tools::inputs::{answer, or_input_error, or_io_error, url};
-use bench_tools::timing::{Least, nanoseconds_each, ratio};
 use edge_types::{Control, NoMemory, PageUrl, SharedBytes, Table};
 use shared_cache::Cache;
 use std::alloc::Global;

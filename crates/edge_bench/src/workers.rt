@@ -1,10 +1,10 @@
 //! Pages that several threads assemble: compared with the time that their fetches need, and with the page
 //! core alone if nothing has to be waited for.
 
+use crate::inputs::or_input_error;
 use crate::site::{Site, includes, page_url, ran, table};
+use crate::timing::{Least, ratio};
 use answer_sources::{Answers, Given, Source, TableSource};
-use bench_tools::inputs::or_input_error;
-use bench_tools::timing::{Least, ratio};
 use edge_types::{Answer, NoMemory, PageUrl, Request, Table};
 use fetch_workers::{MAX_WORKERS, assemble};
 use plan_runner::MAX_AHEAD;
